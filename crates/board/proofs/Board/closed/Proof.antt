@@ -1,0 +1,17 @@
+use Rattle.board.specs.Record.{closedBoard}
+use borrow.Author.Needs.{needs}
+use Rattle.board.proofs.Board.closed.Statement.{statement}
+use Rattle.board.proofs.Board.closed.Tie as tie
+
+empty-requires : tie.Need-empty-requires
+empty-requires c κs = search needs
+
+blank-requires : tie.Need-blank-requires
+blank-requires c κs = search needs
+
+returns : tie.Need-returns
+unfolding closedBoard
+returns c = cc
+
+pub closed-spec : {M : Type 1} → statement M
+closed-spec = tie.close (tie.spec empty-requires blank-requires returns)

@@ -1,0 +1,40 @@
+-- The fixed values of the record: the blank of the journal, the empty network and the closed board.
+use Prim.Native.Nat.{ℕ}
+use lib.ListN.{replicate}
+use Rattle.board.specs.Limits.{maxEdges, maxTerminals, maxMoves}
+use Rattle.board.specs.declared.Board.{Board}
+use Rattle.board.specs.declared.Network.{Network}
+use Rattle.board.specs.declared.Entry.{Entry}
+use Rattle.board.specs.declared.Move.the-variants.{Carry}
+
+-- what the places of the journal past the standing moves hold
+abbrev pub blank : Entry
+blank = record { step = Carry (record { terminal = 0; edge = 0 }) }
+
+-- no pools, no channels, no mills
+abbrev pub emptyNetwork : Network
+emptyNetwork = record {
+  vertices = 0;
+  edges = 0;
+  terminals = 0;
+  source = 0;
+  tails = replicate maxEdges 0;
+  heads = replicate maxEdges 0;
+  flows = replicate maxEdges 0;
+  homes = replicate maxTerminals 0;
+  demands = replicate maxTerminals 0;
+}
+
+-- the closed board, which a refused load gives
+unfoldable pub closedBoard : Board
+closedBoard = record {
+  stage = 0;
+  network = emptyNetwork;
+  acyclic = replicate maxEdges 0;
+  flows = replicate maxEdges 0;
+  marks = 0;
+  places = replicate maxTerminals 0;
+  journal = replicate maxMoves blank;
+  moves = 0;
+  «finish_from» = 0;
+}

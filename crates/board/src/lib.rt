@@ -1,0 +1,167 @@
+// The board record, its limits, and the board text read and written.
+ghost use mathlib.Core.Path.{_≡_};
+ghost use Rattle.board.specs.Record.{blank, emptyNetwork, closedBoard};
+
+mod reader;
+mod rules;
+
+pub use reader::read;
+
+// A set of edges: edge e is in it where bit e is set.
+pub type EdgeSet = u64;
+
+// An accepted carry: the terminal was relocated over the edge, to its tail.
+pub struct Relocation {
+    pub terminal: u32,
+    pub edge: u32,
+}
+
+// An accepted turn: along a cycle the flow fell by the amount on `down` and rose on `up`; `marked` are the edges it newly marked.
+pub struct Augmentation {
+    pub amount: u32,
+    pub down: EdgeSet,
+    pub up: EdgeSet,
+    pub marked: EdgeSet,
+}
+
+pub enum Move {
+    Carry(Relocation),
+    Turn(Augmentation),
+}
+
+// A place of the journal.
+pub struct Entry {
+    pub step: Move,
+}
+
+// What a board text says. Places past the counts hold 0.
+pub struct Network {
+    pub vertices: u32,
+    pub edges: u32,
+    pub terminals: u32,
+    pub source: u32,
+    pub tails: [u32; Board::MAX_EDGES],
+    pub heads: [u32; Board::MAX_EDGES],
+    pub flows: [u32; Board::MAX_EDGES],
+    pub homes: [u32; Board::MAX_TERMINALS],
+    pub demands: [u32; Board::MAX_TERMINALS],
+}
+
+// A board in play: the network, the flow without its cycles, the flow now, the marked edges, where each terminal is, and the
+// standing moves.
+pub struct Board {
+    pub stage: u32,
+    pub network: Network,
+    pub acyclic: [u32; Board::MAX_EDGES],
+    pub flows: [u32; Board::MAX_EDGES],
+    pub marks: EdgeSet,
+    pub places: [u32; Board::MAX_TERMINALS],
+    pub journal: [Entry; Board::JOURNAL],
+    pub moves: u32,
+    // How many moves stood when a finish was accepted; 0 before.
+    pub finish_from: u32,
+}
+
+impl Board {
+    pub const MAX_VERTICES: u32 = 32;
+
+    pub const MAX_EDGES: usize = 64;
+
+    pub const MAX_TERMINALS: usize = 16;
+
+    pub const MAX_FLOW: u32 = 1000000;
+
+    pub const JOURNAL: usize = 1056;
+
+    // The stages.
+    pub const CLOSED: u32 = 0;
+
+    pub const PLAY: u32 = 1;
+
+    pub const FINISHED: u32 = 2;
+
+    // The closed board: no vertices, and no call but load takes it.
+    pub fn closed() -> Board
+        ensures { λ r. ⌜ r ≡ closedBoard ⌝ }
+    {
+        let network = Network::empty();
+        let journal = [Entry::blank(); Board::JOURNAL];
+        Board {
+            stage: Board::CLOSED,
+            network: network,
+            acyclic: [0; Board::MAX_EDGES],
+            flows: [0; Board::MAX_EDGES],
+            marks: 0,
+            places: [0; Board::MAX_TERMINALS],
+            journal: journal,
+            moves: 0,
+            finish_from: 0,
+        }
+    }
+}
+
+impl Network {
+    // No vertices, edges or terminals.
+    pub fn empty() -> Network
+        ensures { λ r. ⌜ r ≡ emptyNetwork ⌝ }
+    {
+        Network {
+            vertices: 0,
+            edges: 0,
+            terminals: 0,
+            source: 0,
+            tails: [0; Board::MAX_EDGES],
+            heads: [0; Board::MAX_EDGES],
+            flows: [0; Board::MAX_EDGES],
+            homes: [0; Board::MAX_TERMINALS],
+            demands: [0; Board::MAX_TERMINALS],
+        }
+    }
+}
+
+impl Entry {
+    // What a place past the standing moves holds: terminal 0 over edge 0.
+    pub fn blank() -> Entry
+        ensures { λ r. ⌜ r ≡ blank ⌝ }
+    {
+        Entry {
+            step: Move::Carry(Relocation {
+                terminal: 0,
+                edge: 0,
+            }),
+        }
+    }
+}
+
+// What reading a text gives: 0 and its network, or the number it is refused with and the empty network.
+pub struct Reading {
+    pub answer: u32,
+    pub network: Network,
+}
+
+// The numbers that a field may hold: low to high, both included.
+pub struct Range {
+    pub low: u32,
+    pub high: u32,
+}
+
+// A number field that was read: 0, its value and how many bytes it took; or the number it is refused with.
+pub struct Field {
+    pub answer: u32,
+    pub value: u32,
+    pub used: usize,
+}
+
+// A line that was read, in the same way.
+pub struct Line {
+    pub answer: u32,
+    pub values: [u32; 4],
+    pub used: usize,
+}
+
+// The lines of a text up to a place, in the same way.
+pub struct Part {
+    pub answer: u32,
+    pub network: Network,
+    pub used: usize,
+}

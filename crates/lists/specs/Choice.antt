@@ -1,0 +1,12 @@
+-- Choice by a test.
+use mathlib.Core.Bool.{Bool, true, false}
+
+-- a where the test holds, else b
+unfoldable pub pick : {A : Type 0} → Bool → A → A → A
+pick true a b = a
+pick false a b = b
+
+-- both tests hold
+unfoldable pub both : Bool → Bool → Bool
+both true b = b
+both false b = false

@@ -1,0 +1,73 @@
+// Total access to slices, and the loops that more than one layer uses.
+ghost use mathlib.Core.Path.{_≡_};
+ghost use Prim.Native.Nat.{_+_, _*_, _≤_, _<_};
+ghost use lib.ListN.{getD, set, length};
+ghost use Rattle.lists.specs.Choice.{both};
+ghost use Rattle.lists.specs.Lists.{indexOf, keyed, sumAt};
+
+pub fn and(a: bool, b: bool) -> bool
+    ensures { λ r. ⌜ r ≡ both a b ⌝ }
+{
+    if a { b } else { false }
+}
+
+// The byte at i, and 0 past the end.
+pub fn byte_at(s: &[u8], i: usize) -> u8
+    ensures { λ r. ⌜ r ≡ getD (now (s .entry)) i 0 ⌝ }
+{
+    if i < s.len() { s[i] } else { 0 }
+}
+
+// The number at i, and 0 past the end.
+pub fn word_at(s: &[u32], i: usize) -> u32
+    ensures { λ r. ⌜ r ≡ getD (now (s .entry)) i 0 ⌝ }
+{
+    if i < s.len() { s[i] } else { 0 }
+}
+
+// Stores a byte at i, and nothing past the end.
+pub fn put_byte(s: &mut [u8], i: usize, b: u8)
+    ensures { λ r. ⌜ now (s .exit) ≡ set (now (s .entry)) i b ⌝ }
+{
+    if i < s.len() {
+        s[i] = b;
+    }
+}
+
+// The index of the first b, or the length where there is none.
+pub fn index_of(s: &[u8], b: u8) -> usize
+    ensures { λ r. ⌜ r ≡ indexOf b (now (s .entry)) ⌝ }
+{
+    let mut i: usize = 0;
+    while i < s.len() {
+        if s[i] == b {
+            return i;
+        }
+        i += 1;
+    }
+    i
+}
+
+fn keyed(k: u32, v: u32, x: u32) -> u64
+    ensures { λ r. ⌜ r ≡ keyed k v x ⌝ }
+    ensures { λ r. ⌜ r < 4294967296 ⌝ }
+{
+    if k == v { x as u64 } else { 0 }
+}
+
+// The sum of the values whose key is v, over lists of one length.
+pub fn sum_at<'a>(keys: &'a [u32], values: &'a [u32], v: u32) -> u64
+    requires { ⌜ length (now keys) ≤ 65536 ⌝ }
+    requires { ⌜ length (now keys) ≡ length (now values) ⌝ }
+    ensures { λ r. ⌜ r ≡ sumAt (now (keys .entry)) (now (values .entry)) v ⌝ }
+    ensures { λ r. ⌜ r ≤ 4294967296 * 65536 ⌝ }
+{
+    let mut sum: u64 = 0;
+    let mut i: usize = 0;
+    while i < keys.len() {
+        let x = keyed(keys[i], v, values[i]);
+        sum += x;
+        i += 1;
+    }
+    sum
+}
