@@ -30,7 +30,7 @@ acceptedAs net = record { answer = 0; network = net }
 -- ---- the rules
 
 -- what `judged` tests, said of each place
-record Kept (net : Network) : Type 0 where
+pub record Kept (net : Network) : Type 0 where
   pub no-loop : (i : ℕ) → i < net .edges → getD (net .tails) i 0 ≡ getD (net .heads) i 0 → ⊥
   pub away : (j : ℕ) → j < net .terminals → getD (net .homes) j 0 ≡ net .source → ⊥
   pub balance : (v : ℕ) → v < net .vertices → (v ≡ net .source → ⊥) → inflow net v ≡ outflow net v + demandAt net v
@@ -40,7 +40,7 @@ unfolding pick
 pick-zero true a n h e = (refl, e)
 pick-zero false a n h e = absurd (omega arith)
 
-kept : (net : Network) → judged net ≡ 0 → Kept net
+pub kept : (net : Network) → judged net ≡ 0 → Kept net
 unfolding judged
 kept net h =
     let p = pick-zero _ _ 3 (omega arith) h in
@@ -52,7 +52,7 @@ kept net h =
       balance = λ v less other. eqb-true _ _ (sym (pick-no _ _ _ (ne-eqb _ _ other)) ∙ all-from (balanced net) _ v (r .0) less);
     }
 
-judged-zero : (net : Network) → Lawful net → judged net ≡ 0
+pub judged-zero : (net : Network) → Lawful net → judged net ≡ 0
 unfolding judged
 judged-zero net law =
     pick-yes _ _ _ (all-zero _ _ λ i h. differ _ _ (law .no-loop i h))

@@ -5,3 +5,5 @@ pub mod Columns
 pub mod Accepted
 pub mod Whole
 pub mod Cases
+pub mod Writing
+pub mod Loaded

@@ -9,6 +9,8 @@ use Rattle.lists.specs.Choice.{pick, both}
 use Rattle.lists.specs.Lists.{all, sumAt}
 use Rattle.board.specs.Limits.{maxVertices, maxEdges, maxTerminals, maxFlow}
 use Rattle.board.specs.declared.Network.{Network}
+use Rattle.board.specs.declared.Rule.{Rule}
+use Rattle.board.specs.declared.Rule.the-variants.{EdgeFits, TerminalFits, NoLoop, Away, Balanced}
 
 -- the flow that enters v, the flow that leaves v, and what the terminals there need; places past the counts hold 0
 abbrev pub inflow : Network → ℕ → ℕ
@@ -33,6 +35,30 @@ unfoldable pub balanced : Network → ℕ → Bool
 unfolding sumAt
 balanced net v = pick (eqb v (net .source)) true (eqb (inflow net v) (outflow net v + demandAt net v))
 
+-- 2: the numbers of an edge are in their ranges; a place past the edges holds 0
+abbrev pub edgeFits : Network → ℕ → Bool
+edgeFits net i =
+    pick (ltb i (net .edges))
+    (both (ltb (getD (net .tails) i 0) (net .vertices))
+    (both (ltb (getD (net .heads) i 0) (net .vertices)) (leb (getD (net .flows) i 0) maxFlow)))
+    (both (eqb (getD (net .tails) i 0) 0) (both (eqb (getD (net .heads) i 0) 0) (eqb (getD (net .flows) i 0) 0)))
+
+-- 2: the numbers of a terminal are in their ranges; a place past the terminals holds 0
+abbrev pub terminalFits : Network → ℕ → Bool
+terminalFits net j =
+    pick (ltb j (net .terminals))
+    (both (ltb (getD (net .homes) j 0) (net .vertices))
+    (both (leb 1 (getD (net .demands) j 0)) (leb (getD (net .demands) j 0) maxFlow)))
+    (both (eqb (getD (net .homes) j 0) 0) (eqb (getD (net .demands) j 0) 0))
+
+-- each rule, at one place
+abbrev pub keeps : Rule → Network → ℕ → Bool
+keeps EdgeFits net i = edgeFits net i
+keeps TerminalFits net j = terminalFits net j
+keeps NoLoop net i = noLoop net i
+keeps Away net j = awayFromSource net j
+keeps Balanced net v = balanced net v
+
 -- 3, 4 or 5, in this order, each over the whole network; 0 where it keeps the rules
 unfoldable pub judged : Network → ℕ
 unfolding all balanced
@@ -42,6 +68,19 @@ judged net =
     (pick (all (balanced net) 0 (net .vertices)) 0 5)
     4)
     3
+
+-- 2: the counts and the source are in their ranges
+abbrev pub countsFit : Network → Bool
+countsFit net =
+    both (both (leb 2 (net .vertices)) (leb (net .vertices) maxVertices))
+    (both (both (leb 1 (net .edges)) (leb (net .edges) maxEdges))
+    (both (both (leb 1 (net .terminals)) (leb (net .terminals) maxTerminals)) (ltb (net .source) (net .vertices))))
+
+-- a network such as an accepted text gives
+unfoldable pub lawful : Network → Bool
+lawful net =
+    both (countsFit net)
+    (both (all (edgeFits net) 0 maxEdges) (both (all (terminalFits net) 0 maxTerminals) (eqb (judged net) 0)))
 
 -- what an accepted text says: numbers in their ranges, 0 in the places past the counts, and the three rules
 pub record Lawful (net : Network) : Type 0 where

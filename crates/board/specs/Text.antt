@@ -165,17 +165,14 @@ layout s =
 
 -- numbers in decimal, parted by commas and ended by a line feed
 unfoldable pub numbersText : List ℕ → List ℕ
-unfolding decimal
 numbersText [] = []
 numbersText (n ∷ ns) = decimal n ++ (endOf ns ∷ numbersText ns)
 
 unfoldable pub lineText : ℕ → List ℕ → List ℕ
-unfolding numbersText
 lineText x ns = x ∷ 44 ∷ numbersText ns
 
 -- the lines of rows i, i + 1, .., i + k - 1
 unfoldable pub linesText : ℕ → (ℕ → List ℕ) → ℕ → ℕ → List ℕ
-unfolding lineText
 linesText x row i zero = []
 linesText x row i (suc k) = lineText x (row i) ++ linesText x row (suc i) k
 
@@ -190,7 +187,6 @@ terminalRow net j = getD (net .homes) j 0 ∷ getD (net .demands) j 0 ∷ []
 
 -- the text of a network
 unfoldable pub textOf : Network → List ℕ
-unfolding lineText linesText
 textOf net =
     lineText 66 (headRow net)
     ++ (linesText 67 (edgeRow net) 0 (net .edges) ++ linesText 87 (terminalRow net) 0 (net .terminals))

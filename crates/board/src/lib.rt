@@ -4,8 +4,10 @@ ghost use Rattle.board.specs.Record.{blank, emptyNetwork, closedBoard};
 
 mod reader;
 mod rules;
+mod writer;
 
 pub use reader::read;
+pub use writer::write;
 
 // A set of edges: edge e is in it where bit e is set.
 pub type EdgeSet = u64;
@@ -163,5 +165,20 @@ pub struct Line {
 pub struct Part {
     pub answer: u32,
     pub network: Network,
+    pub used: usize,
+}
+
+// The rules that a network keeps, each at every edge, terminal or vertex.
+pub enum Rule {
+    EdgeFits,
+    TerminalFits,
+    NoLoop,
+    Away,
+    Balanced,
+}
+
+// What writing gives: 0 and the length of the text, or the number it is refused with and 0.
+pub struct Written {
+    pub answer: u32,
     pub used: usize,
 }

@@ -77,7 +77,7 @@ fn field(s: &[u8], range: Range, end: u8) -> Field
 }
 
 // What ends a field with `left` fields behind it on its line.
-fn end_of(left: usize) -> u8
+pub fn end_of(left: usize) -> u8
     ensures { λ r. ⌜ r ≡ pick (ltb 0 left) 44 10 ⌝ }
 {
     if 0 < left { b',' } else { b'\n' }

@@ -1,50 +1,57 @@
-// The rules of a network: refusals 3, 4 and 5.
+// The rules of a network, and which of them it breaks first.
+use crate::Board;
 use crate::Network;
+use crate::Rule;
 ghost use mathlib.Core.Path.{_≡_};
+ghost use lib.Dec.{leb};
+ghost use Rattle.lists.specs.Choice.{both};
 ghost use Rattle.lists.specs.Lists.{all};
-ghost use Rattle.board.specs.Rules.{noLoop, awayFromSource, balanced, judged};
+ghost use Rattle.board.specs.Rules.{edgeFits, terminalFits, noLoop, awayFromSource, balanced, keeps, judged, countsFit, lawful};
 
-fn no_loop(net: Network, i: usize) -> bool
+fn edge_fits(net: Network, i: u32) -> bool
+    ensures { λ r. ⌜ r ≡ edgeFits net i ⌝ }
+{
+    let tail = lists::word_at(&net.tails, i as usize);
+    let head = lists::word_at(&net.heads, i as usize);
+    let flow = lists::word_at(&net.flows, i as usize);
+    if i < net.edges {
+        lists::and(
+            tail < net.vertices,
+            lists::and(head < net.vertices, flow <= Board::MAX_FLOW),
+        )
+    } else {
+        lists::and(tail == 0, lists::and(head == 0, flow == 0))
+    }
+}
+
+fn terminal_fits(net: Network, j: u32) -> bool
+    ensures { λ r. ⌜ r ≡ terminalFits net j ⌝ }
+{
+    let home = lists::word_at(&net.homes, j as usize);
+    let demand = lists::word_at(&net.demands, j as usize);
+    if j < net.terminals {
+        lists::and(
+            home < net.vertices,
+            lists::and(1 <= demand, demand <= Board::MAX_FLOW),
+        )
+    } else {
+        lists::and(home == 0, demand == 0)
+    }
+}
+
+fn no_loop(net: Network, i: u32) -> bool
     ensures { λ r. ⌜ r ≡ noLoop net i ⌝ }
 {
-    let tail = lists::word_at(&net.tails, i);
-    let head = lists::word_at(&net.heads, i);
+    let tail = lists::word_at(&net.tails, i as usize);
+    let head = lists::word_at(&net.heads, i as usize);
     tail != head
 }
 
-fn no_loops(net: Network) -> bool
-    ensures { λ r. ⌜ r ≡ all (noLoop net) 0 (net .edges) ⌝ }
-{
-    let edges = net.edges as usize;
-    let mut i: usize = 0;
-    while i < edges {
-        if !no_loop(net, i) {
-            return false;
-        }
-        i += 1;
-    }
-    true
-}
-
-fn away(net: Network, j: usize) -> bool
+fn away(net: Network, j: u32) -> bool
     ensures { λ r. ⌜ r ≡ awayFromSource net j ⌝ }
 {
-    let home = lists::word_at(&net.homes, j);
+    let home = lists::word_at(&net.homes, j as usize);
     home != net.source
-}
-
-fn all_away(net: Network) -> bool
-    ensures { λ r. ⌜ r ≡ all (awayFromSource net) 0 (net .terminals) ⌝ }
-{
-    let terminals = net.terminals as usize;
-    let mut j: usize = 0;
-    while j < terminals {
-        if !away(net, j) {
-            return false;
-        }
-        j += 1;
-    }
-    true
 }
 
 fn balanced(net: Network, v: u32) -> bool
@@ -60,16 +67,28 @@ fn balanced(net: Network, v: u32) -> bool
     inflow == outflow + demand
 }
 
-fn all_balanced(net: Network) -> bool
-    ensures { λ r. ⌜ r ≡ all (balanced net) 0 (net .vertices) ⌝ }
+fn keeps(rule: Rule, net: Network, i: u32) -> bool
+    ensures { λ r. ⌜ r ≡ keeps rule net i ⌝ }
 {
-    let vertices = net.vertices;
-    let mut v: u32 = 0;
-    while v < vertices {
-        if !balanced(net, v) {
+    match rule {
+        Rule::EdgeFits => edge_fits(net, i),
+        Rule::TerminalFits => terminal_fits(net, i),
+        Rule::NoLoop => no_loop(net, i),
+        Rule::Away => away(net, i),
+        Rule::Balanced => balanced(net, i),
+    }
+}
+
+// Whether the first n places keep a rule.
+fn all_keep(rule: Rule, net: Network, n: u32) -> bool
+    ensures { λ r. ⌜ r ≡ all (keeps rule net) 0 n ⌝ }
+{
+    let mut i: u32 = 0;
+    while i < n {
+        if !keeps(rule, net, i) {
             return false;
         }
-        v += 1;
+        i += 1;
     }
     true
 }
@@ -78,14 +97,44 @@ fn all_balanced(net: Network) -> bool
 pub fn judged(net: Network) -> u32
     ensures { λ r. ⌜ r ≡ judged net ⌝ }
 {
-    if !no_loops(net) {
+    if !all_keep(Rule::NoLoop, net, net.edges) {
         return 3;
     }
-    if !all_away(net) {
+    if !all_keep(Rule::Away, net, net.terminals) {
         return 4;
     }
-    if !all_balanced(net) {
+    if !all_keep(Rule::Balanced, net, net.vertices) {
         return 5;
     }
     0
+}
+
+fn between(low: u32, n: u32, high: u32) -> bool
+    ensures { λ r. ⌜ r ≡ both (leb low n) (leb n high) ⌝ }
+{
+    lists::and(low <= n, n <= high)
+}
+
+fn counts_fit(net: Network) -> bool
+    ensures { λ r. ⌜ r ≡ countsFit net ⌝ }
+{
+    let vertices = between(2, net.vertices, Board::MAX_VERTICES);
+    let edges = between(1, net.edges, Board::MAX_EDGES as u32);
+    let terminals = between(1, net.terminals, Board::MAX_TERMINALS as u32);
+    let source = net.source < net.vertices;
+    lists::and(vertices, lists::and(edges, lists::and(terminals, source)))
+}
+
+// Whether a network is one that an accepted text gives.
+pub fn lawful(net: Network) -> bool
+    ensures { λ r. ⌜ r ≡ lawful net ⌝ }
+{
+    let counts = counts_fit(net);
+    let edges = all_keep(Rule::EdgeFits, net, Board::MAX_EDGES as u32);
+    let terminals = all_keep(Rule::TerminalFits, net, Board::MAX_TERMINALS as u32);
+    let answer = judged(net);
+    lists::and(
+        counts,
+        lists::and(edges, lists::and(terminals, answer == 0)),
+    )
 }

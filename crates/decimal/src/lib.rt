@@ -69,6 +69,7 @@ pub fn write_number(buf: &mut [u8], at: usize, n: u32) -> usize
     requires { ⌜ at ≤ 4294967296 ⌝ }
     ensures { λ r. ⌜ r ≡ at + length (decimal n) ⌝ }
     ensures { λ r. ⌜ now (buf .exit) ≡ sets (now (buf .entry)) at (decimal n) ⌝ }
+    ensures { λ r. ⌜ r ≤ at + 10 ⌝ }
 {
     let count = digit_count(n);
     let mut left = count;

@@ -57,7 +57,13 @@ same-length : tie.Need-same-length Inv-loop μ-loop
 same-length c = ap length (write-end _ _ _ _ _ (c .before .loop .inv .1) (c .loop-test .left)) ∙ simp length-sets
 
 returns : tie.Need-returns Inv-loop μ-loop
-returns c = (ap (λ (k : ℕ). c .before .before .before .before .args .at + k) (c .before .before .digit-count .ensures), write-end _ _ _ _ _ (c .before .loop .inv .1) (c .loop-test .left))
+returns c = (
+  ap (λ (k : ℕ). c .before .before .before .before .args .at + k) (c .before .before .digit-count .ensures),
+  (
+    write-end _ _ _ _ _ (c .before .loop .inv .1) (c .loop-test .left),
+    omega (arith, decimal-length 9 (c .before .before .before .before .args .n) (omega arith), c .before .before .digit-count .ensures),
+  ),
+)
 
 pub write-number-spec : {M : Type 1} → statement M
 write-number-spec =
