@@ -1,9 +1,1 @@
-pub mod Turns
-pub mod Loops
-pub mod Fields
-pub mod Columns
-pub mod Accepted
-pub mod Whole
-pub mod Cases
-pub mod Writing
-pub mod Loaded
+pub mod Meaning

@@ -1,0 +1,83 @@
+// Reads texts from standard input, each with its length in two bytes before it, the high byte first. For each it prints what
+// reading the text answers, and after a 0 the text written back from what was read.
+use board::Network;
+use libc::STDIN_FILENO;
+use libc::STDOUT_FILENO;
+
+// The number that two bytes make.
+fn two_bytes(high: u8, low: u8) -> usize {
+    (high as usize) * 256 + (low as usize)
+}
+
+// A number alone on a line.
+fn print_line(n: u32) -> bool {
+    let is_printed = io::print_decimal(STDOUT_FILENO, n as u64);
+    if !is_printed {
+        return false;
+    }
+    io::write_all(STDOUT_FILENO, b"\n")
+}
+
+// The text of the network, or on a line the number that writing it is refused with.
+fn print_text(network: Network) -> bool {
+    let mut b = board::Board::closed();
+    b.stage = board::Board::PLAY;
+    b.network = network;
+    let mut space = [0u8; 1500];
+    let written = text::write(b, &mut space);
+    if written.answer != 0 {
+        return print_line(written.answer);
+    }
+    let used = written.used;
+    if used <= space.len() {
+        io::write_all(STDOUT_FILENO, &space[..used])
+    } else {
+        false
+    }
+}
+
+// What reading the text answers, and after a 0 the text of what was read.
+fn answer(text: &[u8]) -> bool {
+    let reading = text::read(text);
+    let is_printed = print_line(reading.answer);
+    if !is_printed {
+        return false;
+    }
+    if reading.answer != 0 {
+        return true;
+    }
+    let network = reading.network;
+    print_text(network)
+}
+
+// One text: answers whether there was one, and it was read and answered whole.
+fn next_text(space: &mut [u8]) -> bool {
+    let mut before = [0u8; 2];
+    let got = io::read_full(STDIN_FILENO, &mut before);
+    if got < 2 {
+        return false;
+    }
+    let n = two_bytes(before[0], before[1]);
+    if space.len() < n {
+        return false;
+    }
+    let came = io::read_full(STDIN_FILENO, &mut space[..n]);
+    if came < n {
+        return false;
+    }
+    answer(&space[..n])
+}
+
+// A proved loop has to end, and nothing says that the input does. So the loop counts its turns down, from a number that no run
+// uses up.
+fn all_texts(space: &mut [u8]) {
+    let mut turns = u64::MAX;
+    while turns > 0 && next_text(space) {
+        turns -= 1;
+    }
+}
+
+fn main() {
+    let mut space = io::large_buffer();
+    all_texts(&mut space);
+}

@@ -1,0 +1,12 @@
+use borrow.Author.Needs.{needs}
+use Rattle.text.proofs.Reading.refused.Statement.{statement}
+use Rattle.text.proofs.Reading.refused.Tie as tie
+
+empty-requires : tie.Need-empty-requires
+empty-requires c κs = search needs
+
+returns : tie.Need-returns
+returns c = rw (c .empty .ensures)
+
+pub refused-spec : {M : Type 1} → statement M
+refused-spec = tie.close (tie.spec empty-requires returns)

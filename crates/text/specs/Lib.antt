@@ -1,0 +1,3 @@
+pub mod Text
+pub mod Views
+pub mod Results

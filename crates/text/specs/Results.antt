@@ -1,0 +1,50 @@
+-- What the calls answer.
+use mathlib.Core.Bool.{Bool, true, false}
+use mathlib.Core.List.{List, _++_}
+use Prim.Native.Nat.{ℕ}
+use lib.Dec.{leb, eqb}
+use lib.ListN.{length, drop}
+use Rattle.lists.specs.Choice.{pick, both}
+use Rattle.board.specs.Record.{emptyNetwork}
+use Rattle.text.specs.Text.{Read, refused, got, layout, textOf}
+use Rattle.board.specs.Rules.{judged, lawful}
+use Rattle.board.specs.declared.Network.{Network}
+use Rattle.text.specs.declared.Reading.{Reading}
+use Rattle.board.specs.declared.Board.{Board}
+use Rattle.text.specs.declared.Written.{Written}
+
+-- a refusal, with no network
+abbrev pub refusal : ℕ → Reading
+refusal n = record { answer = n; network = emptyNetwork }
+
+-- 0 with the network, or the refusal
+unfoldable pub judgement : ℕ → Network → Reading
+judgement n net = pick (eqb n 0) (record { answer = 0; network = net }) (refusal n)
+
+unfoldable pub outcome : Read Network → Reading
+unfolding judged judgement
+outcome (refused n) = refusal n
+outcome (got net s) = judgement (judged net) net
+
+-- reading a board text: 1 or 2 by the layout, then 3, 4, 5
+unfoldable pub readText : List ℕ → Reading
+unfolding layout outcome
+readText s = outcome (layout s)
+
+-- a board that a load gave: in play or finished, over a lawful network
+unfoldable pub loaded : ℕ → Network → Bool
+loaded stage net = both (both (leb 1 stage) (leb stage 2)) (lawful net)
+
+-- writing into a buffer of n bytes: 29 where no board was loaded, then 8, else 0 and the length of the text
+unfoldable pub writeText : Board → ℕ → Written
+writeText b n =
+    pick (loaded (b .stage) (b .network))
+    (pick (leb (length (textOf (b .network))) n)
+    (record { answer = 0; used = length (textOf (b .network)) })
+    (record { answer = 8; used = 0 }))
+    (record { answer = 29; used = 0 })
+
+-- the buffer then: the text with the bytes past it kept, or as it was
+unfoldable pub written : Board → List ℕ → List ℕ
+written b buf =
+    pick (eqb (writeText b (length buf) .answer) 0) (textOf (b .network) ++ drop (length (textOf (b .network))) buf) buf

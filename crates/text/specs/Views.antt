@@ -1,0 +1,31 @@
+-- What the reader's structs stand for: a value with the text behind it, or a refusal.
+use mathlib.Core.Bool.{Bool}
+use mathlib.Core.List.{List}
+use Prim.Native.Nat.{ℕ}
+use lib.Dec.{eqb}
+use lib.ListN.{take, drop}
+use Rattle.lists.specs.Choice.{pick}
+use Rattle.text.specs.Text.{Read, refused, got, then, header, headed}
+use Rattle.board.specs.declared.Network.{Network}
+use Rattle.text.specs.declared.Field.{Field}
+use Rattle.text.specs.declared.Line.{Line}
+use Rattle.text.specs.declared.Part.{Part}
+
+-- answer 0 stands for the value and the text behind the bytes used
+unfoldable pub answered : {A : Type 0} → ℕ → A → ℕ → List ℕ → Read A
+answered n a used s = pick (eqb n 0) (got a (drop used s)) (refused n)
+
+abbrev pub fieldRead : Field → List ℕ → Read ℕ
+fieldRead f s = answered (f .answer) (f .value) (f .used) s
+
+-- a line's first k values
+abbrev pub lineRead : ℕ → Line → List ℕ → Read (List ℕ)
+lineRead k l s = answered (l .answer) (take k (l .values)) (l .used) s
+
+abbrev pub partRead : Part → List ℕ → Read Network
+partRead p s = answered (p .answer) (p .network) (p .used) s
+
+-- the first line, as the network that it opens
+unfoldable pub headerPart : List ℕ → Read Network
+unfolding header then
+headerPart s = then (header s) (λ ns s1. got (headed ns) s1)
