@@ -1,3 +1,2 @@
 pub mod Limits
 pub mod Record
-pub mod Rules

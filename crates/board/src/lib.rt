@@ -1,11 +1,6 @@
-// The board record, its limits, and the rules of a network.
+// The board record and its limits.
 ghost use mathlib.Core.Path.{_≡_};
 ghost use Rattle.board.specs.Record.{blank, emptyNetwork, closedBoard};
-
-mod rules;
-
-pub use rules::judged;
-pub use rules::lawful;
 
 // A set of edges: edge e is in it where bit e is set.
 pub type EdgeSet = u64;
@@ -131,13 +126,4 @@ impl Entry {
             }),
         }
     }
-}
-
-// The rules that a network keeps, each at every edge, terminal or vertex.
-pub enum Rule {
-    EdgeFits,
-    TerminalFits,
-    NoLoop,
-    Away,
-    Balanced,
 }

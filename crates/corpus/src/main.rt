@@ -24,7 +24,7 @@ fn print_text(network: Network) -> bool {
     b.stage = board::Board::PLAY;
     b.network = network;
     let mut space = [0u8; 1500];
-    let written = text::write(b, &mut space);
+    let written = writer::write(b, &mut space);
     if written.answer != 0 {
         return print_line(written.answer);
     }
@@ -38,7 +38,7 @@ fn print_text(network: Network) -> bool {
 
 // What reading the text answers, and after a 0 the text of what was read.
 fn answer(text: &[u8]) -> bool {
-    let reading = text::read(text);
+    let reading = reader::read(text);
     let is_printed = print_line(reading.answer);
     if !is_printed {
         return false;

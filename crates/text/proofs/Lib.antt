@@ -1,9 +1,5 @@
-pub mod Turns
-pub mod Loops
+pub mod Ends
 pub mod Fields
 pub mod Columns
 pub mod Accepted
-pub mod Whole
-pub mod Writing
-pub mod Loaded
 pub mod Cases

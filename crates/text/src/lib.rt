@@ -1,11 +1,11 @@
-// The board text, read and written.
+// The board text: what its reader and its writer hand on.
 use board::Network;
-
-mod reader;
-mod writer;
-
-pub use reader::read;
-pub use writer::write;
+ghost use mathlib.Core.Path.{_≡_};
+ghost use Prim.Native.Nat.{_<_};
+ghost use lib.Dec.{leb, ltb};
+ghost use Rattle.lists.specs.Choice.{pick, both};
+ghost use Rattle.text.specs.Text.{vertexBelow};
+ghost use Rattle.text.specs.Results.{refusal};
 
 // What reading a text gives: 0 and its network, or the number it is refused with and the empty network.
 pub struct Reading {
@@ -44,4 +44,55 @@ pub struct Part {
 pub struct Written {
     pub answer: u32,
     pub used: usize,
+}
+
+impl Range {
+    pub fn holds(self, n: u32) -> bool
+        ensures { λ r. ⌜ r ≡ both (leb (self .low) n) (leb n (self .high)) ⌝ }
+    {
+        lists::and(self.low <= n, n <= self.high)
+    }
+
+    // The numbers below n.
+    pub fn below(n: u32) -> Range
+        requires { ⌜ 0 < n ⌝ }
+        ensures { λ r. ⌜ r ≡ vertexBelow n ⌝ }
+    {
+        Range {
+            low: 0,
+            high: n - 1,
+        }
+    }
+}
+
+impl Part {
+    pub fn refused(answer: u32) -> Part
+        ensures { λ r. ⌜ (r .answer ≡ answer) × (r .used ≡ 0) ⌝ }
+    {
+        let network = Network::empty();
+        Part {
+            answer: answer,
+            network: network,
+            used: 0,
+        }
+    }
+}
+
+impl Reading {
+    pub fn refused(answer: u32) -> Reading
+        ensures { λ r. ⌜ r ≡ refusal answer ⌝ }
+    {
+        let network = Network::empty();
+        Reading {
+            answer: answer,
+            network: network,
+        }
+    }
+}
+
+// What ends a field with `left` fields behind it on its line.
+pub fn end_of(left: usize) -> u8
+    ensures { λ r. ⌜ r ≡ pick (ltb 0 left) 44 10 ⌝ }
+{
+    if 0 < left { b',' } else { b'\n' }
 }

@@ -1,0 +1,3 @@
+pub mod Turns
+pub mod Loops
+pub mod Whole

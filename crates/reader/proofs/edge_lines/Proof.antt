@@ -1,0 +1,88 @@
+use mathlib.Core.Path.{_≡_, refl, sym, ap, _∙_}
+use Prim.Native.Nat.{ℕ, _+_, _-_, _<_, _≤_}
+use native.Mathlib.Nat.{sub-zero}
+use native.Mathlib.Omega.{arith}
+use borrow.Author.Needs.{needs}
+use lib.ListN.{length, take, drop}
+use Rattle.board.specs.declared.Network.{Network}
+use Rattle.text.specs.Text.{edgeRanges, edgeLines}
+use Rattle.reader.proofs.Turns.{answered-got, answered-refused, rest-used}
+use Rattle.reader.proofs.Loops.{edge-stop, edge-step, edge-end}
+use Rattle.reader.proofs.edge_lines.Statement.{statement}
+use Rattle.reader.proofs.edge_lines.Tie as tie
+
+abbrev Inv-loop : tie.InvT-loop
+Inv-loop s start ranges edges out₀ at₀ i₀ out at i =
+    (i ≤ edges) × (at ≤ length s) × (out .vertices ≡ out₀ .vertices) × (edgeLines out i (edges - i) (drop at s) ≡ edgeLines out₀ 0 edges (drop start s))
+
+abbrev μ-loop : tie.MeasureT-loop
+μ-loop s start ranges edges out₀ at₀ i₀ out at i = edges - i
+
+edge-ranges-requires : tie.Need-edge-ranges-requires Inv-loop μ-loop
+edge-ranges-requires c κs = c .before .pre .1
+
+cast-edges : tie.Need-cast-edges Inv-loop μ-loop
+cast-edges c = search needs
+
+loop-holds : tie.Need-loop-holds Inv-loop μ-loop
+loop-holds c = (omega arith, c .before .before .before .pre .0, refl, rw sub-zero)
+
+sub-line : tie.Need-sub-line Inv-loop μ-loop
+sub-line c = omega arith
+
+part-line-start : tie.Need-part-line-start Inv-loop μ-loop
+part-line-start c = search needs
+
+part-line-end : tie.Need-part-line-end Inv-loop μ-loop
+part-line-end c = search needs
+
+line-requires : tie.Need-line-requires Inv-loop μ-loop
+line-requires c κs = omega arith
+
+refused-requires : tie.Need-refused-requires Inv-loop μ-loop
+refused-requires c κs = tt
+
+returns : tie.Need-returns Inv-loop μ-loop
+returns c = (answered-refused _ _ _ _ _ (c .refused .ensures .0) (c .before .if1 .taken) ∙ edge-stop (c .before .before .before .before .before .before .loop .out) (c .before .before .before .before .before .before .loop .out) (c .before .before .before .before .before .before .before .before .edge-ranges .result) _ _ (c .before .before .before .before .before .before .loop .at) (c .before .before .before .before .before .before .before .before .before .before .args .s .now) _ (c .before .before .before .before .before .loop-test .taken) (c .before .before .before .line .result) (c .before .before .before .before .before .before .loop .inv .3) (ap (take 3) (c .before .before .before .before .before .before .before .before .edge-ranges .ensures) ∙ ap edgeRanges (sym (c .before .before .before .before .before .before .loop .inv .2))) (c .before .before .before .line .ensures .0) (c .before .if1 .taken), omega arith)
+
+with-edge-requires : tie.Need-with-edge-requires Inv-loop μ-loop
+with-edge-requires c κs = omega arith
+
+add-at : tie.Need-add-at Inv-loop μ-loop
+add-at c =
+    let u = rest-used (c .before .before .before .before .before .before .before .before .before .before .before .before .args .s .now) _ _ (c .before .before .before .before .before .before .before .before .loop .inv .1) (c .before .before .before .before .before .line .ensures .1) in
+    omega arith
+
+add-i : tie.Need-add-i Inv-loop μ-loop
+add-i c = omega arith
+
+loop-less : tie.Need-loop-less Inv-loop μ-loop
+loop-less c = omega arith
+
+loop-again : tie.Need-loop-again Inv-loop μ-loop
+loop-again c = (omega arith, rest-used (c .before .before .before .before .before .before .before .before .before .before .before .before .args .s .now) _ _ (c .before .before .before .before .before .before .before .before .loop .inv .1) (c .before .before .before .before .before .line .ensures .1), ap (λ (net : Network). net .vertices) (c .before .with-edge .ensures) ∙ c .before .before .before .before .before .before .before .before .loop .inv .2, edge-step (c .before .before .before .before .before .before .before .before .loop .out) (c .before .with-edge .result) (c .before .before .before .before .before .before .before .before .before .before .edge-ranges .result) _ _ (c .before .before .before .before .before .before .before .before .loop .at) (c .before .before .before .before .before .before .before .before .before .before .before .before .args .s .now) _ (c .before .before .before .before .before .before .before .loop-test .taken) (c .before .before .before .before .before .line .result) (c .before .before .before .before .before .before .before .before .loop .inv .3) (ap (take 3) (c .before .before .before .before .before .before .before .before .before .before .edge-ranges .ensures) ∙ ap edgeRanges (sym (c .before .before .before .before .before .before .before .before .loop .inv .2))) (c .before .before .before .before .before .line .ensures .0) (c .before .before .before .if1 .left) (c .before .with-edge .ensures))
+
+returns-2 : tie.Need-returns-2 Inv-loop μ-loop
+returns-2 c = (answered-got _ _ _ _ refl ∙ sym (edge-end _ _ _ _ (c .loop-test .left)) ∙ c .before .loop .inv .3, omega arith)
+
+pub edge-lines-spec : {M : Type 1} → statement M
+edge-lines-spec =
+    tie.close
+    (tie.spec
+    Inv-loop
+    μ-loop
+    edge-ranges-requires
+    cast-edges
+    loop-holds
+    sub-line
+    part-line-start
+    part-line-end
+    line-requires
+    refused-requires
+    returns
+    with-edge-requires
+    add-at
+    add-i
+    loop-less
+    loop-again
+    returns-2)

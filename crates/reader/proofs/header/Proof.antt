@@ -1,0 +1,58 @@
+use mathlib.Core.Path.{_≡_, refl, sym, ap, _∙_}
+use Prim.Native.Nat.{ℕ, _+_, _≤_}
+use native.Mathlib.Omega.{arith}
+use mathlib.Core.List.{List}
+use lib.ListN.{take, drop}
+use Rattle.text.specs.declared.Range.{Range}
+use Rattle.board.specs.declared.Network.{Network}
+use Rattle.text.specs.Text.{Read, got, line, headed}
+use Rattle.reader.proofs.Turns.{answered-got, answered-refused}
+use Rattle.reader.proofs.Loops.{head-stop, head-source, head-got}
+use borrow.Author.Needs.{needs}
+use Rattle.reader.proofs.header.Statement.{statement}
+use Rattle.reader.proofs.header.Tie as tie
+
+head-ranges-requires : tie.Need-head-ranges-requires
+head-ranges-requires c κs = search needs
+
+line-requires : tie.Need-line-requires
+line-requires c κs = search needs
+
+refused-requires : tie.Need-refused-requires
+refused-requires c κs = search needs
+
+returns : tie.Need-returns
+returns c = (answered-refused _ _ _ _ _ (c .refused .ensures .0) (c .before .if1 .taken) ∙ head-stop _ (c .before .before .before .line .result) (c .before .before .before .line .ensures .0 ∙ ap (λ (rs : List Range). line 66 (take 4 rs) (c .before .before .before .before .before .before .args .s .now)) (c .before .before .before .before .head-ranges .ensures)) (c .before .if1 .taken), omega arith)
+
+array-read-vertices : tie.Need-array-read-vertices
+array-read-vertices c = search needs
+
+array-read-source : tie.Need-array-read-source
+array-read-source c = search needs
+
+refused-requires-2 : tie.Need-refused-requires-2
+refused-requires-2 c κs = search needs
+
+returns-2 : tie.Need-returns-2
+returns-2 c = (answered-refused _ _ _ _ 2 (c .refused2 .ensures .0) (λ e. omega arith) ∙ head-source _ (c .before .before .before .before .before .line .result) (c .before .before .before .before .before .line .ensures .0 ∙ ap (λ (rs : List Range). line 66 (take 4 rs) (c .before .before .before .before .before .before .before .before .args .s .now)) (c .before .before .before .before .before .before .head-ranges .ensures)) (c .before .before .before .if1 .left) (search needs) (c .before .if2 .taken), omega arith)
+
+headed-requires : tie.Need-headed-requires
+headed-requires c κs = search needs
+
+returns-3 : tie.Need-returns-3
+returns-3 c = (answered-got _ _ _ _ refl ∙ ap (λ (net : Network). got net (drop (c .before .before .before .before .before .line .result .used) (c .before .before .before .before .before .before .before .before .args .s .now))) (c .headed .ensures) ∙ head-got _ (c .before .before .before .before .before .line .result) (c .before .before .before .before .before .line .ensures .0 ∙ ap (λ (rs : List Range). line 66 (take 4 rs) (c .before .before .before .before .before .before .before .before .args .s .now)) (c .before .before .before .before .before .before .head-ranges .ensures)) (c .before .before .before .if1 .left) (search needs) (c .before .if2 .left), omega arith)
+
+pub header-spec : {M : Type 1} → statement M
+header-spec =
+    tie.close
+    (tie.spec
+    head-ranges-requires
+    line-requires
+    refused-requires
+    returns
+    array-read-vertices
+    array-read-source
+    refused-requires-2
+    returns-2
+    headed-requires
+    returns-3)

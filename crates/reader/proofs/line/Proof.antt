@@ -1,0 +1,135 @@
+use mathlib.Core.Path.{_≡_, refl, sym, ap, _∙_}
+use Prim.Native.Nat.{ℕ, _+_, _-_, _<_, _≤_}
+use native.Mathlib.Omega.{arith}
+use borrow.Author.Needs.{needs}
+use borrow.Author.Tests.{eq-eqb, ne-eqb}
+use lib.ListN.{length, take, drop, length-set, length-take}
+use lib.Dec.{lit<}
+use native.Mathlib.Nat.{ne-of-gt}
+use Rattle.lists.specs.Choice.{pick, both}
+use Rattle.text.specs.Text.{line}
+use Rattle.text.specs.Views.{answered}
+use Rattle.reader.proofs.Turns.{lineRest, line-end, line-step, line-step-stop, rest-used, then-got, answered-got, answered-refused, line-letter, line-comma, line-opened, two-bytes}
+use Rattle.reader.proofs.line.Statement.{statement}
+use Rattle.reader.proofs.line.Tie as tie
+
+abbrev Inv-loop : tie.InvT-loop
+Inv-loop s letter count ranges values₀ at₀ i₀ values at i =
+    (i ≤ count) × (2 ≤ at) × (at ≤ length s) × (length values ≡ 4) × (lineRest (take count ranges) s values at i ≡ line letter (take count ranges) s)
+
+abbrev μ-loop : tie.MeasureT-loop
+μ-loop s letter count ranges values₀ at₀ i₀ values at i = count - i
+
+byte-at-requires : tie.Need-byte-at-requires Inv-loop μ-loop
+byte-at-requires c κs = tt
+
+refused-line-requires : tie.Need-refused-line-requires Inv-loop μ-loop
+refused-line-requires c κs = tt
+
+returns : tie.Need-returns Inv-loop μ-loop
+returns c = (answered-refused _ _ _ _ 1 (c .refused-line .ensures .0) (λ e. omega arith) ∙ sym (line-letter _ _ _ (λ e. c .before .if1 .taken (c .before .before .byte-at .ensures ∙ e))), omega arith)
+
+byte-at-requires-2 : tie.Need-byte-at-requires-2 Inv-loop μ-loop
+byte-at-requires-2 c κs = tt
+
+refused-line-requires-2 : tie.Need-refused-line-requires-2 Inv-loop μ-loop
+refused-line-requires-2 c κs = tt
+
+returns-2 : tie.Need-returns-2 Inv-loop μ-loop
+returns-2 c = (answered-refused _ _ _ _ 1 (c .refused-line2 .ensures .0) (λ e. omega arith) ∙ sym (line-comma _ _ _ (sym (c .before .before .before .before .byte-at .ensures) ∙ c .before .before .before .if1 .left) (λ e. c .before .if2 .taken (c .before .before .byte-at2 .ensures ∙ e))), omega arith)
+
+loop-holds : tie.Need-loop-holds Inv-loop μ-loop
+loop-holds c =
+    let comma = sym (c .before .byte-at2 .ensures) ∙ c .if2 .left in
+    (omega arith, omega arith, two-bytes (c .before .before .before .before .before .args .s .now) comma, search needs, then-got _ ∙ sym (line-opened _ _ _ (sym (c .before .before .before .byte-at .ensures) ∙ c .before .before .if1 .left) comma))
+
+sub-field : tie.Need-sub-field Inv-loop μ-loop
+sub-field c = omega arith
+
+part-field-start : tie.Need-part-field-start Inv-loop μ-loop
+part-field-start c = search needs
+
+part-field-end : tie.Need-part-field-end Inv-loop μ-loop
+part-field-end c = search needs
+
+mul-field : tie.Need-mul-field Inv-loop μ-loop
+mul-field c = omega arith
+
+array-copy-out-field : tie.Need-array-copy-out-field Inv-loop μ-loop
+array-copy-out-field c = omega arith
+
+sub-end-of : tie.Need-sub-end-of Inv-loop μ-loop
+sub-end-of c = omega arith
+
+sub-end-of-2 : tie.Need-sub-end-of-2 Inv-loop μ-loop
+sub-end-of-2 c = omega arith
+
+end-of-requires : tie.Need-end-of-requires Inv-loop μ-loop
+end-of-requires c κs = tt
+
+field-requires : tie.Need-field-requires Inv-loop μ-loop
+field-requires c κs = tt
+
+refused-line-requires-3 : tie.Need-refused-line-requires-3 Inv-loop μ-loop
+refused-line-requires-3 c κs = tt
+
+returns-3 : tie.Need-returns-3 Inv-loop μ-loop
+returns-3 c = (answered-refused _ _ _ _ _ (c .refused-line3 .ensures .0) (c .before .if3 .taken) ∙ line-step-stop _ _ (c .before .before .before .before .before .before .before .before .before .before .before .before .before .before .args .s .now) (c .before .before .before .before .before .before .before .before .loop .values) (c .before .before .before .before .before .before .before .before .loop .at) (c .before .before .before .before .before .before .before .before .loop .i) _ (c .before .before .before .before .before .before .before .before .loop .inv .4) (c .before .before .before .before .before .before .before .loop-test .taken) (search needs) (c .before .before .before .field .result) _ (c .before .before .before .before .end-of .ensures) (c .before .before .before .field .ensures .0) (c .before .if3 .taken), omega arith)
+
+mul-values : tie.Need-mul-values Inv-loop μ-loop
+mul-values c = omega arith
+
+array-write-values : tie.Need-array-write-values Inv-loop μ-loop
+array-write-values c = omega arith
+
+add-at : tie.Need-add-at Inv-loop μ-loop
+add-at c =
+    let u = rest-used (c .before .before .before .before .before .before .before .before .before .before .before .before .before .before .args .s .now) _ _ (c .before .before .before .before .before .before .before .before .loop .inv .2) (c .before .before .before .field .ensures .1) in
+    omega arith
+
+add-i : tie.Need-add-i Inv-loop μ-loop
+add-i c = omega arith
+
+loop-less : tie.Need-loop-less Inv-loop μ-loop
+loop-less c = omega arith
+
+loop-again : tie.Need-loop-again Inv-loop μ-loop
+loop-again c = (omega arith, omega arith, rest-used (c .before .before .before .before .before .before .before .before .before .before .before .before .before .before .args .s .now) _ _ (c .before .before .before .before .before .before .before .before .loop .inv .2) (c .before .before .before .field .ensures .1), simp length-set (omega arith), line-step _ _ (c .before .before .before .before .before .before .before .before .before .before .before .before .before .before .args .s .now) (c .before .before .before .before .before .before .before .before .loop .values) (c .before .before .before .before .before .before .before .before .loop .at) (c .before .before .before .before .before .before .before .before .loop .i) _ (c .before .before .before .before .before .before .before .before .loop .inv .4) (c .before .before .before .before .before .before .before .loop-test .taken) (search needs) (c .before .before .before .field .result) _ (c .before .before .before .before .end-of .ensures) (c .before .before .before .field .ensures .0) (c .before .if3 .left) (omega arith))
+
+returns-4 : tie.Need-returns-4 Inv-loop μ-loop
+returns-4 c =
+    let n = c .before .before .before .before .before .before .before .args .count in
+    let e : c .before .loop .i ≡ n = omega arith in
+    (answered-got _ _ _ _ refl ∙ (rw e at (line-end (take n (c .before .before .before .before .before .before .before .args .t3)) (c .before .before .before .before .before .before .before .args .s .now) (c .before .loop .values) (c .before .loop .at) (c .before .loop .i) _ (c .before .loop .inv .4) (let z = length-take n (c .before .before .before .before .before .before .before .args .t3) in omega arith))), omega arith)
+
+pub line-spec : {M : Type 1} → statement M
+line-spec =
+    tie.close
+    (tie.spec
+    Inv-loop
+    μ-loop
+    byte-at-requires
+    refused-line-requires
+    returns
+    byte-at-requires-2
+    refused-line-requires-2
+    returns-2
+    loop-holds
+    sub-field
+    part-field-start
+    part-field-end
+    mul-field
+    array-copy-out-field
+    sub-end-of
+    sub-end-of-2
+    end-of-requires
+    field-requires
+    refused-line-requires-3
+    returns-3
+    mul-values
+    array-write-values
+    add-at
+    add-i
+    loop-less
+    loop-again
+    returns-4)

@@ -1,0 +1,88 @@
+use mathlib.Core.Path.{_≡_, refl, sym, ap, _∙_}
+use Prim.Native.Nat.{ℕ, _+_, _-_, _<_, _≤_}
+use native.Mathlib.Nat.{sub-zero}
+use native.Mathlib.Omega.{arith}
+use borrow.Author.Needs.{needs}
+use lib.ListN.{length, take, drop}
+use Rattle.board.specs.declared.Network.{Network}
+use Rattle.text.specs.Text.{terminalRanges, terminalLines}
+use Rattle.reader.proofs.Turns.{answered-got, answered-refused, rest-used}
+use Rattle.reader.proofs.Loops.{terminal-stop, terminal-step, terminal-end}
+use Rattle.reader.proofs.terminal_lines.Statement.{statement}
+use Rattle.reader.proofs.terminal_lines.Tie as tie
+
+abbrev Inv-loop : tie.InvT-loop
+Inv-loop s start ranges terminals out₀ at₀ j₀ out at j =
+    (j ≤ terminals) × (at ≤ length s) × (out .vertices ≡ out₀ .vertices) × (terminalLines out j (terminals - j) (drop at s) ≡ terminalLines out₀ 0 terminals (drop start s))
+
+abbrev μ-loop : tie.MeasureT-loop
+μ-loop s start ranges terminals out₀ at₀ j₀ out at j = terminals - j
+
+terminal-ranges-requires : tie.Need-terminal-ranges-requires Inv-loop μ-loop
+terminal-ranges-requires c κs = c .before .pre .1
+
+cast-terminals : tie.Need-cast-terminals Inv-loop μ-loop
+cast-terminals c = search needs
+
+loop-holds : tie.Need-loop-holds Inv-loop μ-loop
+loop-holds c = (omega arith, c .before .before .before .pre .0, refl, rw sub-zero)
+
+sub-line : tie.Need-sub-line Inv-loop μ-loop
+sub-line c = omega arith
+
+part-line-start : tie.Need-part-line-start Inv-loop μ-loop
+part-line-start c = search needs
+
+part-line-end : tie.Need-part-line-end Inv-loop μ-loop
+part-line-end c = search needs
+
+line-requires : tie.Need-line-requires Inv-loop μ-loop
+line-requires c κs = omega arith
+
+refused-requires : tie.Need-refused-requires Inv-loop μ-loop
+refused-requires c κs = tt
+
+returns : tie.Need-returns Inv-loop μ-loop
+returns c = (answered-refused _ _ _ _ _ (c .refused .ensures .0) (c .before .if1 .taken) ∙ terminal-stop (c .before .before .before .before .before .before .loop .out) (c .before .before .before .before .before .before .loop .out) (c .before .before .before .before .before .before .before .before .terminal-ranges .result) _ _ (c .before .before .before .before .before .before .loop .at) (c .before .before .before .before .before .before .before .before .before .before .args .s .now) _ (c .before .before .before .before .before .loop-test .taken) (c .before .before .before .line .result) (c .before .before .before .before .before .before .loop .inv .3) (ap (take 2) (c .before .before .before .before .before .before .before .before .terminal-ranges .ensures) ∙ ap terminalRanges (sym (c .before .before .before .before .before .before .loop .inv .2))) (c .before .before .before .line .ensures .0) (c .before .if1 .taken), omega arith)
+
+with-terminal-requires : tie.Need-with-terminal-requires Inv-loop μ-loop
+with-terminal-requires c κs = omega arith
+
+add-at : tie.Need-add-at Inv-loop μ-loop
+add-at c =
+    let u = rest-used (c .before .before .before .before .before .before .before .before .before .before .before .before .args .s .now) _ _ (c .before .before .before .before .before .before .before .before .loop .inv .1) (c .before .before .before .before .before .line .ensures .1) in
+    omega arith
+
+add-j : tie.Need-add-j Inv-loop μ-loop
+add-j c = omega arith
+
+loop-less : tie.Need-loop-less Inv-loop μ-loop
+loop-less c = omega arith
+
+loop-again : tie.Need-loop-again Inv-loop μ-loop
+loop-again c = (omega arith, rest-used (c .before .before .before .before .before .before .before .before .before .before .before .before .args .s .now) _ _ (c .before .before .before .before .before .before .before .before .loop .inv .1) (c .before .before .before .before .before .line .ensures .1), ap (λ (net : Network). net .vertices) (c .before .with-terminal .ensures) ∙ c .before .before .before .before .before .before .before .before .loop .inv .2, terminal-step (c .before .before .before .before .before .before .before .before .loop .out) (c .before .with-terminal .result) (c .before .before .before .before .before .before .before .before .before .before .terminal-ranges .result) _ _ (c .before .before .before .before .before .before .before .before .loop .at) (c .before .before .before .before .before .before .before .before .before .before .before .before .args .s .now) _ (c .before .before .before .before .before .before .before .loop-test .taken) (c .before .before .before .before .before .line .result) (c .before .before .before .before .before .before .before .before .loop .inv .3) (ap (take 2) (c .before .before .before .before .before .before .before .before .before .before .terminal-ranges .ensures) ∙ ap terminalRanges (sym (c .before .before .before .before .before .before .before .before .loop .inv .2))) (c .before .before .before .before .before .line .ensures .0) (c .before .before .before .if1 .left) (c .before .with-terminal .ensures))
+
+returns-2 : tie.Need-returns-2 Inv-loop μ-loop
+returns-2 c = (answered-got _ _ _ _ refl ∙ sym (terminal-end _ _ _ _ (c .loop-test .left)) ∙ c .before .loop .inv .3, omega arith)
+
+pub terminal-lines-spec : {M : Type 1} → statement M
+terminal-lines-spec =
+    tie.close
+    (tie.spec
+    Inv-loop
+    μ-loop
+    terminal-ranges-requires
+    cast-terminals
+    loop-holds
+    sub-line
+    part-line-start
+    part-line-end
+    line-requires
+    refused-requires
+    returns
+    with-terminal-requires
+    add-at
+    add-j
+    loop-less
+    loop-again
+    returns-2)

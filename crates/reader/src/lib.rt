@@ -1,0 +1,315 @@
+// The board text, read: every line and every field is a part of the slice.
+use board::Board;
+use board::Network;
+use decimal::Number;
+use text::Field;
+use text::Line;
+use text::Part;
+use text::Range;
+use text::Reading;
+ghost use mathlib.Core.Path.{_≡_};
+ghost use mathlib.Core.List.{[], _∷_, _++_};
+ghost use Prim.Native.Nat.{_+_, _-_, _≤_, _<_};
+ghost use lib.Dec.{leb, ltb};
+ghost use lib.ListN.{length, getD, take, drop};
+ghost use Rattle.lists.specs.Choice.{pick, both};
+ghost use Rattle.board.specs.Limits.{maxEdges, maxTerminals};
+ghost use Rattle.text.specs.Text.{Read, then, got, refused, field, line, between, vertexBelow, headRanges, edgeRanges, terminalRanges, header, headed, withEdges, withTerminals, edgeLines, terminalLines, layout};
+ghost use Rattle.text.specs.Views.{fieldRead, lineRead, partRead, headerPart};
+ghost use Rattle.text.specs.Results.{readText, refusal};
+
+// A number field at the start of s, and the byte that must end it.
+fn field(s: &[u8], range: Range, end: u8) -> Field
+    ensures { λ r. ⌜ fieldRead r (now (s .entry)) ≡ field range end (now (s .entry)) ⌝ }
+    ensures { λ r. ⌜ r .used ≤ length (now (s .entry)) ⌝ }
+{
+    let n = lists::index_of(s, end);
+    if s.len() <= n {
+        return Field {
+            answer: 1,
+            value: 0,
+            used: 0,
+        };
+    }
+    let found = decimal::read_number(&s[..n]);
+    match found {
+        Number::Value(value) => {
+            if range.holds(value) {
+                Field {
+                    answer: 0,
+                    value: value,
+                    used: n + 1,
+                }
+            } else {
+                Field {
+                    answer: 2,
+                    value: 0,
+                    used: 0,
+                }
+            }
+        }
+        Number::Malformed => Field {
+            answer: 1,
+            value: 0,
+            used: 0,
+        },
+    }
+}
+
+fn refused_line(answer: u32) -> Line
+    ensures { λ r. ⌜ (r .answer ≡ answer) × (r .used ≡ 0) ⌝ }
+{
+    Line {
+        answer: answer,
+        values: [0; 4],
+        used: 0,
+    }
+}
+
+// A line at the start of s: its letter, then a number for each of the first `count` ranges.
+fn line(s: &[u8], letter: u8, ranges: [Range; 4], count: usize) -> Line
+    requires { ⌜ (count ≤ 4) × (0 < letter) ⌝ }
+    ensures { λ r. ⌜ lineRead count r (now (s .entry)) ≡ line letter (take count ranges) (now (s .entry)) ⌝ }
+    ensures { λ r. ⌜ r .used ≤ length (now (s .entry)) ⌝ }
+{
+    if lists::byte_at(s, 0) != letter {
+        return refused_line(1);
+    }
+    if lists::byte_at(s, 1) != b',' {
+        return refused_line(1);
+    }
+    let mut values = [0u32; 4];
+    let mut at: usize = 2;
+    let mut i: usize = 0;
+    while i < count {
+        let f = field(&s[at..], ranges[i], text::end_of(count - i - 1));
+        if f.answer != 0 {
+            return refused_line(f.answer);
+        }
+        values[i] = f.value;
+        at += f.used;
+        i += 1;
+    }
+    Line {
+        answer: 0,
+        values: values,
+        used: at,
+    }
+}
+
+// The ranges of `B,vertices,edges,terminals,source`.
+fn head_ranges() -> [Range; 4]
+    ensures { λ r. ⌜ r ≡ headRanges ⌝ }
+{
+    [
+        Range {
+            low: 2,
+            high: Board::MAX_VERTICES,
+        },
+        Range {
+            low: 1,
+            high: Board::MAX_EDGES as u32,
+        },
+        Range {
+            low: 1,
+            high: Board::MAX_TERMINALS as u32,
+        },
+        Range {
+            low: 0,
+            high: Board::MAX_VERTICES - 1,
+        },
+    ]
+}
+
+// The network of a first line.
+fn headed(values: [u32; 4]) -> Network
+    ensures { λ r. ⌜ r ≡ headed values ⌝ }
+{
+    Network {
+        vertices: values[0],
+        edges: values[1],
+        terminals: values[2],
+        source: values[3],
+        tails: [0; Board::MAX_EDGES],
+        heads: [0; Board::MAX_EDGES],
+        flows: [0; Board::MAX_EDGES],
+        homes: [0; Board::MAX_TERMINALS],
+        demands: [0; Board::MAX_TERMINALS],
+    }
+}
+
+// The first line, at the start of s.
+fn header(s: &[u8]) -> Part
+    ensures { λ r. ⌜ partRead r (now (s .entry)) ≡ headerPart (now (s .entry)) ⌝ }
+    ensures { λ r. ⌜ r .used ≤ length (now (s .entry)) ⌝ }
+{
+    let l = line(s, b'B', head_ranges(), 4);
+    if l.answer != 0 {
+        return Part::refused(l.answer);
+    }
+    let values = l.values;
+    let vertices = values[0];
+    let source = values[3];
+    if vertices <= source {
+        return Part::refused(2);
+    }
+    let network = headed(values);
+    Part {
+        answer: 0,
+        network: network,
+        used: l.used,
+    }
+}
+
+// The ranges of `C,tail,head,flow`.
+fn edge_ranges(vertices: u32) -> [Range; 4]
+    requires { ⌜ 0 < vertices ⌝ }
+    ensures { λ r. ⌜ r ≡ edgeRanges vertices ++ (between 0 0 ∷ []) ⌝ }
+{
+    let vertex = Range::below(vertices);
+    let flow = Range {
+        low: 0,
+        high: Board::MAX_FLOW,
+    };
+    let none = Range { low: 0, high: 0 };
+    [vertex, vertex, flow, none]
+}
+
+// The network with one edge more.
+fn with_edge(net: Network, i: usize, values: [u32; 4]) -> Network
+    requires { ⌜ i < maxEdges ⌝ }
+    ensures { λ r. ⌜ r ≡ withEdges net i (values ∷ []) ⌝ }
+{
+    let mut next = net;
+    next.tails[i] = values[0];
+    next.heads[i] = values[1];
+    next.flows[i] = values[2];
+    next
+}
+
+// The edge lines, from `start` on.
+fn edge_lines(s: &[u8], start: usize, net: Network) -> Part
+    requires { ⌜ (start ≤ length (now s)) × (0 < net .vertices) × (net .edges ≤ maxEdges) ⌝ }
+    ensures { λ r. ⌜ partRead r (now (s .entry)) ≡ edgeLines net 0 (net .edges) (drop start (now (s .entry))) ⌝ }
+    ensures { λ r. ⌜ r .used ≤ length (now (s .entry)) ⌝ }
+{
+    let ranges = edge_ranges(net.vertices);
+    let edges = net.edges as usize;
+    let mut out = net;
+    let mut at = start;
+    let mut i: usize = 0;
+    while i < edges {
+        let l = line(&s[at..], b'C', ranges, 3);
+        if l.answer != 0 {
+            return Part::refused(l.answer);
+        }
+        let values = l.values;
+        out = with_edge(out, i, values);
+        at += l.used;
+        i += 1;
+    }
+    Part {
+        answer: 0,
+        network: out,
+        used: at,
+    }
+}
+
+// The ranges of `W,home,demand`.
+fn terminal_ranges(vertices: u32) -> [Range; 4]
+    requires { ⌜ 0 < vertices ⌝ }
+    ensures { λ r. ⌜ r ≡ terminalRanges vertices ++ (between 0 0 ∷ between 0 0 ∷ []) ⌝ }
+{
+    let vertex = Range::below(vertices);
+    let demand = Range {
+        low: 1,
+        high: Board::MAX_FLOW,
+    };
+    let none = Range { low: 0, high: 0 };
+    [vertex, demand, none, none]
+}
+
+// The network with one terminal more.
+fn with_terminal(net: Network, j: usize, values: [u32; 4]) -> Network
+    requires { ⌜ j < maxTerminals ⌝ }
+    ensures { λ r. ⌜ r ≡ withTerminals net j (values ∷ []) ⌝ }
+{
+    let mut next = net;
+    next.homes[j] = values[0];
+    next.demands[j] = values[1];
+    next
+}
+
+// The terminal lines, from `start` on.
+fn terminal_lines(s: &[u8], start: usize, net: Network) -> Part
+    requires { ⌜ (start ≤ length (now s)) × (0 < net .vertices) × (net .terminals ≤ maxTerminals) ⌝ }
+    ensures { λ r. ⌜ partRead r (now (s .entry)) ≡ terminalLines net 0 (net .terminals) (drop start (now (s .entry))) ⌝ }
+    ensures { λ r. ⌜ r .used ≤ length (now (s .entry)) ⌝ }
+{
+    let ranges = terminal_ranges(net.vertices);
+    let terminals = net.terminals as usize;
+    let mut out = net;
+    let mut at = start;
+    let mut j: usize = 0;
+    while j < terminals {
+        let l = line(&s[at..], b'W', ranges, 2);
+        if l.answer != 0 {
+            return Part::refused(l.answer);
+        }
+        let values = l.values;
+        out = with_terminal(out, j, values);
+        at += l.used;
+        j += 1;
+    }
+    Part {
+        answer: 0,
+        network: out,
+        used: at,
+    }
+}
+
+// The whole text, and nothing behind it.
+fn layout(s: &[u8]) -> Part
+    ensures { λ r. ⌜ partRead r (now (s .entry)) ≡ layout (now (s .entry)) ⌝ }
+    ensures { λ r. ⌜ r .used ≤ length (now (s .entry)) ⌝ }
+{
+    let h = header(s);
+    if h.answer != 0 {
+        return h;
+    }
+    let first = h.network;
+    let start = h.used;
+    let e = edge_lines(s, start, first);
+    if e.answer != 0 {
+        return e;
+    }
+    let second = e.network;
+    let next = e.used;
+    let t = terminal_lines(s, next, second);
+    if t.answer != 0 {
+        return t;
+    }
+    if t.used < s.len() {
+        return Part::refused(1);
+    }
+    t
+}
+
+// Reads a board text: 0 and its network, or 1 to 5 and the empty network.
+pub fn read(s: &[u8]) -> Reading
+    ensures { λ r. ⌜ r ≡ readText (now (s .entry)) ⌝ }
+{
+    let whole = layout(s);
+    if whole.answer != 0 {
+        return Reading::refused(whole.answer);
+    }
+    let network = whole.network;
+    let answer = rules::judged(network);
+    if answer != 0 {
+        return Reading::refused(answer);
+    }
+    Reading {
+        answer: 0,
+        network: network,
+    }
+}

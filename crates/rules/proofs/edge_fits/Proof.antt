@@ -1,0 +1,51 @@
+use mathlib.Core.Path.{_≡_, sym, ap, ap₂, _∙_}
+use mathlib.Core.Bool.{Bool}
+use lib.Dec.{leb, ltb, eqb}
+use borrow.Author.Tests.{lt-ltb, le-ltb}
+use Rattle.board.specs.Limits.{maxFlow}
+use Rattle.lists.specs.Choice.{both}
+use Rattle.lists.proofs.Laws.{pick-yes, pick-no}
+use borrow.Author.Needs.{needs}
+use Rattle.rules.proofs.edge_fits.Statement.{statement}
+use Rattle.rules.proofs.edge_fits.Tie as tie
+
+word-at-requires : tie.Need-word-at-requires
+word-at-requires c κs = search needs
+
+word-at-requires-2 : tie.Need-word-at-requires-2
+word-at-requires-2 c κs = search needs
+
+word-at-requires-3 : tie.Need-word-at-requires-3
+word-at-requires-3 c κs = search needs
+
+and-requires : tie.Need-and-requires
+and-requires c κs = search needs
+
+and-requires-2 : tie.Need-and-requires-2
+and-requires-2 c κs = search needs
+
+and-requires-3 : tie.Need-and-requires-3
+and-requires-3 c κs = search needs
+
+and-requires-4 : tie.Need-and-requires-4
+and-requires-4 c κs = search needs
+
+returns : tie.Need-returns
+returns c = (cc) ∙ sym (pick-yes _ _ _ (lt-ltb _ _ (c .before .before .if1 .taken)))
+
+returns-2 : tie.Need-returns-2
+returns-2 c = (cc) ∙ sym (pick-no _ _ _ (le-ltb _ _ (c .before .before .if1 .left)))
+
+pub edge-fits-spec : {M : Type 1} → statement M
+edge-fits-spec =
+    tie.close
+    (tie.spec
+    word-at-requires
+    word-at-requires-2
+    word-at-requires-3
+    and-requires
+    and-requires-2
+    and-requires-3
+    and-requires-4
+    returns
+    returns-2)

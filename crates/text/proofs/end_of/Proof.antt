@@ -1,0 +1,15 @@
+use borrow.Author.Tests.{lt-ltb, le-ltb}
+use Rattle.lists.specs.Choice.{pick}
+use Rattle.text.proofs.end_of.Statement.{statement}
+use Rattle.text.proofs.end_of.Tie as tie
+
+returns : tie.Need-returns
+unfolding pick
+returns c = rw (lt-ltb 0 _ (c .if1 .taken))
+
+returns-2 : tie.Need-returns-2
+unfolding pick
+returns-2 c = rw (le-ltb 0 _ (c .if1 .left))
+
+pub end-of-spec : {M : Type 1} → statement M
+end-of-spec = tie.close (tie.spec returns returns-2)

@@ -1,0 +1,65 @@
+-- What is left of the lines, written into the buffer as it is now, gives all of them written into the first buffer.
+use mathlib.Core.Path.{_≡_, refl, sym, ap, _∙_}
+use Prim.Native.Nat.{ℕ, _+_, _-_, _*_, _≤_}
+use native.Mathlib.Nat.{sub-zero}
+use native.Mathlib.Omega.{arith}
+use borrow.Author.Needs.{needs}
+use lib.ListN.{length, take}
+use lib.Seq.{sets, length-sets}
+use Rattle.text.specs.Text.{edgeRow, linesText}
+use Rattle.writer.proofs.Writing.{Left, lines-turned, lines-done}
+use Rattle.writer.proofs.put_edges.Statement.{statement}
+use Rattle.writer.proofs.put_edges.Tie as tie
+
+abbrev Inv-loop : tie.InvT-loop
+Inv-loop buf₀ at net edges to₀ i₀ buf to i =
+    (i ≤ edges) × (to ≤ at + 50 * i)
+    × Left buf (sets buf₀ at (linesText 67 (edgeRow net) 0 edges)) to (at + length (linesText 67 (edgeRow net) 0 edges)) (linesText 67 (edgeRow net) i (edges - i))
+
+abbrev μ-loop : tie.MeasureT-loop
+μ-loop buf₀ at net edges to₀ i₀ buf to i = edges - i
+
+cast-edges : tie.Need-cast-edges Inv-loop μ-loop
+cast-edges c = search needs
+
+loop-holds : tie.Need-loop-holds Inv-loop μ-loop
+loop-holds c = (omega arith, omega arith, record { size = rw sub-zero; gives = rw sub-zero })
+
+edge-row-requires : tie.Need-edge-row-requires Inv-loop μ-loop
+edge-row-requires c κs = tt
+
+put-line-requires : tie.Need-put-line-requires Inv-loop μ-loop
+put-line-requires c κs = omega arith
+
+add-i : tie.Need-add-i Inv-loop μ-loop
+add-i c = omega arith
+
+loop-less : tie.Need-loop-less Inv-loop μ-loop
+loop-less c = omega arith
+
+loop-again : tie.Need-loop-again Inv-loop μ-loop
+loop-again c = (omega arith, omega arith, lines-turned _ _ _ _ (c .before .before .before .before .before .loop-test .taken) (c .before .before .before .before .before .before .loop .inv .2) _ _ _ (ap (take 3) (c .before .before .before .edge-row .ensures)) (c .before .before .put-line .ensures .1 .1) (c .before .before .put-line .ensures .0))
+
+same-length : tie.Need-same-length Inv-loop μ-loop
+same-length c = ap length (lines-done _ _ _ _ (c .loop-test .left) (c .before .loop .inv .2) .1) ∙ simp length-sets
+
+returns : tie.Need-returns Inv-loop μ-loop
+returns c =
+    let d = lines-done _ _ _ _ (c .loop-test .left) (c .before .loop .inv .2) in
+    (d .0, (omega arith, d .1))
+
+pub put-edges-spec : {M : Type 1} → statement M
+put-edges-spec =
+    tie.close
+    (tie.spec
+    Inv-loop
+    μ-loop
+    cast-edges
+    loop-holds
+    edge-row-requires
+    put-line-requires
+    add-i
+    loop-less
+    loop-again
+    same-length
+    returns)

@@ -1,0 +1,100 @@
+-- What is left of the line, written into the buffer as it is now, gives the line written into the first buffer.
+use mathlib.Core.Path.{_≡_, refl, sym, ap, _∙_}
+use Prim.Native.Nat.{ℕ, _+_, _-_, _*_, _≤_}
+use native.Mathlib.Omega.{arith}
+use borrow.Author.Needs.{needs}
+use lib.ListN.{length, take, drop, length-set, length-take, drop-of-length-le}
+use lib.Seq.{sets, length-sets}
+use Rattle.text.specs.Text.{numbersText}
+use Rattle.writer.proofs.Writing.{Left, line-begun, line-length, line-turned, line-done}
+use Rattle.writer.proofs.put_line.Statement.{statement}
+use Rattle.writer.proofs.put_line.Tie as tie
+
+abbrev Inv-loop : tie.InvT-loop
+Inv-loop buf₀ at letter count values to₀ i₀ buf to i =
+    (i ≤ count) × (to ≤ at + 2 + 11 * i)
+    × Left buf (sets buf₀ (at + 2) (numbersText (take count values))) to (at + 2 + length (numbersText (take count values))) (numbersText (drop i (take count values)))
+
+abbrev μ-loop : tie.MeasureT-loop
+μ-loop buf₀ at letter count values to₀ i₀ buf to i = count - i
+
+put-byte-requires : tie.Need-put-byte-requires Inv-loop μ-loop
+put-byte-requires c κs = tt
+
+add-put-byte : tie.Need-add-put-byte Inv-loop μ-loop
+add-put-byte c = omega arith
+
+put-byte-requires-2 : tie.Need-put-byte-requires-2 Inv-loop μ-loop
+put-byte-requires-2 c κs = tt
+
+add-to : tie.Need-add-to Inv-loop μ-loop
+add-to c = omega arith
+
+loop-holds : tie.Need-loop-holds Inv-loop μ-loop
+loop-holds c = (omega arith, omega arith, record { size = refl; gives = refl })
+
+mul-write-number : tie.Need-mul-write-number Inv-loop μ-loop
+mul-write-number c = omega arith
+
+array-read-write-number : tie.Need-array-read-write-number Inv-loop μ-loop
+array-read-write-number c = omega arith
+
+write-number-requires : tie.Need-write-number-requires Inv-loop μ-loop
+write-number-requires c κs = omega arith
+
+sub-end-of : tie.Need-sub-end-of Inv-loop μ-loop
+sub-end-of c = omega arith
+
+sub-end-of-2 : tie.Need-sub-end-of-2 Inv-loop μ-loop
+sub-end-of-2 c = omega arith
+
+end-of-requires : tie.Need-end-of-requires Inv-loop μ-loop
+end-of-requires c κs = tt
+
+put-byte-requires-3 : tie.Need-put-byte-requires-3 Inv-loop μ-loop
+put-byte-requires-3 c κs = tt
+
+add-to-2 : tie.Need-add-to-2 Inv-loop μ-loop
+add-to-2 c = omega arith
+
+add-i : tie.Need-add-i Inv-loop μ-loop
+add-i c = omega arith
+
+loop-less : tie.Need-loop-less Inv-loop μ-loop
+loop-less c = omega arith
+
+loop-again : tie.Need-loop-again Inv-loop μ-loop
+loop-again c = (omega arith, omega arith, line-turned _ _ _ (c .before .before .before .before .before .before .before .before .before .loop-test .taken) (search needs) (c .before .before .before .before .before .before .before .before .before .before .loop .inv .2) _ _ _ _ (c .before .before .before .before .before .before .before .write-number .ensures .1 .0) (c .before .before .before .before .before .before .before .write-number .ensures .0) (c .before .before .before .end-of .ensures) (c .before .before .put-byte3 .ensures))
+
+same-length : tie.Need-same-length Inv-loop μ-loop
+same-length c = ap length (line-done (c .before .before .before .before .before .before .before .before .before .before .before .args .t4) _ _ (c .loop-test .left) (c .before .loop .inv .2) .1 ∙ line-begun (c .before .before .before .before .before .before .before .before .before .before .before .args .letter) (c .before .before .before .before .before .before .before .before .before .before .before .args .at) (take (c .before .before .before .before .before .before .before .before .before .before .before .args .count) (c .before .before .before .before .before .before .before .before .before .before .before .args .t4)) (c .before .before .before .before .before .before .before .before .before .before .before .args .buf .now) _ _ (c .before .before .before .before .before .before .before .before .put-byte .ensures) (c .before .before .before .before .put-byte2 .ensures)) ∙ simp length-sets
+
+returns : tie.Need-returns Inv-loop μ-loop
+returns c =
+    let d = line-done (c .before .before .before .before .before .before .before .before .before .before .before .args .t4) _ _ (c .loop-test .left) (c .before .loop .inv .2) in
+    (d .0 ∙ line-length _ _ _, (omega arith, d .1 ∙ line-begun (c .before .before .before .before .before .before .before .before .before .before .before .args .letter) (c .before .before .before .before .before .before .before .before .before .before .before .args .at) (take (c .before .before .before .before .before .before .before .before .before .before .before .args .count) (c .before .before .before .before .before .before .before .before .before .before .before .args .t4)) (c .before .before .before .before .before .before .before .before .before .before .before .args .buf .now) _ _ (c .before .before .before .before .before .before .before .before .put-byte .ensures) (c .before .before .before .before .put-byte2 .ensures)))
+
+pub put-line-spec : {M : Type 1} → statement M
+put-line-spec =
+    tie.close
+    (tie.spec
+    Inv-loop
+    μ-loop
+    put-byte-requires
+    add-put-byte
+    put-byte-requires-2
+    add-to
+    loop-holds
+    mul-write-number
+    array-read-write-number
+    write-number-requires
+    sub-end-of
+    sub-end-of-2
+    end-of-requires
+    put-byte-requires-3
+    add-to-2
+    add-i
+    loop-less
+    loop-again
+    same-length
+    returns)

@@ -1,0 +1,24 @@
+use Rattle.writer.proofs.Writing.{text-written}
+use borrow.Author.Needs.{needs}
+use Rattle.writer.proofs.put_text.Statement.{statement}
+use Rattle.writer.proofs.put_text.Tie as tie
+
+put-line-requires : tie.Need-put-line-requires
+put-line-requires c κs = search needs
+
+put-edges-requires : tie.Need-put-edges-requires
+put-edges-requires c κs = search needs
+
+put-terminals-requires : tie.Need-put-terminals-requires
+put-terminals-requires c κs = search needs
+
+same-length : tie.Need-same-length
+same-length c = search needs
+
+returns : tie.Need-returns
+returns c = text-written _ _ _ _ _ _ _ _ (c .before .before .before .before .before .before .before .before .before .before .put-line .ensures .0) (c .before .before .before .before .before .before .before .before .before .before .put-line .ensures .1 .1) (c .before .before .before .before .before .before .put-edges .ensures .0) (c .before .before .before .before .before .before .put-edges .ensures .1 .1) (c .before .before .put-terminals .ensures .0) (c .before .before .put-terminals .ensures .1)
+
+pub put-text-spec : {M : Type 1} → statement M
+put-text-spec =
+    tie.close
+    (tie.spec put-line-requires put-edges-requires put-terminals-requires same-length returns)

@@ -1,0 +1,45 @@
+use mathlib.Core.Path.{_≡_, refl, sym, ap, _∙_}
+use Prim.Native.Nat.{ℕ, _+_, _≤_}
+use native.Mathlib.Omega.{arith}
+use borrow.Author.Tests.{not-true, not-false}
+use Rattle.writer.proofs.Writing.{loaded-counts, write-closed, write-short, write-done}
+use borrow.Author.Needs.{needs}
+use Rattle.writer.proofs.write.Statement.{statement}
+use Rattle.writer.proofs.write.Tie as tie
+
+loaded-requires : tie.Need-loaded-requires
+loaded-requires c κs = search needs
+
+returns : tie.Need-returns
+returns c = write-closed (c .before .before .before .before .args .b) _ (sym (c .before .loaded .ensures) ∙ not-true _ (c .if1 .taken))
+
+slice-aggregate-put-text : tie.Need-slice-aggregate-put-text
+slice-aggregate-put-text c = search needs
+
+put-text-requires : tie.Need-put-text-requires
+put-text-requires c κs = loaded-counts _ _ (sym (c .before .before .loaded .ensures) ∙ not-false _ (c .before .if1 .left))
+
+returns-2 : tie.Need-returns-2
+returns-2 c = write-short (c .before .before .before .before .before .before .before .before .args .b) (c .before .before .before .before .before .before .before .before .args .buf .now) (sym (c .before .before .before .before .before .loaded .ensures) ∙ not-false _ (c .before .before .before .before .if1 .left)) (omega (arith, c .if2 .taken, c .before .before .put-text .ensures .0))
+
+put-text-requires-2 : tie.Need-put-text-requires-2
+put-text-requires-2 c κs = loaded-counts _ _ (sym (c .before .before .before .before .before .before .loaded .ensures) ∙ not-false _ (c .before .before .before .before .before .if1 .left))
+
+same-length : tie.Need-same-length
+same-length c = search needs
+
+returns-3 : tie.Need-returns-3
+returns-3 c = write-done (c .before .before .before .before .before .before .before .before .before .before .before .before .args .b) (c .before .before .before .before .before .before .before .before .before .before .before .before .args .buf .now) (sym (c .before .before .before .before .before .before .before .before .before .loaded .ensures) ∙ not-false _ (c .before .before .before .before .before .before .before .before .if1 .left)) _ _ (omega (arith, c .before .before .before .before .if2 .left, c .before .before .before .before .before .before .put-text .ensures .0)) (c .before .before .put-text2 .ensures .0) (c .before .before .put-text2 .ensures .1)
+
+pub write-spec : {M : Type 1} → statement M
+write-spec =
+    tie.close
+    (tie.spec
+    loaded-requires
+    returns
+    slice-aggregate-put-text
+    put-text-requires
+    returns-2
+    put-text-requires-2
+    same-length
+    returns-3)
