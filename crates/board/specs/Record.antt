@@ -7,6 +7,16 @@ use Rattle.board.specs.declared.Network.{Network}
 use Rattle.board.specs.declared.Entry.{Entry}
 use Rattle.board.specs.declared.Move.the-variants.{Carry}
 
+-- the stages of a board: no board was loaded, play goes on, a finish was accepted
+abbrev pub closedStage : ℕ
+closedStage = 0
+
+abbrev pub playStage : ℕ
+playStage = 1
+
+abbrev pub finishedStage : ℕ
+finishedStage = 2
+
 -- what the places of the journal past the standing moves hold
 abbrev pub blank : Entry
 blank = record { step = Carry (record { terminal = 0; edge = 0 }) }
@@ -28,7 +38,7 @@ emptyNetwork = record {
 -- the closed board, which a refused load gives
 unfoldable pub closedBoard : Board
 closedBoard = record {
-  stage = 0;
+  stage = closedStage;
   network = emptyNetwork;
   acyclic = replicate maxEdges 0;
   flows = replicate maxEdges 0;

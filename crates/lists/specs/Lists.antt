@@ -3,7 +3,6 @@ use mathlib.Core.Bool.{Bool, true, false}
 use mathlib.Core.List.{List, [], _∷_}
 use Prim.Native.Nat.{ℕ, zero, suc, _+_}
 use lib.Dec.{eqb}
-use Rattle.lists.specs.Choice.{pick, both}
 
 -- how many elements stand before the first b: all of them where there is none
 unfoldable pub indexOf : ℕ → List ℕ → ℕ

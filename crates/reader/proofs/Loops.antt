@@ -1,20 +1,19 @@
 -- One turn of the loops over lines, and the first line, from what the code knows after it has read a line.
 use mathlib.Core.Path.{_≡_, refl, sym, ap, _∙_}
-use mathlib.Core.Bool.{Bool, true, false}
-use mathlib.Core.List.{List, [], _∷_, _++_}
-use Prim.Native.Nat.{ℕ, zero, suc, _+_, _-_, _<_, _≤_}
+use mathlib.Core.List.{List, [], _∷_}
+use Prim.Native.Nat.{ℕ, suc, _+_, _-_, _<_, _≤_}
 use native.Mathlib.Numerals.{add-one}
 use native.Mathlib.Omega.{arith}
-use lib.Dec.{lit<, ltb}
-use lib.ListN.{length, getD, take, drop, set}
+use lib.Dec.{lit<}
+use lib.ListN.{length, getD, take, drop}
 use lib.Seq.{drop-drop, getD-take, take-all}
 use borrow.Author.Tests.{lt-ltb, le-ltb}
 use Rattle.lists.specs.Choice.{pick}
 use Rattle.text.specs.declared.Range.{Range}
 use Rattle.text.specs.declared.Line.{Line}
 use Rattle.board.specs.declared.Network.{Network}
-use Rattle.text.specs.Views.{answered, lineRead, headerPart}
-use Rattle.text.specs.Text.{Read, refused, got, then, line, lines, between, headRanges, edgeRanges, terminalRanges, header, headed, column, withEdges, withTerminals, edgeLines, terminalLines}
+use Rattle.text.specs.Views.{lineRead, headerPart}
+use Rattle.text.specs.Text.{Read, refused, got, then, line, lines, headRanges, edgeRanges, terminalRanges, header, headed, withEdges, withTerminals, edgeLines, terminalLines}
 use Rattle.reader.proofs.Turns.{rest-part, answered-got, answered-refused, lines-turn, lines-stop}
 
 -- a run of k lines of which i are read, and the line read next

@@ -10,13 +10,11 @@ use text::Reading;
 ghost use mathlib.Core.Path.{_≡_};
 ghost use mathlib.Core.List.{[], _∷_, _++_};
 ghost use Prim.Native.Nat.{_+_, _-_, _≤_, _<_};
-ghost use lib.Dec.{leb, ltb};
-ghost use lib.ListN.{length, getD, take, drop};
-ghost use Rattle.lists.specs.Choice.{pick, both};
+ghost use lib.ListN.{length, take, drop};
 ghost use Rattle.board.specs.Limits.{maxEdges, maxTerminals};
-ghost use Rattle.text.specs.Text.{Read, then, got, refused, field, line, between, vertexBelow, headRanges, edgeRanges, terminalRanges, header, headed, withEdges, withTerminals, edgeLines, terminalLines, layout};
+ghost use Rattle.text.specs.Text.{field, line, between, headRanges, edgeRanges, terminalRanges, header, headed, withEdges, withTerminals, edgeLines, terminalLines, layout};
 ghost use Rattle.text.specs.Views.{fieldRead, lineRead, partRead, headerPart};
-ghost use Rattle.text.specs.Results.{readText, refusal};
+ghost use Rattle.text.specs.Results.{readText};
 
 // A number field at the start of s, and the byte that must end it.
 fn field(s: &[u8], range: Range, end: u8) -> Field

@@ -1,11 +1,11 @@
 -- What the calls answer.
-use mathlib.Core.Bool.{Bool, true, false}
+use mathlib.Core.Bool.{Bool}
 use mathlib.Core.List.{List, _++_}
 use Prim.Native.Nat.{ℕ}
 use lib.Dec.{leb, eqb}
 use lib.ListN.{length, drop}
 use Rattle.lists.specs.Choice.{pick, both}
-use Rattle.board.specs.Record.{emptyNetwork}
+use Rattle.board.specs.Record.{emptyNetwork, playStage, finishedStage}
 use Rattle.text.specs.Text.{Read, refused, got, layout, textOf}
 use Rattle.rules.specs.Rules.{judged, lawful}
 use Rattle.board.specs.declared.Network.{Network}
@@ -33,7 +33,7 @@ readText s = outcome (layout s)
 
 -- a board that a load gave: in play or finished, over a lawful network
 unfoldable pub loaded : ℕ → Network → Bool
-loaded stage net = both (both (leb 1 stage) (leb stage 2)) (lawful net)
+loaded stage net = both (both (leb playStage stage) (leb stage finishedStage)) (lawful net)
 
 -- writing into a buffer of n bytes: 29 where no board was loaded, then 8, else 0 and the length of the text
 unfoldable pub writeText : Board → ℕ → Written

@@ -1,6 +1,5 @@
 -- The board text: how it is read, with refusals 1 and 2, and how it is printed.
-use mathlib.Core.Bool.{Bool, true, false}
-use mathlib.Core.List.{List, [], _∷_, _++_, map}
+use mathlib.Core.List.{List, [], _∷_, _++_}
 use Prim.Native.Nat.{ℕ, zero, suc, _+_, _-_}
 use lib.Dec.{leb, ltb, eqb}
 use lib.ListN.{length, getD, take, drop, replicate}
@@ -11,7 +10,6 @@ use Rattle.decimal.specs.declared.Number.{Number}
 use Rattle.decimal.specs.declared.Number.the-variants.{Value, Malformed}
 use Rattle.decimal.specs.Decimal.{numberOf, decimal}
 use Rattle.board.specs.Limits.{maxVertices, maxEdges, maxTerminals, maxFlow}
-use Rattle.board.specs.Record.{emptyNetwork}
 use Rattle.board.specs.declared.Network.{Network}
 use Rattle.text.specs.declared.Range.{Range}
 

@@ -1,5 +1,4 @@
 -- What the reader's structs stand for: a value with the text behind it, or a refusal.
-use mathlib.Core.Bool.{Bool}
 use mathlib.Core.List.{List}
 use Prim.Native.Nat.{ℕ}
 use lib.Dec.{eqb}

@@ -9,6 +9,7 @@ use borrow.Author.Tests.{le-leb}
 use Rattle.lists.specs.Choice.{pick}
 use Rattle.lists.proofs.Laws.{both-true}
 use Rattle.board.specs.declared.Network.{Network}
+use Rattle.board.specs.Record.{playStage, finishedStage}
 use Rattle.board.specs.declared.Board.{Board}
 use Rattle.rules.specs.Rules.{lawful}
 use Rattle.rules.proofs.Meaning.{lawful-tested}
@@ -16,7 +17,7 @@ use Rattle.text.specs.Text.{textOf}
 use Rattle.text.specs.Results.{readText, loaded, writeText, written}
 use Rattle.text.proofs.Accepted.{acceptedAs, accepted}
 
-loaded-stage : (stage : ℕ) (net : Network) → (1 ≤ stage) × (stage ≤ 2) → lawful net ≡ true → loaded stage net ≡ true
+loaded-stage : (stage : ℕ) (net : Network) → (playStage ≤ stage) × (stage ≤ finishedStage) → lawful net ≡ true → loaded stage net ≡ true
 unfolding loaded
 loaded-stage stage net h l = both-true _ _ (both-true _ _ (le-leb _ _ (h .0)) (le-leb _ _ (h .1))) l
 
@@ -26,7 +27,7 @@ unfolding writeText written pick
 writes b buf l fits = let e = le-leb (length (textOf (b .network))) (length buf) fits in (rw (l, e), rw (l, e))
 
 -- at every stage of play, into any buffer that is long enough, the text that was loaded, with the bytes past it kept
-pub writes-loaded : (s : List ℕ) (b : Board) (buf : List ℕ) → readText s ≡ acceptedAs (b .network) → (1 ≤ b .stage) × (b .stage ≤ 2) → length s ≤ length buf
+pub writes-loaded : (s : List ℕ) (b : Board) (buf : List ℕ) → readText s ≡ acceptedAs (b .network) → (playStage ≤ b .stage) × (b .stage ≤ finishedStage) → length s ≤ length buf
     → (writeText b (length buf) ≡ record { answer = 0; used = length s }) × (written b buf ≡ s ++ drop (length s) buf)
 writes-loaded s b buf h stage fits =
     let a = accepted s (b .network) h in

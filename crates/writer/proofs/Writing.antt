@@ -1,9 +1,9 @@
 -- Writing a text part by part: stores behind each other are the stores of the whole, so what is left to write into the buffer as it is now
 -- gives what the whole text gives, written into the first buffer.
-use mathlib.Core.Path.{_≡_, refl, sym, ap, _∙_}
-use mathlib.Core.Bool.{Bool, true, false}
+use mathlib.Core.Path.{_≡_, refl, sym, _∙_}
+use mathlib.Core.Bool.{true, false}
 use mathlib.Core.List.{List, [], _∷_, _++_, append-nil}
-use Prim.Native.Nat.{ℕ, zero, suc, _+_, _-_, _<_, _≤_}
+use Prim.Native.Nat.{ℕ, suc, _+_, _-_, _<_, _≤_}
 use native.Mathlib.Numerals.{add-one, towards-suc}
 use native.Mathlib.Nat.{add-zero, zero-add}
 use native.Mathlib.Omega.{arith}
@@ -12,7 +12,7 @@ use lib.ListN.{length, getD, set, take, drop, length-append, length-take, drop-o
 use lib.Seq.{sets, sets-eq, drop-cons, length-take-le, getD-take}
 use Rattle.lists.specs.Choice.{pick}
 use Rattle.decimal.specs.Decimal.{decimal}
-use Rattle.text.specs.Text.{endOf, numbersText, lineText, linesText, headRow, edgeRow, terminalRow, textOf}
+use Rattle.text.specs.Text.{numbersText, lineText, linesText, headRow, edgeRow, terminalRow, textOf}
 use borrow.Author.Tests.{leb-true, le-leb, lt-leb}
 use Rattle.lists.proofs.Laws.{both-left, both-right}
 use Rattle.board.specs.declared.Board.{Board}

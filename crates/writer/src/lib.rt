@@ -5,13 +5,10 @@ use text::Written;
 ghost use mathlib.Core.Path.{_≡_};
 ghost use mathlib.Core.List.{[], _∷_, _++_};
 ghost use Prim.Native.Nat.{_+_, _-_, _*_, _≤_, _<_};
-ghost use lib.Dec.{leb};
 ghost use lib.ListN.{length, take};
 ghost use lib.Seq.{sets};
-ghost use Rattle.lists.specs.Choice.{both};
 ghost use Rattle.board.specs.Limits.{maxEdges, maxTerminals};
-ghost use Rattle.rules.specs.Rules.{lawful};
-ghost use Rattle.text.specs.Text.{lineText, linesText, headRow, edgeRow, terminalRow, textOf};
+ghost use Rattle.text.specs.Text.{lineText, linesText, edgeRow, terminalRow, textOf};
 ghost use Rattle.text.specs.Results.{loaded, writeText, written};
 
 // Writes a line at a place of the buffer, and answers the place behind it.

@@ -1,5 +1,5 @@
 use mathlib.Core.Path.{_≡_, refl, sym, ap, _∙_}
-use Prim.Native.Nat.{ℕ, _+_, _-_, _<_, _≤_}
+use Prim.Native.Nat.{_-_, _≤_}
 use native.Mathlib.Nat.{sub-zero}
 use native.Mathlib.Omega.{arith}
 use borrow.Author.Needs.{needs}
@@ -13,7 +13,8 @@ use Rattle.reader.proofs.edge_lines.Tie as tie
 
 abbrev Inv-loop : tie.InvT-loop
 Inv-loop s start ranges edges out₀ at₀ i₀ out at i =
-    (i ≤ edges) × (at ≤ length s) × (out .vertices ≡ out₀ .vertices) × (edgeLines out i (edges - i) (drop at s) ≡ edgeLines out₀ 0 edges (drop start s))
+    (i ≤ edges) × (at ≤ length s) × (out .vertices ≡ out₀ .vertices) ×
+    (edgeLines out i (edges - i) (drop at s) ≡ edgeLines out₀ 0 edges (drop start s))
 
 abbrev μ-loop : tie.MeasureT-loop
 μ-loop s start ranges edges out₀ at₀ i₀ out at i = edges - i
@@ -43,14 +44,26 @@ refused-requires : tie.Need-refused-requires Inv-loop μ-loop
 refused-requires c κs = tt
 
 returns : tie.Need-returns Inv-loop μ-loop
-returns c = (answered-refused _ _ _ _ _ (c .refused .ensures .0) (c .before .if1 .taken) ∙ edge-stop (c .before .before .before .before .before .before .loop .out) (c .before .before .before .before .before .before .loop .out) (c .before .before .before .before .before .before .before .before .edge-ranges .result) _ _ (c .before .before .before .before .before .before .loop .at) (c .before .before .before .before .before .before .before .before .before .before .args .s .now) _ (c .before .before .before .before .before .loop-test .taken) (c .before .before .before .line .result) (c .before .before .before .before .before .before .loop .inv .3) (ap (take 3) (c .before .before .before .before .before .before .before .before .edge-ranges .ensures) ∙ ap edgeRanges (sym (c .before .before .before .before .before .before .loop .inv .2))) (c .before .before .before .line .ensures .0) (c .before .if1 .taken), omega arith)
+returns c =
+    let at-if1 = c .before .if1 in
+    let at-line = c .before .before .before .line in
+    let at-loop-test = c .before .before .before .before .before .loop-test in
+    let at-loop = c .before .before .before .before .before .before .loop in
+    let at-edge-ranges = c .before .before .before .before .before .before .before .before .edge-ranges in
+    let at-args = c .before .before .before .before .before .before .before .before .before .before .args in (
+      answered-refused _ _ _ _ _ (c .refused .ensures .0) (at-if1 .taken)
+          ∙ edge-stop (at-loop .out) (at-loop .out) (at-edge-ranges .result) _ _ (at-loop .at) (at-args .s .now) _ (at-loop-test .taken) (at-line .result)
+          (at-loop .inv .3) (ap (take 3) (at-edge-ranges .ensures) ∙ ap edgeRanges (sym (at-loop .inv .2))) (at-line .ensures .0) (at-if1 .taken),
+      omega arith,
+    )
 
 with-edge-requires : tie.Need-with-edge-requires Inv-loop μ-loop
 with-edge-requires c κs = omega arith
 
 add-at : tie.Need-add-at Inv-loop μ-loop
 add-at c =
-    let u = rest-used (c .before .before .before .before .before .before .before .before .before .before .before .before .args .s .now) _ _ (c .before .before .before .before .before .before .before .before .loop .inv .1) (c .before .before .before .before .before .line .ensures .1) in
+    let u = rest-used (c .before .before .before .before .before .before .before .before .before .before .before .before .args .s .now) _ _
+    (c .before .before .before .before .before .before .before .before .loop .inv .1) (c .before .before .before .before .before .line .ensures .1) in
     omega arith
 
 add-i : tie.Need-add-i Inv-loop μ-loop
@@ -60,7 +73,21 @@ loop-less : tie.Need-loop-less Inv-loop μ-loop
 loop-less c = omega arith
 
 loop-again : tie.Need-loop-again Inv-loop μ-loop
-loop-again c = (omega arith, rest-used (c .before .before .before .before .before .before .before .before .before .before .before .before .args .s .now) _ _ (c .before .before .before .before .before .before .before .before .loop .inv .1) (c .before .before .before .before .before .line .ensures .1), ap (λ (net : Network). net .vertices) (c .before .with-edge .ensures) ∙ c .before .before .before .before .before .before .before .before .loop .inv .2, edge-step (c .before .before .before .before .before .before .before .before .loop .out) (c .before .with-edge .result) (c .before .before .before .before .before .before .before .before .before .before .edge-ranges .result) _ _ (c .before .before .before .before .before .before .before .before .loop .at) (c .before .before .before .before .before .before .before .before .before .before .before .before .args .s .now) _ (c .before .before .before .before .before .before .before .loop-test .taken) (c .before .before .before .before .before .line .result) (c .before .before .before .before .before .before .before .before .loop .inv .3) (ap (take 3) (c .before .before .before .before .before .before .before .before .before .before .edge-ranges .ensures) ∙ ap edgeRanges (sym (c .before .before .before .before .before .before .before .before .loop .inv .2))) (c .before .before .before .before .before .line .ensures .0) (c .before .before .before .if1 .left) (c .before .with-edge .ensures))
+loop-again c =
+    let at-with-edge = c .before .with-edge in
+    let at-if1 = c .before .before .before .if1 in
+    let at-line = c .before .before .before .before .before .line in
+    let at-loop-test = c .before .before .before .before .before .before .before .loop-test in
+    let at-loop = c .before .before .before .before .before .before .before .before .loop in
+    let at-edge-ranges = c .before .before .before .before .before .before .before .before .before .before .edge-ranges in
+    let at-args = c .before .before .before .before .before .before .before .before .before .before .before .before .args in (
+      omega arith,
+      rest-used (at-args .s .now) _ _ (at-loop .inv .1) (at-line .ensures .1),
+      ap (λ (net : Network). net .vertices) (at-with-edge .ensures) ∙ at-loop .inv .2,
+      edge-step (at-loop .out) (at-with-edge .result) (at-edge-ranges .result) _ _ (at-loop .at) (at-args .s .now) _ (at-loop-test .taken)
+          (at-line .result) (at-loop .inv .3) (ap (take 3) (at-edge-ranges .ensures) ∙ ap edgeRanges (sym (at-loop .inv .2))) (at-line .ensures .0)
+          (at-if1 .left) (at-with-edge .ensures),
+    )
 
 returns-2 : tie.Need-returns-2 Inv-loop μ-loop
 returns-2 c = (answered-got _ _ _ _ refl ∙ sym (edge-end _ _ _ _ (c .loop-test .left)) ∙ c .before .loop .inv .3, omega arith)

@@ -1,5 +1,4 @@
-use mathlib.Core.Path.{_≡_, sym, ap, _∙_}
-use Prim.Native.Nat.{ℕ, _+_, _≤_}
+use mathlib.Core.Path.{sym, _∙_}
 use native.Mathlib.Omega.{arith}
 use lib.Seq.{length-take-le}
 use Rattle.lists.specs.Choice.{pick}
@@ -36,15 +35,37 @@ enum-told c = search needs
 
 returns-2 : tie.Need-returns-2
 unfolding answered pick
-returns-2 c = (field-in _ _ _ _ (c .before .before .before .before .before .before .before .before .index-of .ensures) (c .before .before .before .before .before .before .before .if1 .left) _ (sym (c .before .before .before .before .before .read-number .ensures) ∙ c .before .before .before .found .given .1) (sym (c .before .holds .ensures) ∙ c .if2 .taken), omega arith)
+returns-2 c =
+    let at-holds = c .before .holds in
+    let at-found = c .before .before .before .found in
+    let at-read-number = c .before .before .before .before .before .read-number in
+    let at-if1 = c .before .before .before .before .before .before .before .if1 in
+    let at-index-of = c .before .before .before .before .before .before .before .before .index-of in (
+      field-in _ _ _ _ (at-index-of .ensures) (at-if1 .left) _ (sym (at-read-number .ensures) ∙ at-found .given .1)
+          (sym (at-holds .ensures) ∙ c .if2 .taken),
+      omega arith,
+    )
 
 returns-3 : tie.Need-returns-3
 unfolding answered pick
-returns-3 c = (field-out _ _ _ _ (c .before .before .before .before .before .before .before .before .index-of .ensures) (c .before .before .before .before .before .before .before .if1 .left) _ (sym (c .before .before .before .before .before .read-number .ensures) ∙ c .before .before .before .found .given .1) (sym (c .before .holds .ensures) ∙ c .if2 .left), omega arith)
+returns-3 c =
+    let at-holds = c .before .holds in
+    let at-found = c .before .before .before .found in
+    let at-read-number = c .before .before .before .before .before .read-number in
+    let at-if1 = c .before .before .before .before .before .before .before .if1 in
+    let at-index-of = c .before .before .before .before .before .before .before .before .index-of in (
+      field-out _ _ _ _ (at-index-of .ensures) (at-if1 .left) _ (sym (at-read-number .ensures) ∙ at-found .given .1)
+          (sym (at-holds .ensures) ∙ c .if2 .left),
+      omega arith,
+    )
 
 returns-4 : tie.Need-returns-4
 unfolding answered pick
-returns-4 c = (field-malformed _ _ _ _ (c .before .before .before .before .before .index-of .ensures) (c .before .before .before .before .if1 .left) (sym (c .before .before .read-number .ensures) ∙ c .enum-told .given .1), omega arith)
+returns-4 c =
+    let at-read-number = c .before .before .read-number in
+    let at-if1 = c .before .before .before .before .if1 in
+    let at-index-of = c .before .before .before .before .before .index-of in
+    (field-malformed _ _ _ _ (at-index-of .ensures) (at-if1 .left) (sym (at-read-number .ensures) ∙ c .enum-told .given .1), omega arith)
 
 pub field-spec : {M : Type 1} → statement M
 field-spec =

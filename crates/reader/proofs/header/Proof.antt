@@ -1,11 +1,10 @@
-use mathlib.Core.Path.{_≡_, refl, sym, ap, _∙_}
-use Prim.Native.Nat.{ℕ, _+_, _≤_}
+use mathlib.Core.Path.{refl, ap, _∙_}
 use native.Mathlib.Omega.{arith}
 use mathlib.Core.List.{List}
 use lib.ListN.{take, drop}
 use Rattle.text.specs.declared.Range.{Range}
 use Rattle.board.specs.declared.Network.{Network}
-use Rattle.text.specs.Text.{Read, got, line, headed}
+use Rattle.text.specs.Text.{got, line, headed}
 use Rattle.reader.proofs.Turns.{answered-got, answered-refused}
 use Rattle.reader.proofs.Loops.{head-stop, head-source, head-got}
 use borrow.Author.Needs.{needs}
@@ -22,7 +21,16 @@ refused-requires : tie.Need-refused-requires
 refused-requires c κs = search needs
 
 returns : tie.Need-returns
-returns c = (answered-refused _ _ _ _ _ (c .refused .ensures .0) (c .before .if1 .taken) ∙ head-stop _ (c .before .before .before .line .result) (c .before .before .before .line .ensures .0 ∙ ap (λ (rs : List Range). line 66 (take 4 rs) (c .before .before .before .before .before .before .args .s .now)) (c .before .before .before .before .head-ranges .ensures)) (c .before .if1 .taken), omega arith)
+returns c =
+    let at-if1 = c .before .if1 in
+    let at-line = c .before .before .before .line in
+    let at-head-ranges = c .before .before .before .before .head-ranges in
+    let at-args = c .before .before .before .before .before .before .args in (
+      answered-refused _ _ _ _ _ (c .refused .ensures .0) (at-if1 .taken)
+          ∙ head-stop _ (at-line .result)
+          (at-line .ensures .0 ∙ ap (λ (rs : List Range). line 66 (take 4 rs) (at-args .s .now)) (at-head-ranges .ensures)) (at-if1 .taken),
+      omega arith,
+    )
 
 array-read-vertices : tie.Need-array-read-vertices
 array-read-vertices c = search needs
@@ -34,13 +42,35 @@ refused-requires-2 : tie.Need-refused-requires-2
 refused-requires-2 c κs = search needs
 
 returns-2 : tie.Need-returns-2
-returns-2 c = (answered-refused _ _ _ _ 2 (c .refused2 .ensures .0) (λ e. omega arith) ∙ head-source _ (c .before .before .before .before .before .line .result) (c .before .before .before .before .before .line .ensures .0 ∙ ap (λ (rs : List Range). line 66 (take 4 rs) (c .before .before .before .before .before .before .before .before .args .s .now)) (c .before .before .before .before .before .before .head-ranges .ensures)) (c .before .before .before .if1 .left) (search needs) (c .before .if2 .taken), omega arith)
+returns-2 c =
+    let at-if2 = c .before .if2 in
+    let at-if1 = c .before .before .before .if1 in
+    let at-line = c .before .before .before .before .before .line in
+    let at-head-ranges = c .before .before .before .before .before .before .head-ranges in
+    let at-args = c .before .before .before .before .before .before .before .before .args in (
+      answered-refused _ _ _ _ 2 (c .refused2 .ensures .0) (λ e. omega arith)
+          ∙ head-source _ (at-line .result)
+          (at-line .ensures .0 ∙ ap (λ (rs : List Range). line 66 (take 4 rs) (at-args .s .now)) (at-head-ranges .ensures)) (at-if1 .left) (search needs)
+          (at-if2 .taken),
+      omega arith,
+    )
 
 headed-requires : tie.Need-headed-requires
 headed-requires c κs = search needs
 
 returns-3 : tie.Need-returns-3
-returns-3 c = (answered-got _ _ _ _ refl ∙ ap (λ (net : Network). got net (drop (c .before .before .before .before .before .line .result .used) (c .before .before .before .before .before .before .before .before .args .s .now))) (c .headed .ensures) ∙ head-got _ (c .before .before .before .before .before .line .result) (c .before .before .before .before .before .line .ensures .0 ∙ ap (λ (rs : List Range). line 66 (take 4 rs) (c .before .before .before .before .before .before .before .before .args .s .now)) (c .before .before .before .before .before .before .head-ranges .ensures)) (c .before .before .before .if1 .left) (search needs) (c .before .if2 .left), omega arith)
+returns-3 c =
+    let at-if2 = c .before .if2 in
+    let at-if1 = c .before .before .before .if1 in
+    let at-line = c .before .before .before .before .before .line in
+    let at-head-ranges = c .before .before .before .before .before .before .head-ranges in
+    let at-args = c .before .before .before .before .before .before .before .before .args in (
+      answered-got _ _ _ _ refl
+          ∙ ap (λ (net : Network). got net (drop (at-line .result .used) (at-args .s .now))) (c .headed .ensures)
+          ∙ head-got _ (at-line .result) (at-line .ensures .0 ∙ ap (λ (rs : List Range). line 66 (take 4 rs) (at-args .s .now)) (at-head-ranges .ensures))
+          (at-if1 .left) (search needs) (at-if2 .left),
+      omega arith,
+    )
 
 pub header-spec : {M : Type 1} → statement M
 header-spec =

@@ -1,14 +1,9 @@
-use mathlib.Core.Path.{_≡_, refl, sym, ap, _∙_}
-use Prim.Native.Nat.{ℕ, _+_, _-_, _<_, _≤_}
+use mathlib.Core.Path.{_≡_, refl, sym, _∙_}
+use Prim.Native.Nat.{_-_, _≤_}
 use native.Mathlib.Omega.{arith}
 use borrow.Author.Needs.{needs}
-use borrow.Author.Tests.{eq-eqb, ne-eqb}
-use lib.ListN.{length, take, drop, length-set, length-take}
-use lib.Dec.{lit<}
-use native.Mathlib.Nat.{ne-of-gt}
-use Rattle.lists.specs.Choice.{pick, both}
+use lib.ListN.{length, take, length-set, length-take}
 use Rattle.text.specs.Text.{line}
-use Rattle.text.specs.Views.{answered}
 use Rattle.reader.proofs.Turns.{lineRest, line-end, line-step, line-step-stop, rest-used, then-got, answered-got, answered-refused, line-letter, line-comma, line-opened, two-bytes}
 use Rattle.reader.proofs.line.Statement.{statement}
 use Rattle.reader.proofs.line.Tie as tie
@@ -27,7 +22,13 @@ refused-line-requires : tie.Need-refused-line-requires Inv-loop μ-loop
 refused-line-requires c κs = tt
 
 returns : tie.Need-returns Inv-loop μ-loop
-returns c = (answered-refused _ _ _ _ 1 (c .refused-line .ensures .0) (λ e. omega arith) ∙ sym (line-letter _ _ _ (λ e. c .before .if1 .taken (c .before .before .byte-at .ensures ∙ e))), omega arith)
+returns c =
+    let at-if1 = c .before .if1 in
+    let at-byte-at = c .before .before .byte-at in (
+      answered-refused _ _ _ _ 1 (c .refused-line .ensures .0) (λ e. omega arith)
+          ∙ sym (line-letter _ _ _ (λ e. at-if1 .taken (at-byte-at .ensures ∙ e))),
+      omega arith,
+    )
 
 byte-at-requires-2 : tie.Need-byte-at-requires-2 Inv-loop μ-loop
 byte-at-requires-2 c κs = tt
@@ -36,12 +37,29 @@ refused-line-requires-2 : tie.Need-refused-line-requires-2 Inv-loop μ-loop
 refused-line-requires-2 c κs = tt
 
 returns-2 : tie.Need-returns-2 Inv-loop μ-loop
-returns-2 c = (answered-refused _ _ _ _ 1 (c .refused-line2 .ensures .0) (λ e. omega arith) ∙ sym (line-comma _ _ _ (sym (c .before .before .before .before .byte-at .ensures) ∙ c .before .before .before .if1 .left) (λ e. c .before .if2 .taken (c .before .before .byte-at2 .ensures ∙ e))), omega arith)
+returns-2 c =
+    let at-if2 = c .before .if2 in
+    let at-byte-at2 = c .before .before .byte-at2 in
+    let at-if1 = c .before .before .before .if1 in
+    let at-byte-at = c .before .before .before .before .byte-at in (
+      answered-refused _ _ _ _ 1 (c .refused-line2 .ensures .0) (λ e. omega arith)
+          ∙ sym (line-comma _ _ _ (sym (at-byte-at .ensures) ∙ at-if1 .left) (λ e. at-if2 .taken (at-byte-at2 .ensures ∙ e))),
+      omega arith,
+    )
 
 loop-holds : tie.Need-loop-holds Inv-loop μ-loop
 loop-holds c =
-    let comma = sym (c .before .byte-at2 .ensures) ∙ c .if2 .left in
-    (omega arith, omega arith, two-bytes (c .before .before .before .before .before .args .s .now) comma, search needs, then-got _ ∙ sym (line-opened _ _ _ (sym (c .before .before .before .byte-at .ensures) ∙ c .before .before .if1 .left) comma))
+    let at-byte-at2 = c .before .byte-at2 in
+    let at-if1 = c .before .before .if1 in
+    let at-byte-at = c .before .before .before .byte-at in
+    let at-args = c .before .before .before .before .before .args in
+    let comma = sym (at-byte-at2 .ensures) ∙ c .if2 .left in (
+      omega arith,
+      omega arith,
+      two-bytes (at-args .s .now) comma,
+      search needs,
+      then-got _ ∙ sym (line-opened _ _ _ (sym (at-byte-at .ensures) ∙ at-if1 .left) comma),
+    )
 
 sub-field : tie.Need-sub-field Inv-loop μ-loop
 sub-field c = omega arith
@@ -74,7 +92,19 @@ refused-line-requires-3 : tie.Need-refused-line-requires-3 Inv-loop μ-loop
 refused-line-requires-3 c κs = tt
 
 returns-3 : tie.Need-returns-3 Inv-loop μ-loop
-returns-3 c = (answered-refused _ _ _ _ _ (c .refused-line3 .ensures .0) (c .before .if3 .taken) ∙ line-step-stop _ _ (c .before .before .before .before .before .before .before .before .before .before .before .before .before .before .args .s .now) (c .before .before .before .before .before .before .before .before .loop .values) (c .before .before .before .before .before .before .before .before .loop .at) (c .before .before .before .before .before .before .before .before .loop .i) _ (c .before .before .before .before .before .before .before .before .loop .inv .4) (c .before .before .before .before .before .before .before .loop-test .taken) (search needs) (c .before .before .before .field .result) _ (c .before .before .before .before .end-of .ensures) (c .before .before .before .field .ensures .0) (c .before .if3 .taken), omega arith)
+returns-3 c =
+    let size : c .before .before .before .before .before .before .before .before .before .before .before .before .before .before .args .count ≤ length (c .before .before .before .before .before .before .before .before .before .before .before .before .before .before .args .t3) = search needs in
+    let at-if3 = c .before .if3 in
+    let at-field = c .before .before .before .field in
+    let at-end-of = c .before .before .before .before .end-of in
+    let at-loop-test = c .before .before .before .before .before .before .before .loop-test in
+    let at-loop = c .before .before .before .before .before .before .before .before .loop in
+    let at-args = c .before .before .before .before .before .before .before .before .before .before .before .before .before .before .args in (
+      answered-refused _ _ _ _ _ (c .refused-line3 .ensures .0) (at-if3 .taken)
+          ∙ line-step-stop _ _ (at-args .s .now) (at-loop .values) (at-loop .at) (at-loop .i) _ (at-loop .inv .4) (at-loop-test .taken) size
+          (at-field .result) _ (at-end-of .ensures) (at-field .ensures .0) (at-if3 .taken),
+      omega arith,
+    )
 
 mul-values : tie.Need-mul-values Inv-loop μ-loop
 mul-values c = omega arith
@@ -84,7 +114,10 @@ array-write-values c = omega arith
 
 add-at : tie.Need-add-at Inv-loop μ-loop
 add-at c =
-    let u = rest-used (c .before .before .before .before .before .before .before .before .before .before .before .before .before .before .args .s .now) _ _ (c .before .before .before .before .before .before .before .before .loop .inv .2) (c .before .before .before .field .ensures .1) in
+    let at-field = c .before .before .before .field in
+    let at-loop = c .before .before .before .before .before .before .before .before .loop in
+    let at-args = c .before .before .before .before .before .before .before .before .before .before .before .before .before .before .args in
+    let u = rest-used (at-args .s .now) _ _ (at-loop .inv .2) (at-field .ensures .1) in
     omega arith
 
 add-i : tie.Need-add-i Inv-loop μ-loop
@@ -94,13 +127,33 @@ loop-less : tie.Need-loop-less Inv-loop μ-loop
 loop-less c = omega arith
 
 loop-again : tie.Need-loop-again Inv-loop μ-loop
-loop-again c = (omega arith, omega arith, rest-used (c .before .before .before .before .before .before .before .before .before .before .before .before .before .before .args .s .now) _ _ (c .before .before .before .before .before .before .before .before .loop .inv .2) (c .before .before .before .field .ensures .1), simp length-set (omega arith), line-step _ _ (c .before .before .before .before .before .before .before .before .before .before .before .before .before .before .args .s .now) (c .before .before .before .before .before .before .before .before .loop .values) (c .before .before .before .before .before .before .before .before .loop .at) (c .before .before .before .before .before .before .before .before .loop .i) _ (c .before .before .before .before .before .before .before .before .loop .inv .4) (c .before .before .before .before .before .before .before .loop-test .taken) (search needs) (c .before .before .before .field .result) _ (c .before .before .before .before .end-of .ensures) (c .before .before .before .field .ensures .0) (c .before .if3 .left) (omega arith))
+loop-again c =
+    let size : c .before .before .before .before .before .before .before .before .before .before .before .before .before .before .args .count ≤ length (c .before .before .before .before .before .before .before .before .before .before .before .before .before .before .args .t3) = search needs in
+    let at-if3 = c .before .if3 in
+    let at-field = c .before .before .before .field in
+    let at-end-of = c .before .before .before .before .end-of in
+    let at-loop-test = c .before .before .before .before .before .before .before .loop-test in
+    let at-loop = c .before .before .before .before .before .before .before .before .loop in
+    let at-args = c .before .before .before .before .before .before .before .before .before .before .before .before .before .before .args in (
+      omega arith,
+      omega arith,
+      rest-used (at-args .s .now) _ _ (at-loop .inv .2) (at-field .ensures .1),
+      simp length-set (omega arith),
+      line-step _ _ (at-args .s .now) (at-loop .values) (at-loop .at) (at-loop .i) _ (at-loop .inv .4) (at-loop-test .taken) size
+          (at-field .result) _ (at-end-of .ensures) (at-field .ensures .0) (at-if3 .left) (omega arith),
+    )
 
 returns-4 : tie.Need-returns-4 Inv-loop μ-loop
 returns-4 c =
-    let n = c .before .before .before .before .before .before .before .args .count in
-    let e : c .before .loop .i ≡ n = omega arith in
-    (answered-got _ _ _ _ refl ∙ (rw e at (line-end (take n (c .before .before .before .before .before .before .before .args .t3)) (c .before .before .before .before .before .before .before .args .s .now) (c .before .loop .values) (c .before .loop .at) (c .before .loop .i) _ (c .before .loop .inv .4) (let z = length-take n (c .before .before .before .before .before .before .before .args .t3) in omega arith))), omega arith)
+    let at-loop = c .before .loop in
+    let at-args = c .before .before .before .before .before .before .before .args in
+    let n = at-args .count in
+    let e : at-loop .i ≡ n = omega arith in (
+      answered-got _ _ _ _ refl
+          ∙
+          (rw e at (line-end (take n (at-args .t3)) (at-args .s .now) (at-loop .values) (at-loop .at) (at-loop .i) _ (at-loop .inv .4) (let z = length-take n (at-args .t3) in omega arith))),
+      omega arith,
+    )
 
 pub line-spec : {M : Type 1} → statement M
 line-spec =

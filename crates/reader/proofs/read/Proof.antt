@@ -1,5 +1,4 @@
-use mathlib.Core.Path.{_≡_, sym, ap, _∙_}
-use Rattle.text.specs.Results.{refusal}
+use mathlib.Core.Path.{_∙_}
 use Rattle.reader.proofs.Whole.{read-stop, read-refused, read-accepted}
 use borrow.Author.Needs.{needs}
 use Rattle.reader.proofs.read.Statement.{statement}
@@ -12,7 +11,10 @@ refused-requires : tie.Need-refused-requires
 refused-requires c κs = search needs
 
 returns : tie.Need-returns
-returns c = c .refused .ensures ∙ read-stop _ (c .before .before .before .layout .result) (c .before .before .before .layout .ensures .0) (c .before .if1 .taken)
+returns c =
+    let at-if1 = c .before .if1 in
+    let at-layout = c .before .before .before .layout in
+    c .refused .ensures ∙ read-stop _ (at-layout .result) (at-layout .ensures .0) (at-if1 .taken)
 
 judged-requires : tie.Need-judged-requires
 judged-requires c κs = search needs
@@ -21,10 +23,19 @@ refused-requires-2 : tie.Need-refused-requires-2
 refused-requires-2 c κs = search needs
 
 returns-2 : tie.Need-returns-2
-returns-2 c = c .refused2 .ensures ∙ read-refused _ (c .before .before .before .before .before .before .layout .result) (c .before .before .before .before .before .before .layout .ensures .0) (c .before .before .before .before .if1 .left) _ (c .before .before .judged .ensures) (c .before .if2 .taken)
+returns-2 c =
+    let at-if2 = c .before .if2 in
+    let at-judged = c .before .before .judged in
+    let at-if1 = c .before .before .before .before .if1 in
+    let at-layout = c .before .before .before .before .before .before .layout in
+    c .refused2 .ensures ∙ read-refused _ (at-layout .result) (at-layout .ensures .0) (at-if1 .left) _ (at-judged .ensures) (at-if2 .taken)
 
 returns-3 : tie.Need-returns-3
-returns-3 c = read-accepted _ (c .before .before .before .before .before .layout .result) (c .before .before .before .before .before .layout .ensures .0) (c .before .before .before .if1 .left) _ (c .before .judged .ensures) (c .if2 .left)
+returns-3 c =
+    let at-judged = c .before .judged in
+    let at-if1 = c .before .before .before .if1 in
+    let at-layout = c .before .before .before .before .before .layout in
+    read-accepted _ (at-layout .result) (at-layout .ensures .0) (at-if1 .left) _ (at-judged .ensures) (c .if2 .left)
 
 pub read-spec : {M : Type 1} → statement M
 read-spec =

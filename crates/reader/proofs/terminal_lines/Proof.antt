@@ -1,5 +1,5 @@
 use mathlib.Core.Path.{_≡_, refl, sym, ap, _∙_}
-use Prim.Native.Nat.{ℕ, _+_, _-_, _<_, _≤_}
+use Prim.Native.Nat.{_-_, _≤_}
 use native.Mathlib.Nat.{sub-zero}
 use native.Mathlib.Omega.{arith}
 use borrow.Author.Needs.{needs}
@@ -13,7 +13,8 @@ use Rattle.reader.proofs.terminal_lines.Tie as tie
 
 abbrev Inv-loop : tie.InvT-loop
 Inv-loop s start ranges terminals out₀ at₀ j₀ out at j =
-    (j ≤ terminals) × (at ≤ length s) × (out .vertices ≡ out₀ .vertices) × (terminalLines out j (terminals - j) (drop at s) ≡ terminalLines out₀ 0 terminals (drop start s))
+    (j ≤ terminals) × (at ≤ length s) × (out .vertices ≡ out₀ .vertices) ×
+    (terminalLines out j (terminals - j) (drop at s) ≡ terminalLines out₀ 0 terminals (drop start s))
 
 abbrev μ-loop : tie.MeasureT-loop
 μ-loop s start ranges terminals out₀ at₀ j₀ out at j = terminals - j
@@ -43,14 +44,27 @@ refused-requires : tie.Need-refused-requires Inv-loop μ-loop
 refused-requires c κs = tt
 
 returns : tie.Need-returns Inv-loop μ-loop
-returns c = (answered-refused _ _ _ _ _ (c .refused .ensures .0) (c .before .if1 .taken) ∙ terminal-stop (c .before .before .before .before .before .before .loop .out) (c .before .before .before .before .before .before .loop .out) (c .before .before .before .before .before .before .before .before .terminal-ranges .result) _ _ (c .before .before .before .before .before .before .loop .at) (c .before .before .before .before .before .before .before .before .before .before .args .s .now) _ (c .before .before .before .before .before .loop-test .taken) (c .before .before .before .line .result) (c .before .before .before .before .before .before .loop .inv .3) (ap (take 2) (c .before .before .before .before .before .before .before .before .terminal-ranges .ensures) ∙ ap terminalRanges (sym (c .before .before .before .before .before .before .loop .inv .2))) (c .before .before .before .line .ensures .0) (c .before .if1 .taken), omega arith)
+returns c =
+    let at-if1 = c .before .if1 in
+    let at-line = c .before .before .before .line in
+    let at-loop-test = c .before .before .before .before .before .loop-test in
+    let at-loop = c .before .before .before .before .before .before .loop in
+    let at-terminal-ranges = c .before .before .before .before .before .before .before .before .terminal-ranges in
+    let at-args = c .before .before .before .before .before .before .before .before .before .before .args in (
+      answered-refused _ _ _ _ _ (c .refused .ensures .0) (at-if1 .taken)
+          ∙ terminal-stop (at-loop .out) (at-loop .out) (at-terminal-ranges .result) _ _ (at-loop .at) (at-args .s .now) _ (at-loop-test .taken)
+          (at-line .result) (at-loop .inv .3) (ap (take 2) (at-terminal-ranges .ensures) ∙ ap terminalRanges (sym (at-loop .inv .2)))
+          (at-line .ensures .0) (at-if1 .taken),
+      omega arith,
+    )
 
 with-terminal-requires : tie.Need-with-terminal-requires Inv-loop μ-loop
 with-terminal-requires c κs = omega arith
 
 add-at : tie.Need-add-at Inv-loop μ-loop
 add-at c =
-    let u = rest-used (c .before .before .before .before .before .before .before .before .before .before .before .before .args .s .now) _ _ (c .before .before .before .before .before .before .before .before .loop .inv .1) (c .before .before .before .before .before .line .ensures .1) in
+    let u = rest-used (c .before .before .before .before .before .before .before .before .before .before .before .before .args .s .now) _ _
+    (c .before .before .before .before .before .before .before .before .loop .inv .1) (c .before .before .before .before .before .line .ensures .1) in
     omega arith
 
 add-j : tie.Need-add-j Inv-loop μ-loop
@@ -60,7 +74,21 @@ loop-less : tie.Need-loop-less Inv-loop μ-loop
 loop-less c = omega arith
 
 loop-again : tie.Need-loop-again Inv-loop μ-loop
-loop-again c = (omega arith, rest-used (c .before .before .before .before .before .before .before .before .before .before .before .before .args .s .now) _ _ (c .before .before .before .before .before .before .before .before .loop .inv .1) (c .before .before .before .before .before .line .ensures .1), ap (λ (net : Network). net .vertices) (c .before .with-terminal .ensures) ∙ c .before .before .before .before .before .before .before .before .loop .inv .2, terminal-step (c .before .before .before .before .before .before .before .before .loop .out) (c .before .with-terminal .result) (c .before .before .before .before .before .before .before .before .before .before .terminal-ranges .result) _ _ (c .before .before .before .before .before .before .before .before .loop .at) (c .before .before .before .before .before .before .before .before .before .before .before .before .args .s .now) _ (c .before .before .before .before .before .before .before .loop-test .taken) (c .before .before .before .before .before .line .result) (c .before .before .before .before .before .before .before .before .loop .inv .3) (ap (take 2) (c .before .before .before .before .before .before .before .before .before .before .terminal-ranges .ensures) ∙ ap terminalRanges (sym (c .before .before .before .before .before .before .before .before .loop .inv .2))) (c .before .before .before .before .before .line .ensures .0) (c .before .before .before .if1 .left) (c .before .with-terminal .ensures))
+loop-again c =
+    let at-with-terminal = c .before .with-terminal in
+    let at-if1 = c .before .before .before .if1 in
+    let at-line = c .before .before .before .before .before .line in
+    let at-loop-test = c .before .before .before .before .before .before .before .loop-test in
+    let at-loop = c .before .before .before .before .before .before .before .before .loop in
+    let at-terminal-ranges = c .before .before .before .before .before .before .before .before .before .before .terminal-ranges in
+    let at-args = c .before .before .before .before .before .before .before .before .before .before .before .before .args in (
+      omega arith,
+      rest-used (at-args .s .now) _ _ (at-loop .inv .1) (at-line .ensures .1),
+      ap (λ (net : Network). net .vertices) (at-with-terminal .ensures) ∙ at-loop .inv .2,
+      terminal-step (at-loop .out) (at-with-terminal .result) (at-terminal-ranges .result) _ _ (at-loop .at) (at-args .s .now) _ (at-loop-test .taken)
+          (at-line .result) (at-loop .inv .3) (ap (take 2) (at-terminal-ranges .ensures) ∙ ap terminalRanges (sym (at-loop .inv .2)))
+          (at-line .ensures .0) (at-if1 .left) (at-with-terminal .ensures),
+    )
 
 returns-2 : tie.Need-returns-2 Inv-loop μ-loop
 returns-2 c = (answered-got _ _ _ _ refl ∙ sym (terminal-end _ _ _ _ (c .loop-test .left)) ∙ c .before .loop .inv .3, omega arith)

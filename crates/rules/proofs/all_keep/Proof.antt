@@ -23,7 +23,11 @@ keeps-requires : tie.Need-keeps-requires Inv-loop μ-loop
 keeps-requires c κs = tt
 
 returns : tie.Need-returns Inv-loop μ-loop
-returns c = all-miss _ _ _ (c .before .before .loop-test .taken) (sym (c .before .keeps .ensures) ∙ not-true _ (c .if1 .taken)) ∙ c .before .before .before .loop .inv
+returns c =
+    let at-keeps = c .before .keeps in
+    let at-loop-test = c .before .before .loop-test in
+    let at-loop = c .before .before .before .loop in
+    all-miss _ _ _ (at-loop-test .taken) (sym (at-keeps .ensures) ∙ not-true _ (c .if1 .taken)) ∙ at-loop .inv
 
 add-i : tie.Need-add-i Inv-loop μ-loop
 add-i c = omega arith
@@ -32,7 +36,11 @@ loop-less : tie.Need-loop-less Inv-loop μ-loop
 loop-less c = omega arith
 
 loop-again : tie.Need-loop-again Inv-loop μ-loop
-loop-again c = all-hit _ _ _ (c .before .before .loop-test .taken) (sym (c .before .keeps .ensures) ∙ not-false _ (c .if1 .left)) ∙ c .before .before .before .loop .inv
+loop-again c =
+    let at-keeps = c .before .keeps in
+    let at-loop-test = c .before .before .loop-test in
+    let at-loop = c .before .before .before .loop in
+    all-hit _ _ _ (at-loop-test .taken) (sym (at-keeps .ensures) ∙ not-false _ (c .if1 .left)) ∙ at-loop .inv
 
 returns-2 : tie.Need-returns-2 Inv-loop μ-loop
 returns-2 c = all-end _ _ _ (c .loop-test .left) ∙ c .before .loop .inv

@@ -1,4 +1,4 @@
-use mathlib.Core.Path.{_≡_, sym, ap, ap₂, _∙_}
+use mathlib.Core.Path.{sym, ap₂, _∙_}
 use Prim.Native.Nat.{_+_}
 use lib.Dec.{eqb}
 use borrow.Author.Needs.{needs}
@@ -28,8 +28,11 @@ add-result c = search needs
 returns-2 : tie.Need-returns-2
 unfolding balanced
 returns-2 c =
-    ap₂ eqb (c .before .before .before .before .before .before .before .before .before .before .before .before .sum-at .ensures .0) (ap₂ _+_ (c .before .before .before .before .before .before .sum-at2 .ensures .0) (c .sum-at3 .ensures .0))
-    ∙ sym (pick-no _ _ _ (ne-eqb _ _ (c .before .before .before .before .before .before .before .before .before .before .before .before .before .before .before .before .before .before .if1 .left)))
+    let at-sum-at2 = c .before .before .before .before .before .before .sum-at2 in
+    let at-sum-at = c .before .before .before .before .before .before .before .before .before .before .before .before .sum-at in
+    let at-if1 = c .before .before .before .before .before .before .before .before .before .before .before .before .before .before .before .before .before .before .if1 in
+    ap₂ eqb (at-sum-at .ensures .0) (ap₂ _+_ (at-sum-at2 .ensures .0) (c .sum-at3 .ensures .0))
+    ∙ sym (pick-no _ _ _ (ne-eqb _ _ (at-if1 .left)))
 
 pub balanced-spec : {M : Type 1} → statement M
 balanced-spec =

@@ -1,4 +1,4 @@
-use mathlib.Core.Path.{_≡_, sym, ap, _∙_}
+use mathlib.Core.Path.{sym, ap, _∙_}
 use Rattle.rules.specs.declared.Rule.{Rule}
 use Rattle.rules.specs.Rules.{keeps}
 use borrow.Author.Needs.{needs}
@@ -36,19 +36,34 @@ balanced-requires : tie.Need-balanced-requires
 balanced-requires c κs = search needs
 
 returns : tie.Need-returns
-returns c = c .edge-fits .ensures ∙ ap (λ (rule : Rule). keeps rule (c .before .before .before .args .net) (c .before .before .before .args .i)) (sym (c .before .enum-told .given .1))
+returns c =
+    let at-enum-told = c .before .enum-told in
+    let at-args = c .before .before .before .args in
+    c .edge-fits .ensures ∙ ap (λ (rule : Rule). keeps rule (at-args .net) (at-args .i)) (sym (at-enum-told .given .1))
 
 returns-2 : tie.Need-returns-2
-returns-2 c = c .terminal-fits .ensures ∙ ap (λ (rule : Rule). keeps rule (c .before .before .before .args .net) (c .before .before .before .args .i)) (sym (c .before .enum-told2 .given .1))
+returns-2 c =
+    let at-enum-told2 = c .before .enum-told2 in
+    let at-args = c .before .before .before .args in
+    c .terminal-fits .ensures ∙ ap (λ (rule : Rule). keeps rule (at-args .net) (at-args .i)) (sym (at-enum-told2 .given .1))
 
 returns-3 : tie.Need-returns-3
-returns-3 c = c .no-loop .ensures ∙ ap (λ (rule : Rule). keeps rule (c .before .before .before .args .net) (c .before .before .before .args .i)) (sym (c .before .enum-told3 .given .1))
+returns-3 c =
+    let at-enum-told3 = c .before .enum-told3 in
+    let at-args = c .before .before .before .args in
+    c .no-loop .ensures ∙ ap (λ (rule : Rule). keeps rule (at-args .net) (at-args .i)) (sym (at-enum-told3 .given .1))
 
 returns-4 : tie.Need-returns-4
-returns-4 c = c .away .ensures ∙ ap (λ (rule : Rule). keeps rule (c .before .before .before .args .net) (c .before .before .before .args .i)) (sym (c .before .enum-told4 .given .1))
+returns-4 c =
+    let at-enum-told4 = c .before .enum-told4 in
+    let at-args = c .before .before .before .args in
+    c .away .ensures ∙ ap (λ (rule : Rule). keeps rule (at-args .net) (at-args .i)) (sym (at-enum-told4 .given .1))
 
 returns-5 : tie.Need-returns-5
-returns-5 c = c .balanced .ensures ∙ ap (λ (rule : Rule). keeps rule (c .before .before .before .args .net) (c .before .before .before .args .i)) (sym (c .before .enum-told5 .given .1))
+returns-5 c =
+    let at-enum-told5 = c .before .enum-told5 in
+    let at-args = c .before .before .before .args in
+    c .balanced .ensures ∙ ap (λ (rule : Rule). keeps rule (at-args .net) (at-args .i)) (sym (at-enum-told5 .given .1))
 
 pub keeps-spec : {M : Type 1} → statement M
 keeps-spec =

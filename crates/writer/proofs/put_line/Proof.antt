@@ -1,9 +1,9 @@
 -- What is left of the line, written into the buffer as it is now, gives the line written into the first buffer.
-use mathlib.Core.Path.{_≡_, refl, sym, ap, _∙_}
-use Prim.Native.Nat.{ℕ, _+_, _-_, _*_, _≤_}
+use mathlib.Core.Path.{refl, ap, _∙_}
+use Prim.Native.Nat.{_+_, _-_, _*_, _≤_}
 use native.Mathlib.Omega.{arith}
 use borrow.Author.Needs.{needs}
-use lib.ListN.{length, take, drop, length-set, length-take, drop-of-length-le}
+use lib.ListN.{length, take, drop}
 use lib.Seq.{sets, length-sets}
 use Rattle.text.specs.Text.{numbersText}
 use Rattle.writer.proofs.Writing.{Left, line-begun, line-length, line-turned, line-done}
@@ -13,7 +13,8 @@ use Rattle.writer.proofs.put_line.Tie as tie
 abbrev Inv-loop : tie.InvT-loop
 Inv-loop buf₀ at letter count values to₀ i₀ buf to i =
     (i ≤ count) × (to ≤ at + 2 + 11 * i)
-    × Left buf (sets buf₀ (at + 2) (numbersText (take count values))) to (at + 2 + length (numbersText (take count values))) (numbersText (drop i (take count values)))
+    × Left buf (sets buf₀ (at + 2) (numbersText (take count values))) to (at + 2 + length (numbersText (take count values)))
+    (numbersText (drop i (take count values)))
 
 abbrev μ-loop : tie.MeasureT-loop
 μ-loop buf₀ at letter count values to₀ i₀ buf to i = count - i
@@ -64,15 +65,43 @@ loop-less : tie.Need-loop-less Inv-loop μ-loop
 loop-less c = omega arith
 
 loop-again : tie.Need-loop-again Inv-loop μ-loop
-loop-again c = (omega arith, omega arith, line-turned _ _ _ (c .before .before .before .before .before .before .before .before .before .loop-test .taken) (search needs) (c .before .before .before .before .before .before .before .before .before .before .loop .inv .2) _ _ _ _ (c .before .before .before .before .before .before .before .write-number .ensures .1 .0) (c .before .before .before .before .before .before .before .write-number .ensures .0) (c .before .before .before .end-of .ensures) (c .before .before .put-byte3 .ensures))
+loop-again c =
+    let at-put-byte3 = c .before .before .put-byte3 in
+    let at-end-of = c .before .before .before .end-of in
+    let at-write-number = c .before .before .before .before .before .before .before .write-number in
+    let at-loop-test = c .before .before .before .before .before .before .before .before .before .loop-test in
+    let at-loop = c .before .before .before .before .before .before .before .before .before .before .loop in (
+      omega arith,
+      omega arith,
+      line-turned _ _ _ (at-loop-test .taken) (search needs) (at-loop .inv .2) _ _ _ _ (at-write-number .ensures .1 .0) (at-write-number .ensures .0)
+          (at-end-of .ensures) (at-put-byte3 .ensures),
+    )
 
 same-length : tie.Need-same-length Inv-loop μ-loop
-same-length c = ap length (line-done (c .before .before .before .before .before .before .before .before .before .before .before .args .t4) _ _ (c .loop-test .left) (c .before .loop .inv .2) .1 ∙ line-begun (c .before .before .before .before .before .before .before .before .before .before .before .args .letter) (c .before .before .before .before .before .before .before .before .before .before .before .args .at) (take (c .before .before .before .before .before .before .before .before .before .before .before .args .count) (c .before .before .before .before .before .before .before .before .before .before .before .args .t4)) (c .before .before .before .before .before .before .before .before .before .before .before .args .buf .now) _ _ (c .before .before .before .before .before .before .before .before .put-byte .ensures) (c .before .before .before .before .put-byte2 .ensures)) ∙ simp length-sets
+same-length c =
+    let at-loop = c .before .loop in
+    let at-put-byte2 = c .before .before .before .before .put-byte2 in
+    let at-put-byte = c .before .before .before .before .before .before .before .before .put-byte in
+    let at-args = c .before .before .before .before .before .before .before .before .before .before .before .args in
+    ap length
+    (line-done (at-args .t4) _ _ (c .loop-test .left) (at-loop .inv .2) .1 ∙ line-begun (at-args .letter) (at-args .at) (take (at-args .count) (at-args .t4)) (at-args .buf .now) _ _ (at-put-byte .ensures) (at-put-byte2 .ensures))
+    ∙ simp length-sets
 
 returns : tie.Need-returns Inv-loop μ-loop
 returns c =
-    let d = line-done (c .before .before .before .before .before .before .before .before .before .before .before .args .t4) _ _ (c .loop-test .left) (c .before .loop .inv .2) in
-    (d .0 ∙ line-length _ _ _, (omega arith, d .1 ∙ line-begun (c .before .before .before .before .before .before .before .before .before .before .before .args .letter) (c .before .before .before .before .before .before .before .before .before .before .before .args .at) (take (c .before .before .before .before .before .before .before .before .before .before .before .args .count) (c .before .before .before .before .before .before .before .before .before .before .before .args .t4)) (c .before .before .before .before .before .before .before .before .before .before .before .args .buf .now) _ _ (c .before .before .before .before .before .before .before .before .put-byte .ensures) (c .before .before .before .before .put-byte2 .ensures)))
+    let at-loop = c .before .loop in
+    let at-put-byte2 = c .before .before .before .before .put-byte2 in
+    let at-put-byte = c .before .before .before .before .before .before .before .before .put-byte in
+    let at-args = c .before .before .before .before .before .before .before .before .before .before .before .args in
+    let d = line-done (at-args .t4) _ _ (c .loop-test .left) (at-loop .inv .2) in (
+      d .0 ∙ line-length _ _ _,
+      (
+        omega arith,
+        d .1
+            ∙ line-begun (at-args .letter) (at-args .at) (take (at-args .count) (at-args .t4)) (at-args .buf .now) _ _ (at-put-byte .ensures)
+            (at-put-byte2 .ensures),
+      ),
+    )
 
 pub put-line-spec : {M : Type 1} → statement M
 put-line-spec =

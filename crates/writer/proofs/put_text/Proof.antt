@@ -16,7 +16,12 @@ same-length : tie.Need-same-length
 same-length c = search needs
 
 returns : tie.Need-returns
-returns c = text-written _ _ _ _ _ _ _ _ (c .before .before .before .before .before .before .before .before .before .before .put-line .ensures .0) (c .before .before .before .before .before .before .before .before .before .before .put-line .ensures .1 .1) (c .before .before .before .before .before .before .put-edges .ensures .0) (c .before .before .before .before .before .before .put-edges .ensures .1 .1) (c .before .before .put-terminals .ensures .0) (c .before .before .put-terminals .ensures .1)
+returns c =
+    let at-put-terminals = c .before .before .put-terminals in
+    let at-put-edges = c .before .before .before .before .before .before .put-edges in
+    let at-put-line = c .before .before .before .before .before .before .before .before .before .before .put-line in
+    text-written _ _ _ _ _ _ _ _ (at-put-line .ensures .0) (at-put-line .ensures .1 .1) (at-put-edges .ensures .0) (at-put-edges .ensures .1 .1)
+    (at-put-terminals .ensures .0) (at-put-terminals .ensures .1)
 
 pub put-text-spec : {M : Type 1} → statement M
 put-text-spec =

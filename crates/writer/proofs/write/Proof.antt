@@ -1,5 +1,4 @@
-use mathlib.Core.Path.{_≡_, refl, sym, ap, _∙_}
-use Prim.Native.Nat.{ℕ, _+_, _≤_}
+use mathlib.Core.Path.{sym, _∙_}
 use native.Mathlib.Omega.{arith}
 use borrow.Author.Tests.{not-true, not-false}
 use Rattle.writer.proofs.Writing.{loaded-counts, write-closed, write-short, write-done}
@@ -20,16 +19,33 @@ put-text-requires : tie.Need-put-text-requires
 put-text-requires c κs = loaded-counts _ _ (sym (c .before .before .loaded .ensures) ∙ not-false _ (c .before .if1 .left))
 
 returns-2 : tie.Need-returns-2
-returns-2 c = write-short (c .before .before .before .before .before .before .before .before .args .b) (c .before .before .before .before .before .before .before .before .args .buf .now) (sym (c .before .before .before .before .before .loaded .ensures) ∙ not-false _ (c .before .before .before .before .if1 .left)) (omega (arith, c .if2 .taken, c .before .before .put-text .ensures .0))
+returns-2 c =
+    let at-put-text = c .before .before .put-text in
+    let at-if1 = c .before .before .before .before .if1 in
+    let at-loaded = c .before .before .before .before .before .loaded in
+    let at-args = c .before .before .before .before .before .before .before .before .args in
+    write-short (at-args .b) (at-args .buf .now) (sym (at-loaded .ensures) ∙ not-false _ (at-if1 .left))
+    (omega (arith, c .if2 .taken, at-put-text .ensures .0))
 
 put-text-requires-2 : tie.Need-put-text-requires-2
-put-text-requires-2 c κs = loaded-counts _ _ (sym (c .before .before .before .before .before .before .loaded .ensures) ∙ not-false _ (c .before .before .before .before .before .if1 .left))
+put-text-requires-2 c κs =
+    let at-if1 = c .before .before .before .before .before .if1 in
+    let at-loaded = c .before .before .before .before .before .before .loaded in
+    loaded-counts _ _ (sym (at-loaded .ensures) ∙ not-false _ (at-if1 .left))
 
 same-length : tie.Need-same-length
 same-length c = search needs
 
 returns-3 : tie.Need-returns-3
-returns-3 c = write-done (c .before .before .before .before .before .before .before .before .before .before .before .before .args .b) (c .before .before .before .before .before .before .before .before .before .before .before .before .args .buf .now) (sym (c .before .before .before .before .before .before .before .before .before .loaded .ensures) ∙ not-false _ (c .before .before .before .before .before .before .before .before .if1 .left)) _ _ (omega (arith, c .before .before .before .before .if2 .left, c .before .before .before .before .before .before .put-text .ensures .0)) (c .before .before .put-text2 .ensures .0) (c .before .before .put-text2 .ensures .1)
+returns-3 c =
+    let at-put-text2 = c .before .before .put-text2 in
+    let at-if2 = c .before .before .before .before .if2 in
+    let at-put-text = c .before .before .before .before .before .before .put-text in
+    let at-if1 = c .before .before .before .before .before .before .before .before .if1 in
+    let at-loaded = c .before .before .before .before .before .before .before .before .before .loaded in
+    let at-args = c .before .before .before .before .before .before .before .before .before .before .before .before .args in
+    write-done (at-args .b) (at-args .buf .now) (sym (at-loaded .ensures) ∙ not-false _ (at-if1 .left)) _ _
+    (omega (arith, at-if2 .left, at-put-text .ensures .0)) (at-put-text2 .ensures .0) (at-put-text2 .ensures .1)
 
 pub write-spec : {M : Type 1} → statement M
 write-spec =
