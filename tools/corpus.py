@@ -1,8 +1,10 @@
 #!/usr/bin/env python3
 """Test texts for the board reader and writer, and a judge of its own for them.
 
-Written from document 01 ("Board text", "Turned down because of the input", "Order")
-and the checklist alone, so that it shares nothing with the code that it tries.
+The judge was written from document 01 ("Board text", "Turned down because of the input",
+"Order") and our readings of it (docs/DECISIONS.md, "The text"), before its author had seen
+the code that it tries, and was not changed after. Some of the cases were added later, with
+that code at hand, to catch broken versions of it.
 
     python3 tools/corpus.py            rewrites crates/corpus/stdin and crates/corpus/stdout
     python3 tools/corpus.py --check    exits 1 if they differ from what it would write
@@ -197,7 +199,7 @@ MADE_FOR = {
     "last": 0,
 }
 
-# The checklist's readings of what document 01 leaves to the reader's care, each with its answer.
+# Readings of what document 01 leaves to care (docs/DECISIONS.md, "The text"), each with its answer.
 READINGS = [
     (b"B,99\n", 1),
     (b"B,99,x", 2),
@@ -432,7 +434,7 @@ def worked_cases(cases):
     # The boards that document 01 works.
     for text, answer in WORKED:
         cases.add("worked", text)
-    # The texts that the checklist reads.
+    # Those readings, tried.
     for text, answer in READINGS:
         cases.add("reading", text)
 
