@@ -1,5 +1,4 @@
 -- `corpus::all_texts` is safe and ends. The measure is the number of turns that are left; a turn keeps the length of the space.
--- Assumes nothing.
 use mathlib.Core.Path.{_≡_}
 use borrow.Author.Needs.{needs}
 use lib.ListN.{length}

@@ -1,6 +1,5 @@
 -- `corpus::next_text` is safe and ends: the part of the space that a text is read into, and that is then handed on, lies within
 -- the space, as the code has tested.
--- Assumes nothing.
 use mathlib.Core.Path.{sym}
 use native.Mathlib.Omega.{arith}
 use borrow.Author.Needs.{needs}

@@ -1,5 +1,4 @@
 -- `corpus::print_text` is safe and ends: the part that is written out lies within the space, as the code has tested.
--- Assumes nothing.
 use mathlib.Core.Path.{sym}
 use native.Mathlib.Omega.{arith}
 use borrow.Author.Needs.{needs}
