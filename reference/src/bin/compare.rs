@@ -1,0 +1,136 @@
+//! compare [SEED COUNT]: random inputs through the engine and through the reference, whose answers must be the same. Without a seed, a fixed
+//! one and then a fresh one, which is printed. The first difference is printed with its input, and the exit status is 1.
+
+use reference::boards::random_board;
+use reference::cases::{texts, T};
+use reference::damage::{at_every_field, damaged, every_start, surplus};
+use reference::player::Player;
+use reference::random::Random;
+use reference::text::write;
+use std::collections::BTreeMap;
+use std::fmt::Debug;
+use std::time::{Instant, SystemTime};
+
+const FIXED_SEED: u64 = 1;
+const INPUTS: u64 = 60_000;
+
+// The engine's exported functions: crates/boundary.
+#[link(name = "boundary", kind = "static")]
+extern "C" {
+    fn vulprow_copy(text: *const u8, text_length: usize, buffer: *mut u8, buffer_length: usize, writing: *mut u32, used: *mut usize) -> u32;
+}
+
+/// A text loaded, and the board written into a buffer: what both answered, and the buffer then.
+#[derive(Debug, PartialEq, Eq)]
+struct Copied {
+    loading: u32,
+    writing: u32,
+    used: usize,
+    buffer: Vec<u8>,
+}
+
+fn copied_by_engine(text: &[u8], mut buffer: Vec<u8>) -> Copied {
+    let (mut writing, mut used) = (u32::MAX, usize::MAX);
+    // The engine gets each slice as its address and its length, and nothing else holds them meanwhile.
+    let loading = unsafe { vulprow_copy(text.as_ptr(), text.len(), buffer.as_mut_ptr(), buffer.len(), &mut writing, &mut used) };
+    Copied { loading, writing, used, buffer }
+}
+
+fn copied_by_reference(text: &[u8], mut buffer: Vec<u8>) -> Copied {
+    let (loading, player) = Player::load(text);
+    let (writing, used) = match player.write(&mut buffer) {
+        Ok(used) => (0, used),
+        Err(refusal) => (refusal, 0),
+    };
+    Copied { loading, writing, used, buffer }
+}
+
+/// What was compared, for a person to see that it was enough: how often each call got each answer.
+type Tally = BTreeMap<(&'static str, u32), u64>;
+
+fn same<T: Debug + PartialEq>(input: &[u8], by_reference: T, by_engine: T) -> Result<T, String> {
+    if by_reference == by_engine {
+        return Ok(by_reference);
+    }
+    Err(format!(
+        "input, {} bytes: {input:?}\nas text:\n{}\nreference: {by_reference:?}\nengine:    {by_engine:?}",
+        input.len(),
+        String::from_utf8_lossy(input),
+    ))
+}
+
+/// A text loaded by both, and written into a buffer of this length, which held something else before.
+fn compare_copy(rng: &mut Random, text: &[u8], length: usize, tally: &mut Tally) -> Result<(), String> {
+    let buffer = rng.bytes(length);
+    let both = same(text, copied_by_reference(text, buffer.clone()), copied_by_engine(text, buffer))?;
+    *tally.entry(("load", both.loading)).or_default() += 1;
+    *tally.entry(("write", both.writing)).or_default() += 1;
+    Ok(())
+}
+
+/// A random text, good or damaged, and a buffer of any length around the text's.
+fn compare_random(rng: &mut Random, tally: &mut Tally) -> Result<(), String> {
+    let network = random_board(rng);
+    let good = write(&network);
+    let text = if rng.chance(1, 4) { good.clone() } else { damaged(rng, &network) };
+    let length = match rng.below(8) {
+        0 => 0,
+        1 => good.len() - 1,
+        2 => rng.below(good.len()),
+        3 => 1_500,
+        4 => good.len() + rng.below(9),
+        _ => text.len(),
+    };
+    compare_copy(rng, &text, length, tally)
+}
+
+/// The texts made by hand, and for T and a few random boards every kind of damage at every field, every start and surplus.
+fn compare_made(seed: u64, tally: &mut Tally) -> Result<(), String> {
+    let mut rng = Random::new(seed);
+    let mut texts = texts();
+    let mut boards = vec![T.as_bytes().to_vec()];
+    boards.extend((0..4).map(|_| write(&random_board(&mut rng))));
+    for board in boards {
+        texts.extend([at_every_field(&board), every_start(&board), surplus(&board)].concat());
+    }
+    texts.iter().try_for_each(|text| compare_copy(&mut rng, text, text.len(), tally))
+}
+
+fn compare(seed: u64, count: u64, tally: &mut Tally) -> Result<(), String> {
+    compare_made(seed, tally)?;
+    for index in 0..count {
+        let compared = compare_random(&mut Random::of_input(seed, index), tally);
+        compared.map_err(|difference| format!("input {index} of seed {seed}: {difference}"))?;
+    }
+    Ok(())
+}
+
+fn seeds() -> Option<Vec<(u64, u64)>> {
+    let words: Vec<String> = std::env::args().skip(1).collect();
+    match &words[..] {
+        [] => {
+            let now = SystemTime::now().duration_since(SystemTime::UNIX_EPOCH).expect("the clock is past 1970");
+            Some(vec![(FIXED_SEED, INPUTS), (now.as_nanos() as u64, INPUTS)])
+        }
+        [seed, count] => Some(vec![(seed.parse().ok()?, count.parse().ok()?)]),
+        _ => None,
+    }
+}
+
+fn main() {
+    let Some(seeds) = seeds() else {
+        eprintln!("usage: compare [SEED COUNT]");
+        std::process::exit(2);
+    };
+    for (seed, count) in seeds {
+        println!("seed {seed}: {count} inputs and those made by hand through engine and reference");
+        let start = Instant::now();
+        let mut tally = Tally::new();
+        if let Err(difference) = compare(seed, count, &mut tally) {
+            println!("the engine differs from the reference\n{difference}");
+            std::process::exit(1);
+        }
+        let answers: Vec<String> = tally.iter().map(|((call, answer), times)| format!("{call} {answer}: {times}")).collect();
+        println!("no difference in {:.1} s ({})", start.elapsed().as_secs_f64(), answers.join(", "));
+    }
+}

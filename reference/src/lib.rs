@@ -1,0 +1,25 @@
+//! The reference program: document 01 written down plainly, to compare the engine with.
+//!
+//! It was written from document 01 and never from the engine's code or definitions. Speed and memory are no concern: it uses growable
+//! vectors and sets, and every call makes the board afresh from the text and the standing moves. Each rule stands under the sentence that
+//! it follows, in quotes.
+//!
+//! The code has the field's words. Document 01's are: vertex (pool), edge (channel), source (spring), terminal (mill), demand (need),
+//! positive (wet), cycle (ring), singular (single), acyclic flow (drained first flow).
+
+// The rules, in document 01's order.
+pub mod cancelling;
+pub mod moves;
+pub mod player;
+pub mod programs;
+pub mod report;
+pub mod solver;
+pub mod text;
+
+// Inputs for the engine and for the rules themselves.
+pub mod boards;
+pub mod calls;
+pub mod cases;
+pub mod damage;
+pub mod properties;
+pub mod random;

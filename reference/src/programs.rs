@@ -1,0 +1,71 @@
+//! What the programs `sheet` and `play` print for an input: document 01, "Route sheet".
+
+use crate::moves::Step;
+use crate::player::{Call, Player};
+use crate::text::{line_count, number};
+
+/// "Program `sheet` reads a board on standard input, finishes it and prints the sheet, or the refusal number alone on a line."
+pub fn sheet(input: &[u8]) -> Vec<u8> {
+    let (refusal, mut player) = Player::load(input);
+    if refusal != 0 {
+        return format!("{refusal}\n").into_bytes();
+    }
+    player.finish().expect("a loaded board is in play");
+    player.sheet_text().expect("a finished board has a sheet")
+}
+
+/// "lines `K,mill,channel`, `T` with pairs of channel and way (D or U) as in `T,0,D,3,U`, `H`, `U`, `F`. `T` alone is the empty turn. Numbers
+/// are written as in the board text". The line comes without its line feed; none if it is of another form.
+pub fn line(bytes: &[u8]) -> Option<Call> {
+    let fields: Vec<&[u8]> = bytes.split(|byte| *byte == b',').collect();
+    match fields[..] {
+        [b"K", terminal, edge] => Some(Call::Carry { terminal: number(terminal)?, edge: number(edge)? }),
+        [b"T", ref pairs @ ..] => Some(Call::Turn(pairs.chunks(2).map(step).collect::<Option<_>>()?)),
+        [b"H"] => Some(Call::Hint),
+        [b"U"] => Some(Call::Undo),
+        [b"F"] => Some(Call::Finish),
+        _ => None,
+    }
+}
+
+/// A pair of edge and way. "a channel too large for a step is one the board doesn't have"
+fn step(pair: &[&[u8]]) -> Option<Step> {
+    match pair {
+        [edge, b"D"] => Some(Step { edge: number(edge)? as usize, is_up: false }),
+        [edge, b"U"] => Some(Step { edge: number(edge)? as usize, is_up: true }),
+        _ => None,
+    }
+}
+
+/// "It prints 0 or the refusal number for each, 1 for a line of another form, and the sheet after an accepted `F`."
+fn answer(player: &mut Player, call: Option<Call>) -> Vec<u8> {
+    let Some(call) = call else {
+        return b"1\n".to_vec();
+    };
+    let refusal = player.call(&call);
+    let mut output = format!("{refusal}\n").into_bytes();
+    if call == Call::Finish && refusal == 0 {
+        output.extend(player.sheet_text().expect("a finished board has a sheet"));
+    }
+    output
+}
+
+/// "Program `play` reads a board, as many lines as its first line's counts say, and then lines .. A refused board prints its number only."
+pub fn play(input: &[u8]) -> Vec<u8> {
+    let lines: Vec<&[u8]> = input.split_inclusive(|byte| *byte == b'\n').collect();
+    let board_lines = match line_count(lines.first().unwrap_or(&&b""[..])) {
+        Ok(count) => count.min(lines.len()),
+        Err(refusal) => return format!("{refusal}\n").into_bytes(),
+    };
+    let (refusal, mut player) = Player::load(&lines[..board_lines].concat());
+    if refusal != 0 {
+        return format!("{refusal}\n").into_bytes();
+    }
+    let mut output = Vec::new();
+    for bytes in &lines[board_lines..] {
+        // A last line without its line feed is of another form.
+        let call = bytes.strip_suffix(b"\n").and_then(line);
+        output.extend(answer(&mut player, call));
+    }
+    output
+}
