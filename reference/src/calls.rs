@@ -198,48 +198,15 @@ pub fn line_of(call: &Call) -> Vec<u8> {
     text.into_bytes()
 }
 
-const OTHER_LINES: [&str; 34] = [
-    "",
-    "T,",
-    "T,0",
-    "T,0,",
-    "T,0,D,",
-    "T,0,d",
-    "T,0,D,1",
-    "T,00,D",
-    "T,,D",
-    "T,12345678,D",
-    "T,-1,D",
-    "T,0,DU",
-    "T 0,D",
-    "TT",
-    "K",
-    "K,",
-    "K,0",
-    "K,0,",
-    "K,0,0,",
-    "K,0,0,0",
-    "K,00,0",
-    "K,,0",
-    "K,0,10000000",
-    "k,0,0",
-    "K,0;0",
-    "H,",
-    "H ",
-    " H",
-    "HH",
-    "U,0",
-    "F\r",
-    "F,",
-    "X",
-    "B,2,1,1,0",
-];
+/// Lines that are nearly calls, parted by bars.
+const OTHER_LINES: &str = "|T,|T,0|T,0,|T,0,D,|T,0,d|T,0,D,1|T,00,D|T,,D|T,12345678,D|T,-1,D|T,0,DU|T 0,D|TT|K|K,|K,0|K,0,|K,0,0,|K,0,0,0\
+    |K,00,0|K,,0|K,0,10000000|k,0,0|K,0;0|H,|H | H|HH|U,0|F\r|F,|X|B,2,1,1,0";
 
 /// A line of another form, with its line feed.
 pub fn other_line(rng: &mut Random) -> Vec<u8> {
     loop {
         let mut bytes = if rng.chance(3, 4) {
-            rng.pick(&OTHER_LINES).as_bytes().to_vec()
+            rng.pick(&OTHER_LINES.split('|').collect::<Vec<_>>()).as_bytes().to_vec()
         } else {
             let count = rng.below(12);
             let mut bytes = rng.bytes(count);

@@ -29,56 +29,32 @@ fn join(fields: &[Field]) -> Vec<u8> {
 }
 
 /// Numbers at the ends of the ranges and one past them, and numbers that would wrap or that have too many digits.
-const NUMBERS: [&str; 26] = [
-    "0",
-    "1",
-    "2",
-    "3",
-    "4",
-    "15",
-    "16",
-    "17",
-    "31",
-    "32",
-    "33",
-    "63",
-    "64",
-    "65",
-    "127",
-    "128",
-    "255",
-    "256",
-    "65536",
-    "999999",
-    "1000000",
-    "1000001",
-    "9999999",
-    "10000000",
-    "4294967297",
-    "18446744073709551617",
-];
+const NUMBERS: &str = "0 1 2 3 4 15 16 17 31 32 33 63 64 65 127 128 255 256 65536 999999 1000000 1000001 9999999 10000000 \
+    4294967297 18446744073709551617";
+
+fn numbers() -> Vec<Vec<u8>> {
+    NUMBERS.split(' ').map(|number| number.as_bytes().to_vec()).collect()
+}
 
 /// Bodies that are no numbers, made of the body that stood there.
 fn malformed(body: &[u8]) -> Vec<Vec<u8>> {
-    let with = |before: &[u8], after: &[u8]| [before, body, after].concat();
-    let mut bodies = vec![
-        Vec::new(),
-        with(b"0", b""),
-        with(b"00000000", b""),
-        with(b"+", b""),
-        with(b"-", b""),
-        with(b" ", b""),
-        with(b"", b" "),
-        with(b"", b"x"),
-        with(b"\"", b"\""),
-        with(b"", b".0"),
-        with(b"0x", b""),
-        with(b"", b"\0"),
-        with(b"", b"\r"),
+    let around: [(&[u8], &[u8]); 12] = [
+        (b"0", b""),
+        (b"00000000", b""),
+        (b"+", b""),
+        (b"-", b""),
+        (b" ", b""),
+        (b"", b" "),
+        (b"", b"x"),
+        (b"\"", b"\""),
+        (b"", b".0"),
+        (b"0x", b""),
+        (b"", b"\0"),
+        (b"", b"\r"),
     ];
-    for other in ["-0", "00", "B", "C", "W", "b", "\u{663}"] {
-        bodies.push(other.as_bytes().to_vec());
-    }
+    let mut bodies: Vec<Vec<u8>> = around.iter().map(|(before, after)| [before, body, after].concat()).collect();
+    let others = ["", "-0", "00", "B", "C", "W", "b", "\u{663}"];
+    bodies.extend(others.iter().map(|other| other.as_bytes().to_vec()));
     bodies
 }
 
@@ -90,7 +66,7 @@ pub fn at_every_field(text: &[u8]) -> Vec<Vec<u8>> {
     let mut texts = Vec::new();
     for at in 0..fields.len() {
         let mut bodies = malformed(&fields[at].body);
-        bodies.extend(NUMBERS.iter().map(|number| number.as_bytes().to_vec()));
+        bodies.extend(numbers());
         for body in bodies {
             let mut changed = fields.clone();
             changed[at].body = body;
@@ -192,7 +168,7 @@ pub fn damaged(rng: &mut Random, network: &Network) -> Vec<u8> {
                 match rng.below(4) {
                     0 => fields[at].end = rng.pick(&ENDS).to_vec(),
                     1 => fields[at].body = rng.pick(&malformed(&fields[at].body)),
-                    _ => fields[at].body = rng.pick(&NUMBERS).as_bytes().to_vec(),
+                    _ => fields[at].body = rng.pick(&numbers()),
                 }
             }
             text = join(&fields);
