@@ -1,17 +1,18 @@
 -- The laws that loops cite: what is left of a run, before and after one turn, each in the code's own shape (`i + 1`, `drop i xs`).
 use mathlib.Core.Path.{_≡_, refl, sym, _∙_}
 use mathlib.Core.Bool.{Bool, true, false, false≢true}
+use mathlib.Core.Logic.{_⊎_, inl, inr, _≢_}
 use mathlib.Core.List.{List, [], _∷_}
 use Prim.Native.Nat.{ℕ, zero, suc, _+_, _-_, _<_, _≤_}
 use native.Mathlib.Numerals.{add-one}
 use native.Mathlib.Nat.{zero-add, add-zero}
 use native.Mathlib.Omega.{arith}
-use lib.Dec.{eqb}
+use lib.Dec.{ltb, eqb}
 use lib.ListN.{length, getD, drop, drop-of-length-le}
 use lib.Seq.{drop-cons}
-use borrow.Author.Tests.{eq-eqb, ne-eqb}
-use Rattle.lists.specs.Choice.{pick, both}
-use Rattle.lists.specs.Lists.{indexOf, all, keyed, sumAt}
+use borrow.Author.Tests.{ltb-true, ltb-false, eqb-true, eqb-false, eq-eqb, ne-eqb}
+use Rattle.lists.specs.Choice.{pick, both, either}
+use Rattle.lists.specs.Lists.{indexOf, all, lowest, keyed, sumAt}
 
 -- a test with its equation: what a helper by clauses takes
 pub data Known (b : Bool) : Type 0 where
@@ -21,6 +22,20 @@ pub data Known (b : Bool) : Type 0 where
 pub known : (b : Bool) → Known b
 known true = was-true refl
 known false = was-false refl
+
+pub lt-or-ge : (a b : ℕ) → (a < b) ⊎ (b ≤ a)
+lt-or-ge a b = go (known (ltb a b))
+  where
+    go : Known (ltb a b) → (a < b) ⊎ (b ≤ a)
+    go (was-true e) = inl (ltb-true a b e)
+    go (was-false e) = inr (ltb-false a b e)
+
+pub eq-or-ne : (a b : ℕ) → (a ≡ b) ⊎ (a ≢ b)
+eq-or-ne a b = go (known (eqb a b))
+  where
+    go : Known (eqb a b) → (a ≡ b) ⊎ (a ≢ b)
+    go (was-true e) = inl (eqb-true a b e)
+    go (was-false e) = inr (eqb-false a b e)
 
 pub pick-yes : {A : Type 0} (t : Bool) (a b : A) → t ≡ true → pick t a b ≡ a
 unfolding pick
@@ -43,6 +58,16 @@ both-right false b h = absurd (false≢true h)
 pub both-true : (a b : Bool) → a ≡ true → b ≡ true → both a b ≡ true
 unfolding both
 both-true a b p q = rw (p, q)
+
+pub either-left : (a b : Bool) → either a b ≡ false → a ≡ false
+unfolding either
+either-left true b h = h
+either-left false b h = refl
+
+pub either-right : (a b : Bool) → either a b ≡ false → b ≡ false
+unfolding either
+either-right true b h = absurd (false≢true (sym h))
+either-right false b h = h
 
 -- a search for b that has passed i elements
 pub index-hit : (xs : List ℕ) (b i total : ℕ) → i + indexOf b (drop i xs) ≡ total → i < length xs → getD xs i 0 ≡ b → i ≡ total
@@ -69,7 +94,7 @@ index-le b (x ∷ xs) = go (known (eqb x b)) (index-le b xs)
     go (was-true t) h = rw (t, indexOf) (omega arith)
     go (was-false t) h = rw (t, indexOf) (omega arith)
 
--- a test of every index that has passed i of n
+-- a run over the indices below n that has passed i
 module _ (p : ℕ → Bool) (n i : ℕ) where
   step : i < n → n - i ≡ suc (n - suc i)
   step h = omega arith
@@ -85,6 +110,18 @@ module _ (p : ℕ → Bool) (n i : ℕ) where
   pub all-end : n ≤ i → true ≡ all p i (n - i)
   unfolding all
   all-end h = let e : n - i ≡ 0 = omega arith in rw e
+
+  pub lowest-hit : i < n → p i ≡ true → lowest p i (n - i) ≡ i
+  unfolding lowest
+  lowest-hit h t = rw (step h, t, lowest)
+
+  pub lowest-miss : i < n → p i ≡ false → lowest p (i + 1) (n - (i + 1)) ≡ lowest p i (n - i)
+  unfolding lowest
+  lowest-miss h t = rw (add-one i, step h, t, lowest)
+
+  pub lowest-end : n ≤ i → lowest p i (n - i) ≡ i
+  unfolding lowest
+  lowest-end h = let e : n - i ≡ 0 = omega arith in rw e
 
 -- what the test says of each index
 pub all-at : (p : ℕ → Bool) (i k j : ℕ) → all p i k ≡ true → j < k → p (i + j) ≡ true

@@ -10,3 +10,8 @@ pick false a b = b
 unfoldable pub both : Bool → Bool → Bool
 both true b = b
 both false b = false
+
+-- one of the tests holds, or both
+unfoldable pub either : Bool → Bool → Bool
+either true b = true
+either false b = b

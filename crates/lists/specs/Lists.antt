@@ -3,6 +3,7 @@ use mathlib.Core.Bool.{Bool, true, false}
 use mathlib.Core.List.{List, [], _∷_}
 use Prim.Native.Nat.{ℕ, zero, suc, _+_}
 use lib.Dec.{eqb}
+use Rattle.lists.specs.Choice.{pick}
 
 -- how many elements stand before the first b: all of them where there is none
 unfoldable pub indexOf : ℕ → List ℕ → ℕ
@@ -23,3 +24,13 @@ unfoldable pub sumAt : List ℕ → List ℕ → ℕ → ℕ
 sumAt [] xs v = 0
 sumAt (k ∷ ks) [] v = 0
 sumAt (k ∷ ks) (x ∷ xs) v = keyed k v x + sumAt ks xs v
+
+-- the lowest of i, i + 1, .., i + k - 1 that has p; i + k where none has
+unfoldable pub lowest : (ℕ → Bool) → ℕ → ℕ → ℕ
+lowest p i zero = i
+lowest p i (suc k) = elim (p i) [ true ↦ i | false ↦ lowest p (suc i) k ]
+
+-- how many of i, i + 1, .., i + k - 1 have p
+unfoldable pub count : (ℕ → Bool) → ℕ → ℕ → ℕ
+count p i zero = 0
+count p i (suc k) = pick (p i) 1 0 + count p (suc i) k

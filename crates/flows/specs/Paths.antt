@@ -1,0 +1,43 @@
+-- What reachability, the lack of cycles and the rank mean.
+use mathlib.Core.Path.{_≡_}
+use mathlib.Core.Bool.{Bool, true, false, not}
+use mathlib.Core.List.{List}
+use Prim.Native.Nat.{ℕ, _<_}
+use lib.Dec.{eqb}
+use lib.ListN.{length, getD}
+use Rattle.lists.specs.Choice.{both}
+use Rattle.lists.specs.Lists.{count}
+use Rattle.graph.specs.Graph.{reached}
+
+module _ (from to flows : List ℕ) where
+  -- a positive edge from a to b
+  pub record Positive (a b : ℕ) : Type 0 where
+    pub edge : ℕ
+    pub inside : edge < length flows
+    pub start : getD from edge 0 ≡ a
+    pub end : getD to edge 0 ≡ b
+    pub above : 0 < getD flows edge 0
+
+  -- a path over positive edges
+  pub data Path : ℕ → ℕ → Type 0 where
+    here : {a : ℕ} → Path a a
+    on : {a b c : ℕ} → Path a b → Positive b c → Path a c
+
+  -- a path with an edge, which it starts with; from a vertex to itself: the vertex is on a cycle
+  pub record First (a c : ℕ) : Type 0 where
+    pub next : ℕ
+    pub edge : Positive a next
+    pub rest : Path next c
+
+  -- no positive edge is on a cycle
+  abbrev pub Acyclic : Type 0
+  Acyclic = (a b : ℕ) → Positive a b → Path b a → ⊥
+
+  -- every edge joins vertices below n
+  pub record Within (n : ℕ) : Type 0 where
+    pub start : (e : ℕ) → e < length flows → getD from e 0 < n
+    pub end : (e : ℕ) → e < length flows → getD to e 0 < n
+
+-- how many other vertices, of n, reach v over positive edges
+unfoldable pub rank : List ℕ → List ℕ → List ℕ → ℕ → ℕ → ℕ
+rank tails heads flows n v = count (λ u. both (not (eqb u v)) (getD (reached heads tails flows n v) u false)) 0 n

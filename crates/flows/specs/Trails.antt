@@ -1,0 +1,49 @@
+-- A change of the flows along a trail.
+use mathlib.Core.Path.{_≡_}
+use mathlib.Core.Bool.{Bool, true, false}
+use mathlib.Core.List.{List, [], _∷_}
+use Prim.Native.Nat.{ℕ, _+_, _-_, _<_, _≤_}
+use lib.ListN.{length, getD, set}
+use Rattle.lists.specs.Members.{has}
+
+-- a step over an edge: down, from its tail to its head; or up, from its head to its tail
+pub data Step : Type 0 where
+  down : ℕ → Step
+  up : ℕ → Step
+
+abbrev pub edgeOf : Step → ℕ
+edgeOf (down e) = e
+edgeOf (up e) = e
+
+abbrev pub edgesOf : List Step → List ℕ
+edgesOf [] = []
+edgesOf (s ∷ w) = edgeOf s ∷ edgesOf w
+
+abbrev pub startOf : List ℕ → List ℕ → Step → ℕ
+startOf tails heads (down e) = getD tails e 0
+startOf tails heads (up e) = getD heads e 0
+
+abbrev pub endOf : List ℕ → List ℕ → Step → ℕ
+endOf tails heads (down e) = getD heads e 0
+endOf tails heads (up e) = getD tails e 0
+
+-- the flows, lowered by x on each down-step and raised by x on each up-step
+unfoldable pub changed : List ℕ → ℕ → List Step → List ℕ
+changed flows x [] = flows
+changed flows x (down e ∷ w) = changed (set flows e (getD flows e 0 - x)) x w
+changed flows x (up e ∷ w) = changed (set flows e (getD flows e 0 + x)) x w
+
+-- each step starts where the last one ended; the steps lead from a to b
+pub data Trail (tails heads : List ℕ) : ℕ → List Step → ℕ → Type 0 where
+  stay : {a : ℕ} → Trail tails heads a [] a
+  go : {a b : ℕ} {w : List Step} (s : Step) → startOf tails heads s ≡ a → Trail tails heads (endOf tails heads s) w b → Trail tails heads a (s ∷ w) b
+
+-- a down-step's edge has flow x or more
+abbrev pub Room : List ℕ → ℕ → Step → Type 0
+Room flows x (down e) = x ≤ getD flows e 0
+Room flows x (up e) = Unit {0}
+
+-- the edges are distinct edges of the network, with room for x
+abbrev pub Fits : List ℕ → ℕ → List Step → Type 0
+Fits flows x [] = Unit {0}
+Fits flows x (s ∷ w) = (edgeOf s < length flows) × Room flows x s × (has (edgeOf s) (edgesOf w) ≡ false) × Fits flows x w

@@ -1,0 +1,56 @@
+use native.Mathlib.Omega.{arith}
+-- What is left of the search is the whole search, as long as no edge has passed.
+use mathlib.Core.Path.{_≡_, sym, _∙_}
+use Prim.Native.Nat.{_+_, _-_, _≤_}
+use native.Mathlib.Nat.{sub-zero}
+use lib.ListN.{length}
+use Rattle.lists.specs.Lists.{lowest}
+use Rattle.lists.proofs.Laws.{lowest-hit, lowest-miss, lowest-end}
+use Rattle.graph.specs.Graph.{leads, onward}
+use borrow.Author.Needs.{needs}
+use native.Mathlib.Omega.{arith}
+use Rattle.graph.proofs.onward.Statement.{statement}
+use Rattle.graph.proofs.onward.Tie as tie
+
+abbrev Inv-loop : tie.InvT-loop
+Inv-loop from to flows seen v e₀ e =
+    lowest (leads from to flows seen v) e (length flows - e) ≡ onward from to flows seen v
+
+abbrev μ-loop : tie.MeasureT-loop
+μ-loop from to flows seen v e₀ e = length flows - e
+
+loop-holds : tie.Need-loop-holds Inv-loop μ-loop
+unfolding onward
+loop-holds c = rw sub-zero
+
+leads-requires : tie.Need-leads-requires Inv-loop μ-loop
+leads-requires c κs = search needs
+
+returns : tie.Need-returns Inv-loop μ-loop
+returns c = sym (lowest-hit _ _ _ (c .before .before .loop-test .taken) (sym (c .before .leads .ensures) ∙ c .if1 .taken)) ∙ c .before .before .before .loop .inv
+
+add-e : tie.Need-add-e Inv-loop μ-loop
+add-e c = omega arith
+
+loop-less : tie.Need-loop-less Inv-loop μ-loop
+loop-less c = omega arith
+
+loop-again : tie.Need-loop-again Inv-loop μ-loop
+loop-again c = lowest-miss _ _ _ (c .before .before .loop-test .taken) (sym (c .before .leads .ensures) ∙ c .if1 .left) ∙ c .before .before .before .loop .inv
+
+returns-2 : tie.Need-returns-2 Inv-loop μ-loop
+returns-2 c = sym (lowest-end _ _ _ (c .loop-test .left)) ∙ c .before .loop .inv
+
+pub onward-spec : {M : Type 1} → statement M
+onward-spec =
+    tie.close
+    (tie.spec
+    Inv-loop
+    μ-loop
+    loop-holds
+    leads-requires
+    returns
+    add-e
+    loop-less
+    loop-again
+    returns-2)

@@ -1,0 +1,23 @@
+use Rattle.graph.proofs.Turns.{reach-made}
+use borrow.Author.Needs.{needs}
+use Rattle.graph.proofs.reach.Statement.{statement}
+use Rattle.graph.proofs.reach.Tie as tie
+
+clear-requires : tie.Need-clear-requires
+clear-requires c κs = search needs
+
+put-bool-requires : tie.Need-put-bool-requires
+put-bool-requires c κs = search needs
+
+spread-requires : tie.Need-spread-requires
+spread-requires c κs = search needs
+
+same-length : tie.Need-same-length
+same-length c = search needs
+
+returns : tie.Need-returns
+returns c = reach-made _ _ _ _ _ _ _ _ (c .before .before .before .before .before .before .before .before .before .before .clear .ensures) (c .before .before .before .before .before .before .put-bool .ensures) (c .before .before .spread .ensures)
+
+pub reach-spec : {M : Type 1} → statement M
+reach-spec =
+    tie.close (tie.spec clear-requires put-bool-requires spread-requires same-length returns)

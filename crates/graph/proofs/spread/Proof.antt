@@ -1,0 +1,70 @@
+use native.Mathlib.Omega.{arith}
+-- The passes left over the set as it is give all passes over the first set; after a pass that changed nothing, none of them matters.
+use mathlib.Core.Path.{_≡_, refl, sym, ap, _∙_}
+use Prim.Native.Nat.{_+_, _-_, _≤_, _<_}
+use native.Mathlib.Nat.{sub-zero}
+use lib.ListN.{length}
+use borrow.Author.Tests.{not-true}
+use Rattle.graph.specs.Graph.{passes}
+use Rattle.graph.proofs.Turns.{passes-turn, passes-end, passes-still}
+use borrow.Author.Needs.{needs}
+use native.Mathlib.Omega.{arith}
+use Rattle.graph.proofs.spread.Statement.{statement}
+use Rattle.graph.proofs.spread.Tie as tie
+
+abbrev Inv-loop : tie.InvT-loop
+Inv-loop from to flows seen₀ k₀ seen k =
+    (length seen ≡ length seen₀) × (passes from to flows (length seen₀ - k) seen ≡ passes from to flows (length seen₀) seen₀)
+
+abbrev μ-loop : tie.MeasureT-loop
+μ-loop from to flows seen₀ k₀ seen k = length seen₀ - k
+
+loop-holds : tie.Need-loop-holds Inv-loop μ-loop
+loop-holds c = (refl, rw sub-zero)
+
+pass-requires : tie.Need-pass-requires Inv-loop μ-loop
+pass-requires c κs = search needs
+
+same-length : tie.Need-same-length Inv-loop μ-loop
+same-length c = omega arith
+
+returns : tie.Need-returns Inv-loop μ-loop
+returns c =
+    let at-pass = c .before .before .before .pass in
+    let same = at-pass .ensures .1 (not-true _ (c .if1 .taken)) in
+    same ∙ sym (passes-still _ _ _ _ _ (sym (at-pass .ensures .0) ∙ same)) ∙ c .before .before .before .before .before .before .loop .inv .1
+
+add-k : tie.Need-add-k Inv-loop μ-loop
+add-k c = omega arith
+
+loop-less : tie.Need-loop-less Inv-loop μ-loop
+loop-less c = omega arith
+
+loop-again : tie.Need-loop-again Inv-loop μ-loop
+loop-again c =
+    let inside : c .before .before .before .before .before .before .loop .k < length (c .before .before .before .before .before .before .before .before .before .before .before .args .seen .now) = omega arith in
+    (omega arith, ap (passes _ _ _ _) (c .before .before .before .pass .ensures .0) ∙ passes-turn _ _ _ _ _ _ inside ∙ c .before .before .before .before .before .before .loop .inv .1)
+
+same-length-2 : tie.Need-same-length-2 Inv-loop μ-loop
+same-length-2 c = c .before .loop .inv .0
+
+returns-2 : tie.Need-returns-2 Inv-loop μ-loop
+returns-2 c =
+    let over : length (c .before .before .before .before .before .before .args .seen .now) ≤ c .before .loop .k = omega arith in
+    sym (passes-end _ _ _ _ _ _ over) ∙ c .before .loop .inv .1
+
+pub spread-spec : {M : Type 1} → statement M
+spread-spec =
+    tie.close
+    (tie.spec
+    Inv-loop
+    μ-loop
+    loop-holds
+    pass-requires
+    same-length
+    returns
+    add-k
+    loop-less
+    loop-again
+    same-length-2
+    returns-2)
