@@ -1,0 +1,50 @@
+use mathlib.Core.Path.{sym}
+use lib.Seq.{length-take-le}
+use borrow.Author.Needs.{needs}
+use Rattle.loader.proofs.acyclic_flows.Statement.{statement}
+use Rattle.loader.proofs.acyclic_flows.Tie as tie
+
+cast-n : tie.Need-cast-n
+cast-n c = search needs
+
+slice-aggregate-cancel : tie.Need-slice-aggregate-cancel
+slice-aggregate-cancel c = search needs
+
+slice-aggregate-cancel-2 : tie.Need-slice-aggregate-cancel-2
+slice-aggregate-cancel-2 c = search needs
+
+slice-aggregate-cancel-3 : tie.Need-slice-aggregate-cancel-3
+slice-aggregate-cancel-3 c = search needs
+
+array-borrow-prefix-seen : tie.Need-array-borrow-prefix-seen
+array-borrow-prefix-seen c = search needs
+
+slice-aggregate-cancel-4 : tie.Need-slice-aggregate-cancel-4
+slice-aggregate-cancel-4 c = sym (length-take-le _ _ (c .before .before .before .before .before .before .before .before .pre))
+
+array-borrow-prefix-walk : tie.Need-array-borrow-prefix-walk
+array-borrow-prefix-walk c = search needs
+
+slice-aggregate-cancel-5 : tie.Need-slice-aggregate-cancel-5
+slice-aggregate-cancel-5 c = sym (length-take-le _ _ (c .before .before .before .before .before .before .before .before .before .pre))
+
+cancel-requires : tie.Need-cancel-requires
+cancel-requires c κs = (sym (length-take-le _ _ (c .before .before .before .before .before .before .before .before .before .pre)), sym (length-take-le _ _ (c .before .before .before .before .before .before .before .before .before .pre)))
+
+returns : tie.Need-returns
+returns c = search needs
+
+pub acyclic-flows-spec : {M : Type 1} → statement M
+acyclic-flows-spec =
+    tie.close
+    (tie.spec
+    cast-n
+    slice-aggregate-cancel
+    slice-aggregate-cancel-2
+    slice-aggregate-cancel-3
+    array-borrow-prefix-seen
+    slice-aggregate-cancel-4
+    array-borrow-prefix-walk
+    slice-aggregate-cancel-5
+    cancel-requires
+    returns)

@@ -1,0 +1,12 @@
+use borrow.Author.Needs.{needs}
+use Rattle.loader.proofs.opened.Statement.{statement}
+use Rattle.loader.proofs.opened.Tie as tie
+
+blank-requires : tie.Need-blank-requires
+blank-requires c κs = search needs
+
+returns : tie.Need-returns
+returns c = rw (c .before .blank .ensures)
+
+pub opened-spec : {M : Type 1} → statement M
+opened-spec = tie.close (tie.spec blank-requires returns)
