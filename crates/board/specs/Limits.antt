@@ -1,5 +1,5 @@
 -- The limits of document 01, in one place. Nothing else names these numbers.
-use Prim.Native.Nat.{ℕ}
+use Prim.Native.Nat.{ℕ, _*_}
 
 -- pools, channels and mills at most
 abbrev pub maxVertices : ℕ
@@ -18,3 +18,7 @@ maxFlow = 1000000
 -- the places of the journal
 abbrev pub maxMoves : ℕ
 maxMoves = 1056
+
+-- what the terminals need together at most: no flow in play passes it
+abbrev pub maxTotal : ℕ
+maxTotal = maxTerminals * maxFlow

@@ -16,11 +16,12 @@ use Rattle.lists.specs.Members.{has, Distinct}
 use Rattle.lists.proofs.Laws.{Known, was-true, was-false, known, pick-yes, pick-no}
 use Rattle.lists.proofs.Lowest.{lowest-least}
 use Rattle.lists.proofs.Pigeon.{has-nothing, has-here, has-later, has-cases}
-use Rattle.cancelling.specs.Cancelling.{smallest, lowered, lowerCycle, onCycle, cycleVertex, cycleFrom, cancelled, acyclicFlows}
-use Rattle.flows.specs.Trails.{down, edgesOf, changed, Fits}
+use Rattle.cycles.specs.Cycles.{onCycle, cycleVertex, cycleFrom}
+use Rattle.cancelling.specs.Cancelling.{smallest, lowered, lowerCycle, cancelled, acyclicFlows}
+use Rattle.flows.specs.Trails.{down, edgesOf, changed, Fits, downs}
 use Rattle.flows.specs.Paths.{Acyclic, Within}
 use Rattle.flows.proofs.Change.{changed-length, closed-trail, In, changed-at}
-use Rattle.flows.proofs.Walk.{downs, Cycle, cycle-found, first-on-cycle}
+use Rattle.flows.proofs.Walk.{Cycle, cycle-found, first-on-cycle}
 
 -- the smallest flow is one of the flows, and at most each
 record Attained (flows es : List ℕ) (x : ℕ) : Type 0 where

@@ -16,15 +16,10 @@ use Rattle.lists.proofs.Laws.{Known, was-true, was-false, known, both-left, bot
 use Rattle.lists.proofs.Lowest.{lowest-least, lowest-found}
 use Rattle.lists.proofs.Pigeon.{has-nothing, has-here, has-later, has-cases, both-missed, has-take, distinct-take, pigeon}
 use Rattle.graph.specs.Graph.{reached, leads, onward}
-use Rattle.cancelling.specs.Cancelling.{since, onCycle, follow, cycleFrom}
-use Rattle.flows.specs.Trails.{Step, down, Trail, stay, go}
-use Rattle.flows.specs.Paths.{Positive, Path, here, on, First, Within}
+use Rattle.cycles.specs.Cycles.{since, onCycle, follow, cycleFrom}
+use Rattle.flows.specs.Trails.{down, downs, Trail, stay, go}
+use Rattle.flows.specs.Paths.{Path, here, on, First, Within}
 use Rattle.flows.proofs.Reach.{reaching-sound, reaching-complete}
-
--- the edges, each walked down
-abbrev pub downs : List ℕ → List Step
-downs [] = []
-downs (e ∷ es) = down e ∷ downs es
 
 -- a cycle of distinct positive edges, the latest first: a trail walked back, so tails and heads change places
 pub record Cycle (tails heads flows es : List ℕ) : Type 0 where

@@ -1,6 +1,6 @@
 -- A change of the flows along a trail.
 use mathlib.Core.Path.{_≡_}
-use mathlib.Core.Bool.{Bool, true, false}
+use mathlib.Core.Bool.{false}
 use mathlib.Core.List.{List, [], _∷_}
 use Prim.Native.Nat.{ℕ, _+_, _-_, _<_, _≤_}
 use lib.ListN.{length, getD, set}
@@ -10,6 +10,11 @@ use Rattle.lists.specs.Members.{has}
 pub data Step : Type 0 where
   down : ℕ → Step
   up : ℕ → Step
+
+-- the edges, each walked down
+abbrev pub downs : List ℕ → List Step
+downs [] = []
+downs (e ∷ es) = down e ∷ downs es
 
 abbrev pub edgeOf : Step → ℕ
 edgeOf (down e) = e

@@ -29,12 +29,7 @@ pub filled : {A : Type 0} (d : List A) (v : A) → replicate (length d) v ++ dro
 filled [] v = refl
 filled (x ∷ d) v = ap (λ (t : List _). v ∷ t) (filled d v)
 
--- a vertex that joins a set, or not
-pub join-length : (b : Bool) (s : List Bool) (v : ℕ) → length (pick b (set s v true) s) ≡ length s
-unfolding pick
-join-length true s v = length-set s v true
-join-length false s v = refl
-
+-- a vertex that is in a set joins it
 pub joined : (s : List Bool) (v : ℕ) → getD s v false ≡ true → set s v true ≡ s
 joined s v h = ap (λ (b : Bool). set s v b) (sym h) ∙ set-getD s v false
 

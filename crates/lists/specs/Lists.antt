@@ -2,7 +2,7 @@
 use mathlib.Core.Bool.{Bool, true, false}
 use mathlib.Core.List.{List, [], _∷_}
 use Prim.Native.Nat.{ℕ, zero, suc, _+_}
-use lib.Dec.{eqb}
+use lib.Dec.{ltb, eqb}
 use Rattle.lists.specs.Choice.{pick}
 
 -- how many elements stand before the first b: all of them where there is none
@@ -34,3 +34,12 @@ lowest p i (suc k) = elim (p i) [ true ↦ i | false ↦ lowest p (suc i) k ]
 unfoldable pub count : (ℕ → Bool) → ℕ → ℕ → ℕ
 count p i zero = 0
 count p i (suc k) = pick (p i) 1 0 + count p (suc i) k
+
+-- the sum, and the greatest, of f at i, i + 1, .., i + k - 1; 0 for none
+unfoldable pub total : (ℕ → ℕ) → ℕ → ℕ → ℕ
+total f i zero = 0
+total f i (suc k) = f i + total f (suc i) k
+
+unfoldable pub most : (ℕ → ℕ) → ℕ → ℕ → ℕ
+most f i zero = 0
+most f i (suc k) = pick (ltb (most f (suc i) k) (f i)) (f i) (most f (suc i) k)

@@ -2,4 +2,3 @@ pub mod Ends
 pub mod Fields
 pub mod Columns
 pub mod Accepted
-pub mod Cases

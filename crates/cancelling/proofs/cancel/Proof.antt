@@ -1,9 +1,9 @@
 -- The rounds left over the flows as they are give all rounds over the first flows; where no vertex is on a cycle, no round changes them.
-use mathlib.Core.Path.{_≡_, refl, sym, ap, _∙_}
-use Prim.Native.Nat.{_+_, _-_, _≤_, _<_}
+use mathlib.Core.Path.{_≡_, refl, sym, _∙_}
+use Prim.Native.Nat.{_-_, _≤_, _<_}
 use native.Mathlib.Nat.{sub-zero}
 use lib.ListN.{length}
-use Rattle.cancelling.specs.Cancelling.{cancelled, acyclicFlows, lowerCycle}
+use Rattle.cancelling.specs.Cancelling.{cancelled, acyclicFlows}
 use Rattle.cancelling.proofs.Rounds.{round-turn, round-none, rounds-over}
 use native.Mathlib.Omega.{arith}
 use Rattle.cancelling.proofs.cancel.Statement.{statement}

@@ -1,8 +1,8 @@
 use native.Mathlib.Omega.{arith}
 -- Lowering the edges left gives the flows with every edge lowered.
-use mathlib.Core.Path.{_≡_, refl, sym, ap, _∙_}
-use Prim.Native.Nat.{_+_, _-_, _≤_}
-use lib.ListN.{length, drop, length-set}
+use mathlib.Core.Path.{_≡_, refl, sym, _∙_}
+use Prim.Native.Nat.{_-_}
+use lib.ListN.{length, drop}
 use Rattle.cancelling.specs.Cancelling.{lowered}
 use Rattle.cancelling.proofs.Rounds.{lowered-turn, lowered-end}
 use borrow.Author.Needs.{needs}

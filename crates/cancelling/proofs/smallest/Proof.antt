@@ -1,7 +1,7 @@
 use native.Mathlib.Omega.{arith}
 -- The smallest of the edges passed, taken on over the edges left, is the smallest of all.
 use mathlib.Core.Path.{_≡_, sym, _∙_}
-use Prim.Native.Nat.{_+_, _-_, _≤_}
+use Prim.Native.Nat.{_-_, _≤_}
 use lib.ListN.{length, getD, drop}
 use Rattle.cancelling.specs.Cancelling.{smallest}
 use Rattle.cancelling.proofs.Rounds.{smallest-turn, smallest-end}

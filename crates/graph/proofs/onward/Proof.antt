@@ -1,7 +1,7 @@
 use native.Mathlib.Omega.{arith}
 -- What is left of the search is the whole search, as long as no edge has passed.
 use mathlib.Core.Path.{_≡_, sym, _∙_}
-use Prim.Native.Nat.{_+_, _-_, _≤_}
+use Prim.Native.Nat.{_-_}
 use native.Mathlib.Nat.{sub-zero}
 use lib.ListN.{length}
 use Rattle.lists.specs.Lists.{lowest}

@@ -1,12 +1,12 @@
 -- The rest of the pass over the set as it is gives the whole pass over the first set; a set that has not changed is the first.
-use mathlib.Core.Path.{_≡_, refl, sym, ap, _∙_}
+use mathlib.Core.Path.{_≡_, refl, sym, _∙_}
 use mathlib.Core.Bool.{false}
-use Prim.Native.Nat.{_+_, _-_, _≤_}
+use Prim.Native.Nat.{_-_}
 use native.Mathlib.Nat.{sub-zero}
 use lib.ListN.{length}
 use Rattle.lists.proofs.Laws.{either-left, either-right}
 use Rattle.graph.specs.Graph.{pass}
-use Rattle.graph.proofs.Turns.{pass-turn, pass-end, join-length}
+use Rattle.graph.proofs.Turns.{pass-turn, pass-end}
 use borrow.Author.Needs.{needs}
 use native.Mathlib.Omega.{arith}
 use Rattle.graph.proofs.pass.Statement.{statement}

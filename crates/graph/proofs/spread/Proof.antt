@@ -1,7 +1,7 @@
 use native.Mathlib.Omega.{arith}
 -- The passes left over the set as it is give all passes over the first set; after a pass that changed nothing, none of them matters.
 use mathlib.Core.Path.{_≡_, refl, sym, ap, _∙_}
-use Prim.Native.Nat.{_+_, _-_, _≤_, _<_}
+use Prim.Native.Nat.{_-_, _≤_, _<_}
 use native.Mathlib.Nat.{sub-zero}
 use lib.ListN.{length}
 use borrow.Author.Tests.{not-true}

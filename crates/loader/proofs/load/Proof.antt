@@ -1,6 +1,5 @@
 -- `loader::load` meets its contract: each branch gives what `loadText` picks at the reader's answer.
-use mathlib.Core.Path.{_≡_, _∙_}
-use Rattle.loader.proofs.Branches.{bounded, refused-load, accepted-load}
+use Rattle.loader.proofs.Loads.{bounded, refused-load, accepted-load}
 use borrow.Author.Needs.{needs}
 use Rattle.loader.proofs.load.Statement.{statement}
 use Rattle.loader.proofs.load.Tie as tie

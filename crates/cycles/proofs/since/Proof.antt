@@ -4,12 +4,12 @@ use mathlib.Core.Path.{_≡_, sym, _∙_}
 use Prim.Native.Nat.{_+_, _-_, _≤_}
 use native.Mathlib.Nat.{zero-add}
 use lib.ListN.{length, drop}
-use Rattle.cancelling.specs.Cancelling.{since}
-use Rattle.cancelling.proofs.Rounds.{since-hit, since-miss, since-end}
+use Rattle.cycles.specs.Cycles.{since}
+use Rattle.cycles.proofs.Walks.{since-hit, since-miss, since-end}
 use borrow.Author.Needs.{needs}
 use native.Mathlib.Omega.{arith}
-use Rattle.cancelling.proofs.since.Statement.{statement}
-use Rattle.cancelling.proofs.since.Tie as tie
+use Rattle.cycles.proofs.since.Statement.{statement}
+use Rattle.cycles.proofs.since.Tie as tie
 
 abbrev Inv-loop : tie.InvT-loop
 Inv-loop tails v walk i₀ i =

@@ -1,17 +1,17 @@
 use native.Mathlib.Omega.{arith}
 -- What is left of the search is the whole search, as long as no vertex has passed.
 use mathlib.Core.Path.{_≡_, sym, _∙_}
-use Prim.Native.Nat.{_+_, _-_, _≤_}
+use Prim.Native.Nat.{_-_, _≤_}
 use native.Mathlib.Nat.{sub-zero}
 use lib.ListN.{length}
 use Rattle.lists.specs.Lists.{lowest}
 use Rattle.lists.proofs.Laws.{lowest-hit, lowest-miss, lowest-end}
-use Rattle.cancelling.specs.Cancelling.{onCycle, cycleVertex}
-use Rattle.cancelling.proofs.Rounds.{on-cycle-says}
+use Rattle.cycles.specs.Cycles.{onCycle, cycleVertex}
+use Rattle.cycles.proofs.Walks.{on-cycle-says}
 use borrow.Author.Needs.{needs}
 use native.Mathlib.Omega.{arith}
-use Rattle.cancelling.proofs.cycle_vertex.Statement.{statement}
-use Rattle.cancelling.proofs.cycle_vertex.Tie as tie
+use Rattle.cycles.proofs.cycle_vertex.Statement.{statement}
+use Rattle.cycles.proofs.cycle_vertex.Tie as tie
 
 abbrev Inv-loop : tie.InvT-loop
 Inv-loop tails heads flows n seen₀ v₀ seen v =

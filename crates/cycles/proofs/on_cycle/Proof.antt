@@ -1,7 +1,7 @@
-use Rattle.cancelling.proofs.Rounds.{on-cycle-made}
+use Rattle.cycles.proofs.Walks.{on-cycle-made}
 use borrow.Author.Needs.{needs}
-use Rattle.cancelling.proofs.on_cycle.Statement.{statement}
-use Rattle.cancelling.proofs.on_cycle.Tie as tie
+use Rattle.cycles.proofs.on_cycle.Statement.{statement}
+use Rattle.cycles.proofs.on_cycle.Tie as tie
 
 reach-requires : tie.Need-reach-requires
 reach-requires c κs = search needs

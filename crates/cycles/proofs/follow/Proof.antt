@@ -1,16 +1,16 @@
 use native.Mathlib.Omega.{arith}
 -- The walk from here on, over the edges walked so far, is the whole walk.
-use mathlib.Core.Path.{_≡_, refl, sym, ap, _∙_}
+use mathlib.Core.Path.{_≡_, refl, sym, _∙_}
 use mathlib.Core.List.{[]}
-use Prim.Native.Nat.{_+_, _-_, _≤_}
-use lib.ListN.{length, drop, length-set}
+use Prim.Native.Nat.{_-_, _≤_}
+use lib.ListN.{length, drop}
 use lib.Seq.{drop-length}
-use Rattle.cancelling.specs.Cancelling.{follow}
-use Rattle.cancelling.proofs.Rounds.{rest, follow-hit, follow-on, follow-over}
+use Rattle.cycles.specs.Cycles.{follow}
+use Rattle.cycles.proofs.Walks.{follow-hit, follow-on, follow-over}
 use borrow.Author.Needs.{needs}
 use native.Mathlib.Omega.{arith}
-use Rattle.cancelling.proofs.follow.Statement.{statement}
-use Rattle.cancelling.proofs.follow.Tie as tie
+use Rattle.cycles.proofs.follow.Statement.{statement}
+use Rattle.cycles.proofs.follow.Tie as tie
 
 abbrev Inv-loop : tie.InvT-loop
 Inv-loop tails heads flows seen start walk₀ v₀ at₀ walk v at =

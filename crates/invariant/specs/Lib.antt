@@ -1,0 +1,3 @@
+pub mod Intact
+pub mod Routes
+pub mod Invariant
