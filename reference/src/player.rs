@@ -75,6 +75,11 @@ impl Player {
         self.loaded.as_ref().map(|loaded| &loaded.network)
     }
 
+    /// The drained first flows, one for each edge; none where nothing was loaded.
+    pub fn acyclic_flows(&self) -> &[u64] {
+        self.loaded.as_ref().map_or(&[], |loaded| &loaded.acyclic_flows)
+    }
+
     pub fn is_over(&self) -> bool {
         self.finishing.is_some()
     }

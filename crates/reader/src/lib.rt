@@ -1,9 +1,6 @@
 // The board text, read: every line and every field is a part of the slice.
 use board::Board;
 use board::Network;
-use decimal::Number;
-use text::Field;
-use text::Line;
 use text::Part;
 use text::Range;
 use text::Reading;
@@ -15,85 +12,6 @@ ghost use Rattle.board.specs.Limits.{maxEdges, maxTerminals};
 ghost use Rattle.text.specs.Text.{field, line, between, headRanges, edgeRanges, terminalRanges, header, headed, withEdges, withTerminals, edgeLines, terminalLines, layout};
 ghost use Rattle.text.specs.Views.{fieldRead, lineRead, partRead, headerPart};
 ghost use Rattle.text.specs.Results.{readText};
-
-// A number field at the start of s, and the byte that must end it.
-fn field(s: &[u8], range: Range, end: u8) -> Field
-    ensures { λ r. ⌜ fieldRead r (now (s .entry)) ≡ field range end (now (s .entry)) ⌝ }
-    ensures { λ r. ⌜ r .used ≤ length (now (s .entry)) ⌝ }
-{
-    let n = lists::index_of(s, end);
-    if s.len() <= n {
-        return Field {
-            answer: 1,
-            value: 0,
-            used: 0,
-        };
-    }
-    let found = decimal::read_number(&s[..n]);
-    match found {
-        Number::Value(value) => {
-            if range.holds(value) {
-                Field {
-                    answer: 0,
-                    value: value,
-                    used: n + 1,
-                }
-            } else {
-                Field {
-                    answer: 2,
-                    value: 0,
-                    used: 0,
-                }
-            }
-        }
-        Number::Malformed => Field {
-            answer: 1,
-            value: 0,
-            used: 0,
-        },
-    }
-}
-
-fn refused_line(answer: u32) -> Line
-    ensures { λ r. ⌜ (r .answer ≡ answer) × (r .used ≡ 0) ⌝ }
-{
-    Line {
-        answer: answer,
-        values: [0; 4],
-        used: 0,
-    }
-}
-
-// A line at the start of s: its letter, then a number for each of the first `count` ranges.
-fn line(s: &[u8], letter: u8, ranges: [Range; 4], count: usize) -> Line
-    requires { ⌜ (count ≤ 4) × (0 < letter) ⌝ }
-    ensures { λ r. ⌜ lineRead count r (now (s .entry)) ≡ line letter (take count ranges) (now (s .entry)) ⌝ }
-    ensures { λ r. ⌜ r .used ≤ length (now (s .entry)) ⌝ }
-{
-    if lists::byte_at(s, 0) != letter {
-        return refused_line(1);
-    }
-    if lists::byte_at(s, 1) != b',' {
-        return refused_line(1);
-    }
-    let mut values = [0u32; 4];
-    let mut at: usize = 2;
-    let mut i: usize = 0;
-    while i < count {
-        let f = field(&s[at..], ranges[i], text::end_of(count - i - 1));
-        if f.answer != 0 {
-            return refused_line(f.answer);
-        }
-        values[i] = f.value;
-        at += f.used;
-        i += 1;
-    }
-    Line {
-        answer: 0,
-        values: values,
-        used: at,
-    }
-}
 
 // The ranges of `B,vertices,edges,terminals,source`.
 fn head_ranges() -> [Range; 4]
@@ -141,7 +59,7 @@ fn header(s: &[u8]) -> Part
     ensures { λ r. ⌜ partRead r (now (s .entry)) ≡ headerPart (now (s .entry)) ⌝ }
     ensures { λ r. ⌜ r .used ≤ length (now (s .entry)) ⌝ }
 {
-    let l = line(s, b'B', head_ranges(), 4);
+    let l = lines::line(s, b'B', head_ranges(), 4);
     if l.answer != 0 {
         return Part::refused(l.answer);
     }
@@ -197,7 +115,7 @@ fn edge_lines(s: &[u8], start: usize, net: Network) -> Part
     let mut at = start;
     let mut i: usize = 0;
     while i < edges {
-        let l = line(&s[at..], b'C', ranges, 3);
+        let l = lines::line(&s[at..], b'C', ranges, 3);
         if l.answer != 0 {
             return Part::refused(l.answer);
         }
@@ -250,7 +168,7 @@ fn terminal_lines(s: &[u8], start: usize, net: Network) -> Part
     let mut at = start;
     let mut j: usize = 0;
     while j < terminals {
-        let l = line(&s[at..], b'W', ranges, 2);
+        let l = lines::line(&s[at..], b'W', ranges, 2);
         if l.answer != 0 {
             return Part::refused(l.answer);
         }
@@ -302,7 +220,7 @@ pub fn read(s: &[u8]) -> Reading
         return Reading::refused(whole.answer);
     }
     let network = whole.network;
-    let answer = rules::judged(network);
+    let answer = judging::judged(network);
     if answer != 0 {
         return Reading::refused(answer);
     }

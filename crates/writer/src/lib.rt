@@ -98,7 +98,7 @@ fn loaded(stage: u32, net: Network) -> bool
     ensures { λ r. ⌜ r ≡ loaded stage net ⌝ }
 {
     let open = lists::and(Board::PLAY <= stage, stage <= Board::FINISHED);
-    let fits = rules::lawful(net);
+    let fits = judging::lawful(net);
     lists::and(open, fits)
 }
 

@@ -2,22 +2,26 @@
 //! one and then a fresh one, which is printed. The first difference is printed with its input, and the exit status is 1.
 
 use reference::boards::random_board;
+use reference::cancelling::acyclic_flows;
 use reference::cases::{texts, T};
 use reference::damage::{at_every_field, damaged, every_start, surplus};
 use reference::player::Player;
 use reference::random::Random;
-use reference::text::write;
+use reference::text::{flows, read, write};
 use std::collections::BTreeMap;
 use std::fmt::Debug;
 use std::time::{Instant, SystemTime};
 
 const FIXED_SEED: u64 = 1;
 const INPUTS: u64 = 60_000;
+/// The places that the engine's record has for edges; those past a board's edges hold 0.
+const EDGES: usize = 64;
 
 // The engine's exported functions: crates/boundary.
 #[link(name = "boundary", kind = "static")]
 extern "C" {
     fn vulprow_copy(text: *const u8, text_length: usize, buffer: *mut u8, buffer_length: usize, writing: *mut u32, used: *mut usize) -> u32;
+    fn vulprow_acyclic(text: *const u8, text_length: usize, flows: *mut [u32; EDGES]) -> u32;
 }
 
 /// A text loaded, and the board written into a buffer: what both answered, and the buffer then.
@@ -45,8 +49,31 @@ fn copied_by_reference(text: &[u8], mut buffer: Vec<u8>) -> Copied {
     Copied { loading, writing, used, buffer }
 }
 
-/// What was compared, for a person to see that it was enough: how often each call got each answer.
-type Tally = BTreeMap<(&'static str, u32), u64>;
+/// The answer of a load, and the acyclic flows of the board that it gave.
+#[derive(Debug, PartialEq, Eq)]
+struct Cancelled {
+    loading: u32,
+    flows: [u32; EDGES],
+}
+
+fn cancelled_by_engine(text: &[u8]) -> Cancelled {
+    let mut flows = [u32::MAX; EDGES];
+    // As above: the text by address and length, and the flows by address.
+    let loading = unsafe { vulprow_acyclic(text.as_ptr(), text.len(), &mut flows) };
+    Cancelled { loading, flows }
+}
+
+fn cancelled_by_reference(text: &[u8]) -> Cancelled {
+    let (loading, player) = Player::load(text);
+    let mut flows = [0; EDGES];
+    for (place, flow) in flows.iter_mut().zip(player.acyclic_flows()) {
+        *place = u32::try_from(*flow).expect("a flow of an accepted board fits");
+    }
+    Cancelled { loading, flows }
+}
+
+/// What was compared, for a person to see that it was enough: how often each call got each answer, and how many boards had cycles.
+type Tally = BTreeMap<String, u64>;
 
 fn same<T: Debug + PartialEq>(input: &[u8], by_reference: T, by_engine: T) -> Result<T, String> {
     if by_reference == by_engine {
@@ -60,11 +87,15 @@ fn same<T: Debug + PartialEq>(input: &[u8], by_reference: T, by_engine: T) -> Re
 }
 
 /// A text loaded by both, and written into a buffer of this length, which held something else before.
-fn compare_copy(rng: &mut Random, text: &[u8], length: usize, tally: &mut Tally) -> Result<(), String> {
+fn compare_load(rng: &mut Random, text: &[u8], length: usize, tally: &mut Tally) -> Result<(), String> {
     let buffer = rng.bytes(length);
-    let both = same(text, copied_by_reference(text, buffer.clone()), copied_by_engine(text, buffer))?;
-    *tally.entry(("load", both.loading)).or_default() += 1;
-    *tally.entry(("write", both.writing)).or_default() += 1;
+    let copied = same(text, copied_by_reference(text, buffer.clone()), copied_by_engine(text, buffer))?;
+    *tally.entry(format!("load {}", copied.loading)).or_default() += 1;
+    *tally.entry(format!("write {}", copied.writing)).or_default() += 1;
+    same(text, cancelled_by_reference(text), cancelled_by_engine(text))?;
+    if read(text).is_ok_and(|network| acyclic_flows(&network) != flows(&network)) {
+        *tally.entry("with cycles".into()).or_default() += 1;
+    }
     Ok(())
 }
 
@@ -81,7 +112,7 @@ fn compare_random(rng: &mut Random, tally: &mut Tally) -> Result<(), String> {
         4 => good.len() + rng.below(9),
         _ => text.len(),
     };
-    compare_copy(rng, &text, length, tally)
+    compare_load(rng, &text, length, tally)
 }
 
 /// The texts made by hand, and for T and a few random boards every kind of damage at every field, every start and surplus.
@@ -93,7 +124,7 @@ fn compare_made(seed: u64, tally: &mut Tally) -> Result<(), String> {
     for board in boards {
         texts.extend([at_every_field(&board), every_start(&board), surplus(&board)].concat());
     }
-    texts.iter().try_for_each(|text| compare_copy(&mut rng, text, text.len(), tally))
+    texts.iter().try_for_each(|text| compare_load(&mut rng, text, text.len(), tally))
 }
 
 fn compare(seed: u64, count: u64, tally: &mut Tally) -> Result<(), String> {
@@ -130,7 +161,7 @@ fn main() {
             println!("the engine differs from the reference\n{difference}");
             std::process::exit(1);
         }
-        let answers: Vec<String> = tally.iter().map(|((call, answer), times)| format!("{call} {answer}: {times}")).collect();
+        let answers: Vec<String> = tally.iter().map(|(what, times)| format!("{what}: {times}")).collect();
         println!("no difference in {:.1} s ({})", start.elapsed().as_secs_f64(), answers.join(", "));
     }
 }

@@ -34,7 +34,10 @@ same-length-3 : tie.Need-same-length-3 Inv-loop μ-loop
 same-length-3 c = omega arith
 
 returns : tie.Need-returns Inv-loop μ-loop
-returns c = sym (round-none _ _ _ _ _ _ _ (c .before .before .before .cycle-vertex .ensures) (c .if1 .taken)) ∙ c .before .before .before .before .before .before .before .loop .inv .3
+returns c =
+    let at-cycle-vertex = c .before .before .before .cycle-vertex in
+    let at-loop = c .before .before .before .before .before .before .before .loop in
+    sym (round-none _ _ _ _ _ _ _ (at-cycle-vertex .ensures) (c .if1 .taken)) ∙ at-loop .inv .3
 
 cancel-from-requires : tie.Need-cancel-from-requires Inv-loop μ-loop
 cancel-from-requires c κs = omega arith
@@ -47,13 +50,17 @@ loop-less c = omega arith
 
 loop-again : tie.Need-loop-again Inv-loop μ-loop
 loop-again c =
-    let long : length (c .before .before .before .before .before .before .before .before .before .before .before .before .before .cycle-vertex .last .1 .1 .1 .1 .0) ≡ c .before .before .before .before .before .before .before .before .before .before .before .before .before .before .before .before .before .before .before .before .before .before .before .args .n = omega arith in
+    let at-cancel-from = c .before .before .before .before .before .before .cancel-from in
+    let at-if1 = c .before .before .before .before .before .before .before .before .before .before .if1 in
+    let at-cycle-vertex = c .before .before .before .before .before .before .before .before .before .before .before .before .before .cycle-vertex in
+    let passed = c .before .before .before .before .before .before .before .before .before .before .before .before .before .before .before .before .before .before .before .before .before .before .before .args in
+    let long : length (at-cycle-vertex .last .1 .1 .1 .1 .0) ≡ passed .n = omega arith in
     let at-loop = c .before .before .before .before .before .before .before .before .before .before .before .before .before .before .before .before .before .loop in
-    let inside : at-loop .round < length (c .before .before .before .before .before .before .before .before .before .before .before .before .before .before .before .before .before .before .before .before .before .before .before .args .flows .now) = omega arith in (
+    let inside : at-loop .round < length (passed .flows .now) = omega arith in (
       omega arith,
       omega arith,
       omega arith,
-      round-turn _ _ _ _ _ _ _ (c .before .before .before .before .before .before .before .before .before .before .before .before .before .cycle-vertex .ensures) _ _ long (c .before .before .before .before .before .before .cancel-from .ensures) inside (c .before .before .before .before .before .before .before .before .before .before .if1 .left) ∙ at-loop .inv .3,
+      round-turn _ _ _ _ _ _ _ (at-cycle-vertex .ensures) _ _ long (at-cancel-from .ensures) inside (at-if1 .left) ∙ at-loop .inv .3,
     )
 
 same-length-4 : tie.Need-same-length-4 Inv-loop μ-loop

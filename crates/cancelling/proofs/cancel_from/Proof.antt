@@ -38,9 +38,12 @@ same-length-3 c = search needs
 
 returns : tie.Need-returns
 returns c =
+    let at-lower-cycle = c .before .before .lower-cycle in
+    let at-reach = c .before .before .before .before .before .before .before .before .before .before .before .before .before .before .before .reach in
+    let given = c .before .before .before .before .before .before .before .before .before .before .before .before .before .before .before .before .before .before .before .before .before .before .before .pre in
     let at-follow = c .before .before .before .before .before .before .before .before .before .follow in
-    cycle-made _ _ _ _ _ _ (at-follow .result .from) (at-follow .result .count) _ (at-follow .last .1 .1 .1 .1 .1 .0) _ (c .before .before .before .before .before .before .before .before .before .before .before .before .before .before .before .before .before .before .before .before .before .before .before .pre) (c .before .before .before .before .before .before .before .before .before .before .before .before .before .before .before .reach .ensures)
-    (at-follow .ensures .1) (c .before .before .lower-cycle .ensures)
+    cycle-made _ _ _ _ _ _ (at-follow .result .from) (at-follow .result .count) _ (at-follow .last .1 .1 .1 .1 .1 .0) _ (given) (at-reach .ensures)
+    (at-follow .ensures .1) (at-lower-cycle .ensures)
 
 pub cancel-from-spec : {M : Type 1} → statement M
 cancel-from-spec =

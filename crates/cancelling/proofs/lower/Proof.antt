@@ -43,7 +43,9 @@ loop-less c = omega arith
 
 loop-again : tie.Need-loop-again Inv-loop μ-loop
 loop-again c =
-    (omega arith, lowered-turn _ _ _ _ _ (c .before .before .before .before .before .before .before .before .loop-test .taken) (cc) ∙ c .before .before .before .before .before .before .before .before .before .loop .inv .1)
+    let at-loop-test = c .before .before .before .before .before .before .before .before .loop-test in
+    let at-loop = c .before .before .before .before .before .before .before .before .before .loop in
+    (omega arith, lowered-turn _ _ _ _ _ (at-loop-test .taken) (cc) ∙ at-loop .inv .1)
 
 same-length : tie.Need-same-length Inv-loop μ-loop
 same-length c = c .before .loop .inv .0

@@ -25,7 +25,8 @@ word-at-requires c κs = search needs
 
 loop-holds : tie.Need-loop-holds Inv-loop μ-loop
 loop-holds c =
-    let first : c .word-at .result ≡ getD (c .before .before .before .before .args .flows .now) (getD (c .before .before .before .before .args .cycle .now) 0 0) 0 = cc in
+    let passed = c .before .before .before .before .args in
+    let first : c .word-at .result ≡ getD (passed .flows .now) (getD (passed .cycle .now) 0 0) 0 = cc in
     (omega arith, rw first)
 
 mul-word-at : tie.Need-mul-word-at Inv-loop μ-loop
@@ -47,7 +48,10 @@ loop-less : tie.Need-loop-less Inv-loop μ-loop
 loop-less c = omega arith
 
 loop-again : tie.Need-loop-again Inv-loop μ-loop
-loop-again c = (omega arith, smallest-turn _ _ _ _ _ (c .before .before .before .loop-test .taken) (cc) ∙ c .before .before .before .before .loop .inv .1)
+loop-again c =
+    let at-loop-test = c .before .before .before .loop-test in
+    let at-loop = c .before .before .before .before .loop in
+    (omega arith, smallest-turn _ _ _ _ _ (at-loop-test .taken) (cc) ∙ at-loop .inv .1)
 
 returns : tie.Need-returns Inv-loop μ-loop
 returns c = sym (smallest-end _ _ _ _ (c .loop-test .left)) ∙ c .before .loop .inv .1

@@ -31,7 +31,11 @@ same-length : tie.Need-same-length Inv-loop μ-loop
 same-length c = omega arith
 
 returns : tie.Need-returns Inv-loop μ-loop
-returns c = sym (lowest-hit _ _ _ (c .before .before .before .before .before .loop-test .taken) (on-cycle-says _ _ _ _ _ _ _ _ (c .before .before .before .before .before .before .loop .inv .1) (c .before .before .before .on-cycle .ensures) (c .if1 .taken))) ∙ c .before .before .before .before .before .before .loop .inv .2
+returns c =
+    let at-on-cycle = c .before .before .before .on-cycle in
+    let at-loop-test = c .before .before .before .before .before .loop-test in
+    let at-loop = c .before .before .before .before .before .before .loop in
+    sym (lowest-hit _ _ _ (at-loop-test .taken) (on-cycle-says _ _ _ _ _ _ _ _ (at-loop .inv .1) (at-on-cycle .ensures) (c .if1 .taken))) ∙ at-loop .inv .2
 
 add-v : tie.Need-add-v Inv-loop μ-loop
 add-v c = omega arith
@@ -40,7 +44,11 @@ loop-less : tie.Need-loop-less Inv-loop μ-loop
 loop-less c = omega arith
 
 loop-again : tie.Need-loop-again Inv-loop μ-loop
-loop-again c = (omega arith, omega arith, lowest-miss _ _ _ (c .before .before .before .before .before .loop-test .taken) (on-cycle-says _ _ _ _ _ _ _ _ (c .before .before .before .before .before .before .loop .inv .1) (c .before .before .before .on-cycle .ensures) (c .if1 .left)) ∙ c .before .before .before .before .before .before .loop .inv .2)
+loop-again c =
+    let at-on-cycle = c .before .before .before .on-cycle in
+    let at-loop-test = c .before .before .before .before .before .loop-test in
+    let at-loop = c .before .before .before .before .before .before .loop in
+    (omega arith, omega arith, lowest-miss _ _ _ (at-loop-test .taken) (on-cycle-says _ _ _ _ _ _ _ _ (at-loop .inv .1) (at-on-cycle .ensures) (c .if1 .left)) ∙ at-loop .inv .2)
 
 same-length-2 : tie.Need-same-length-2 Inv-loop μ-loop
 same-length-2 c = omega arith

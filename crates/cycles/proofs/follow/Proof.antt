@@ -60,16 +60,24 @@ same-length c = omega arith
 
 returns : tie.Need-returns Inv-loop μ-loop
 returns c =
-    let inside : c .before .before .before .before .before .before .before .before .before .before .before .loop .at ≤ length (c .before .before .before .before .before .before .before .before .before .before .before .loop .walk) = omega arith in
-    (omega arith, follow-hit _ _ _ _ _ _ _ _ _ _ _ (c .before .before .before .before .before .before .before .before .before .before .loop-test .taken) inside (c .before .before .before .before .before .before .before .put-index .ensures ∙ cc) (cc) (c .before .since .ensures .0) (c .before .before .before .before .before .before .before .before .before .before .before .loop .inv .2) (c .if1 .taken))
+    let at-since = c .before .since in
+    let at-put-index = c .before .before .before .before .before .before .before .put-index in
+    let at-loop-test = c .before .before .before .before .before .before .before .before .before .before .loop-test in
+    let at-loop = c .before .before .before .before .before .before .before .before .before .before .before .loop in
+    let inside : at-loop .at ≤ length (at-loop .walk) = omega arith in
+    (omega arith, follow-hit _ _ _ _ _ _ _ _ _ _ _ (at-loop-test .taken) inside (at-put-index .ensures ∙ cc) (cc) (at-since .ensures .0) (at-loop .inv .2) (c .if1 .taken))
 
 loop-less : tie.Need-loop-less Inv-loop μ-loop
 loop-less c = omega arith
 
 loop-again : tie.Need-loop-again Inv-loop μ-loop
 loop-again c =
-    let inside : c .before .before .before .before .before .before .before .before .before .before .before .loop .at ≤ length (c .before .before .before .before .before .before .before .before .before .before .before .loop .walk) = omega arith in
-    (omega arith, omega arith, follow-on _ _ _ _ _ _ _ _ _ _ _ (c .before .before .before .before .before .before .before .before .before .before .loop-test .taken) inside (c .before .before .before .before .before .before .before .put-index .ensures ∙ cc) (cc) (c .before .since .ensures .0) (c .before .before .before .before .before .before .before .before .before .before .before .loop .inv .2) (c .if1 .left))
+    let at-since = c .before .since in
+    let at-put-index = c .before .before .before .before .before .before .before .put-index in
+    let at-loop-test = c .before .before .before .before .before .before .before .before .before .before .loop-test in
+    let at-loop = c .before .before .before .before .before .before .before .before .before .before .before .loop in
+    let inside : at-loop .at ≤ length (at-loop .walk) = omega arith in
+    (omega arith, omega arith, follow-on _ _ _ _ _ _ _ _ _ _ _ (at-loop-test .taken) inside (at-put-index .ensures ∙ cc) (cc) (at-since .ensures .0) (at-loop .inv .2) (c .if1 .left))
 
 same-length-2 : tie.Need-same-length-2 Inv-loop μ-loop
 same-length-2 c = c .before .loop .inv .1

@@ -32,8 +32,11 @@ word-at-requires c κs = search needs
 
 returns : tie.Need-returns Inv-loop μ-loop
 returns c =
-    let found = sym (c .before .word-at .ensures) ∙ c .if1 .taken in
-    (since-hit _ _ _ _ _ (c .before .before .before .before .loop .inv .1) (c .before .before .before .loop-test .taken) found, c .before .before .before .before .loop .inv .0)
+    let at-word-at = c .before .word-at in
+    let at-loop-test = c .before .before .before .loop-test in
+    let at-loop = c .before .before .before .before .loop in
+    let found = sym (at-word-at .ensures) ∙ c .if1 .taken in
+    (since-hit _ _ _ _ _ (at-loop .inv .1) (at-loop-test .taken) found, at-loop .inv .0)
 
 add-i : tie.Need-add-i Inv-loop μ-loop
 add-i c = omega arith
@@ -43,7 +46,10 @@ loop-less c = omega arith
 
 loop-again : tie.Need-loop-again Inv-loop μ-loop
 loop-again c =
-    (omega arith, since-miss _ _ _ _ _ (c .before .before .before .before .loop .inv .1) (c .before .before .before .loop-test .taken) (λ e. c .if1 .left (c .before .word-at .ensures ∙ e)))
+    let at-word-at = c .before .word-at in
+    let at-loop-test = c .before .before .before .loop-test in
+    let at-loop = c .before .before .before .before .loop in
+    (omega arith, since-miss _ _ _ _ _ (at-loop .inv .1) (at-loop-test .taken) (λ e. c .if1 .left (at-word-at .ensures ∙ e)))
 
 returns-2 : tie.Need-returns-2 Inv-loop μ-loop
 returns-2 c = (since-end _ _ _ _ _ (c .before .loop .inv .1) (c .loop-test .left), c .before .loop .inv .0)

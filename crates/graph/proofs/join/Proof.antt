@@ -18,7 +18,9 @@ same-length c = search needs
 
 returns-2 : tie.Need-returns-2
 returns-2 c =
-    (sym (pick-yes _ _ _ (not-false _ (c .before .before .before .if1 .left)) ∙ joined _ _ (sym (c .before .bool-at .ensures) ∙ c .if2 .taken)), λ h. refl)
+    let at-bool-at = c .before .bool-at in
+    let at-if1 = c .before .before .before .if1 in
+    (sym (pick-yes _ _ _ (not-false _ (at-if1 .left)) ∙ joined _ _ (sym (at-bool-at .ensures) ∙ c .if2 .taken)), λ h. refl)
 
 put-bool-requires : tie.Need-put-bool-requires
 put-bool-requires c κs = search needs
@@ -27,7 +29,10 @@ same-length-2 : tie.Need-same-length-2
 same-length-2 c = search needs
 
 returns-3 : tie.Need-returns-3
-returns-3 c = (c .before .before .put-bool .ensures ∙ sym (pick-yes _ _ _ (not-false _ (c .before .before .before .before .before .before .before .if1 .left))), λ h. absurd (true≢false h))
+returns-3 c =
+    let at-put-bool = c .before .before .put-bool in
+    let at-if1 = c .before .before .before .before .before .before .before .if1 in
+    (at-put-bool .ensures ∙ sym (pick-yes _ _ _ (not-false _ (at-if1 .left))), λ h. absurd (true≢false h))
 
 pub join-spec : {M : Type 1} → statement M
 join-spec =

@@ -45,11 +45,13 @@ loop-less c = omega arith
 
 loop-again : tie.Need-loop-again Inv-loop μ-loop
 loop-again c =
+    let at-loop-test = c .before .before .before .before .before .before .before .before .loop-test in
+    let at-loop = c .before .before .before .before .before .before .before .before .before .loop in
     let at-or = c .or in
     let at-join = c .before .before .before .join in
-    let inv = c .before .before .before .before .before .before .before .before .before .loop .inv in (
+    let inv = at-loop .inv in (
       omega arith,
-      pass-turn _ _ _ _ _ _ _ (c .before .before .before .before .before .before .before .before .loop-test .taken) (c .before .before .before .join .ensures .0 ∙ cc) ∙ inv .1,
+      pass-turn _ _ _ _ _ _ _ (at-loop-test .taken) (c .before .before .before .join .ensures .0 ∙ cc) ∙ inv .1,
       λ h. at-join .ensures .1 (either-right _ _ (sym (at-or .ensures) ∙ h)) ∙ inv .2 (either-left _ _ (sym (at-or .ensures) ∙ h)),
     )
 

@@ -16,7 +16,11 @@ same-length : tie.Need-same-length
 same-length c = search needs
 
 returns : tie.Need-returns
-returns c = reach-made _ _ _ _ _ _ _ _ (c .before .before .before .before .before .before .before .before .before .before .clear .ensures) (c .before .before .before .before .before .before .put-bool .ensures) (c .before .before .spread .ensures)
+returns c =
+    let at-spread = c .before .before .spread in
+    let at-put-bool = c .before .before .before .before .before .before .put-bool in
+    let at-clear = c .before .before .before .before .before .before .before .before .before .before .clear in
+    reach-made _ _ _ _ _ _ _ _ (at-clear .ensures) (at-put-bool .ensures) (at-spread .ensures)
 
 pub reach-spec : {M : Type 1} → statement M
 reach-spec =

@@ -42,8 +42,11 @@ loop-less c = omega arith
 
 loop-again : tie.Need-loop-again Inv-loop μ-loop
 loop-again c =
-    let inside : c .before .before .before .before .before .before .loop .k < length (c .before .before .before .before .before .before .before .before .before .before .before .args .seen .now) = omega arith in
-    (omega arith, ap (passes _ _ _ _) (c .before .before .before .pass .ensures .0) ∙ passes-turn _ _ _ _ _ _ inside ∙ c .before .before .before .before .before .before .loop .inv .1)
+    let at-pass = c .before .before .before .pass in
+    let at-loop = c .before .before .before .before .before .before .loop in
+    let passed = c .before .before .before .before .before .before .before .before .before .before .before .args in
+    let inside : at-loop .k < length (passed .seen .now) = omega arith in
+    (omega arith, ap (passes _ _ _ _) (at-pass .ensures .0) ∙ passes-turn _ _ _ _ _ _ inside ∙ at-loop .inv .1)
 
 same-length-2 : tie.Need-same-length-2 Inv-loop μ-loop
 same-length-2 c = c .before .loop .inv .0

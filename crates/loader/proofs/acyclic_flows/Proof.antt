@@ -29,7 +29,9 @@ slice-aggregate-cancel-5 : tie.Need-slice-aggregate-cancel-5
 slice-aggregate-cancel-5 c = sym (length-take-le _ _ (c .before .before .before .before .before .before .before .before .before .pre))
 
 cancel-requires : tie.Need-cancel-requires
-cancel-requires c κs = (sym (length-take-le _ _ (c .before .before .before .before .before .before .before .before .before .pre)), sym (length-take-le _ _ (c .before .before .before .before .before .before .before .before .before .pre)))
+cancel-requires c κs =
+    let given = c .before .before .before .before .before .before .before .before .before .pre in
+    (sym (length-take-le _ _ (given)), sym (length-take-le _ _ (given)))
 
 returns : tie.Need-returns
 returns c = search needs

@@ -20,7 +20,11 @@ opened-requires : tie.Need-opened-requires
 opened-requires c κs = search needs
 
 returns-2 : tie.Need-returns-2
-returns-2 c = accepted-load _ _ (c .before .before .before .before .before .read .ensures) _ _ (c .before .before .before .if1 .left) (c .before .acyclic-flows .ensures) (c .opened .ensures)
+returns-2 c =
+    let at-acyclic-flows = c .before .acyclic-flows in
+    let at-if1 = c .before .before .before .if1 in
+    let at-read = c .before .before .before .before .before .read in
+    accepted-load _ _ (at-read .ensures) _ _ (at-if1 .left) (at-acyclic-flows .ensures) (c .opened .ensures)
 
 pub load-spec : {M : Type 1} → statement M
 load-spec =

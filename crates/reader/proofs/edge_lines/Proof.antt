@@ -6,7 +6,7 @@ use borrow.Author.Needs.{needs}
 use lib.ListN.{length, take, drop}
 use Rattle.board.specs.declared.Network.{Network}
 use Rattle.text.specs.Text.{edgeRanges, edgeLines}
-use Rattle.reader.proofs.Turns.{answered-got, answered-refused, rest-used}
+use Rattle.lines.proofs.Turns.{answered-got, answered-refused, rest-used}
 use Rattle.reader.proofs.Loops.{edge-stop, edge-step, edge-end}
 use Rattle.reader.proofs.edge_lines.Statement.{statement}
 use Rattle.reader.proofs.edge_lines.Tie as tie

@@ -6,7 +6,7 @@ use borrow.Author.Needs.{needs}
 use lib.ListN.{length, take, drop}
 use Rattle.board.specs.declared.Network.{Network}
 use Rattle.text.specs.Text.{terminalRanges, terminalLines}
-use Rattle.reader.proofs.Turns.{answered-got, answered-refused, rest-used}
+use Rattle.lines.proofs.Turns.{answered-got, answered-refused, rest-used}
 use Rattle.reader.proofs.Loops.{terminal-stop, terminal-step, terminal-end}
 use Rattle.reader.proofs.terminal_lines.Statement.{statement}
 use Rattle.reader.proofs.terminal_lines.Tie as tie

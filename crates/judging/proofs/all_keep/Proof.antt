@@ -6,9 +6,9 @@ use native.Mathlib.Omega.{arith}
 use borrow.Author.Tests.{not-true, not-false}
 use Rattle.lists.specs.Lists.{all}
 use Rattle.lists.proofs.Laws.{all-hit, all-miss, all-end}
 use Rattle.rules.specs.Rules.{keeps}
-use Rattle.rules.proofs.all_keep.Statement.{statement}
-use Rattle.rules.proofs.all_keep.Tie as tie
+use Rattle.judging.proofs.all_keep.Statement.{statement}
+use Rattle.judging.proofs.all_keep.Tie as tie
 
 abbrev Inv-loop : tie.InvT-loop
 Inv-loop rule net n i₀ i = all (keeps rule net) i (n - i) ≡ all (keeps rule net) 0 n

@@ -1,10 +1,10 @@
 use mathlib.Core.Path.{sym, _∙_}
 use borrow.Author.Tests.{not-true, not-false}
 use Rattle.lists.specs.Choice.{pick}
 use Rattle.rules.specs.Rules.{judged}
 use borrow.Author.Needs.{needs}
-use Rattle.rules.proofs.judged.Statement.{statement}
-use Rattle.rules.proofs.judged.Tie as tie
+use Rattle.judging.proofs.judged.Statement.{statement}
+use Rattle.judging.proofs.judged.Tie as tie
 
 all-keep-requires : tie.Need-all-keep-requires
 all-keep-requires c κs = search needs

@@ -1,7 +1,7 @@
 use Rattle.rules.specs.Rules.{lawful}
 use borrow.Author.Needs.{needs}
-use Rattle.rules.proofs.lawful.Statement.{statement}
-use Rattle.rules.proofs.lawful.Tie as tie
+use Rattle.judging.proofs.lawful.Statement.{statement}
+use Rattle.judging.proofs.lawful.Tie as tie
 
 counts-fit-requires : tie.Need-counts-fit-requires
 counts-fit-requires c κs = search needs

@@ -1,6 +1,6 @@
 use borrow.Author.Needs.{needs}
-use Rattle.rules.proofs.counts_fit.Statement.{statement}
-use Rattle.rules.proofs.counts_fit.Tie as tie
+use Rattle.judging.proofs.counts_fit.Statement.{statement}
+use Rattle.judging.proofs.counts_fit.Tie as tie
 
 between-requires : tie.Need-between-requires
 between-requires c κs = search needs

@@ -3,10 +3,10 @@ use native.Mathlib.Omega.{arith}
 use lib.Seq.{length-take-le}
 use Rattle.lists.specs.Choice.{pick}
 use Rattle.text.specs.Views.{answered}
-use Rattle.reader.proofs.Turns.{field-none, field-malformed, field-in, field-out}
+use Rattle.lines.proofs.Turns.{field-none, field-malformed, field-in, field-out}
 use borrow.Author.Needs.{needs}
-use Rattle.reader.proofs.field.Statement.{statement}
-use Rattle.reader.proofs.field.Tie as tie
+use Rattle.lines.proofs.field.Statement.{statement}
+use Rattle.lines.proofs.field.Tie as tie
 
 index-of-requires : tie.Need-index-of-requires
 index-of-requires c κs = search needs

@@ -4,9 +4,9 @@ use native.Mathlib.Omega.{arith}
 use borrow.Author.Needs.{needs}
 use lib.ListN.{length, take, length-set, length-take}
 use Rattle.text.specs.Text.{line}
-use Rattle.reader.proofs.Turns.{lineRest, line-end, line-step, line-step-stop, rest-used, then-got, answered-got, answered-refused, line-letter, line-comma, line-opened, two-bytes}
-use Rattle.reader.proofs.line.Statement.{statement}
-use Rattle.reader.proofs.line.Tie as tie
+use Rattle.lines.proofs.Turns.{lineRest, line-end, line-step, line-step-stop, rest-used, then-got, answered-got, answered-refused, line-letter, line-comma, line-opened, two-bytes}
+use Rattle.lines.proofs.line.Statement.{statement}
+use Rattle.lines.proofs.line.Tie as tie
 
 abbrev Inv-loop : tie.InvT-loop
 Inv-loop s letter count ranges values₀ at₀ i₀ values at i =
