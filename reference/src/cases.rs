@@ -15,7 +15,7 @@ pub const LONGEST: usize = 1_246;
 pub const GREATEST: usize = 65_535;
 
 /// Texts written with a blank for each line feed.
-const BY_HAND: [&str; 75] = [
+const BY_HAND: [&str; 79] = [
     // Document 01's boards.
     "B,2,1,1,0 C,1,1,5 W,1,5 ",
     "B,2,1,1,0 C,0,1,5 W,0,5 ",
@@ -101,6 +101,11 @@ const BY_HAND: [&str; 75] = [
     "B,2,4,1,1 C,1,0,1 C,1,0,2 C,1,0,1 C,1,0,1 W,0,5 ",
     "B,2,1,3,0 C,0,1,6 W,1,1 W,1,2 W,1,3 ",
     "B,4,6,2,2 C,2,0,4 C,1,0,1 C,2,1,7 C,2,0,0 C,1,3,8 C,2,1,2 W,0,5 W,3,8 ",
+    // Cycles: two at one vertex; one through the source; a walk that closes behind its start; two that share an edge.
+    "B,4,5,1,0 C,0,1,2 C,1,2,3 C,2,1,3 C,1,3,4 C,3,1,4 W,1,2 ",
+    "B,3,3,1,0 C,0,1,5 C,1,2,3 C,2,0,3 W,1,2 ",
+    "B,4,5,1,0 C,0,1,1 C,1,2,2 C,2,3,5 C,3,2,3 C,3,1,2 W,1,1 ",
+    "B,4,6,1,0 C,0,1,7 C,1,2,5 C,2,3,2 C,3,1,2 C,2,1,3 C,1,0,0 W,1,7 ",
     // Lines in another order.
     "C,0,1,5 W,1,5 B,2,1,1,0 ",
     "B,2,1,1,0 W,1,5 C,0,1,5 ",
@@ -133,6 +138,17 @@ fn star() -> Network {
     let back = (1..31).map(|tail| Edge { tail, head: 0, flow: 7 });
     let terminals = vec![Terminal { home: 31, demand: 7 }];
     Network { vertices: 32, edges: out.chain(back).collect(), terminals, source: 0 }
+}
+
+/// Many cycles between two vertices, and behind them a way over all lower vertices, from the highest to the lowest, its edges in that order: each round
+/// asks of every lower vertex whether it is on a cycle, and each pass against the edges adds one vertex to the set that reaches it.
+fn many_rounds() -> Network {
+    let edge = |(tail, head, flow)| Edge { tail, head, flow };
+    let way = [31].into_iter().chain((2..30).rev()).zip((1..30).rev()).map(|(tail, head)| (tail, head, 10));
+    let there = (0..16).map(|at| (30, 31, 7 * at + 1));
+    let back = (0..16).map(|at| (31, 30, 5 * at + 2)).chain([(31, 30, 214)]);
+    let edges = [(0, 30, 10)].into_iter().chain(way).chain(there).chain(back).map(edge).collect();
+    Network { vertices: 32, edges, terminals: vec![Terminal { home: 1, demand: 10 }], source: 0 }
 }
 
 /// The board, and the board with one more or one less on each edge.
@@ -175,6 +191,7 @@ pub fn texts() -> Vec<Vec<u8>> {
     texts.push(longest);
     texts.push(write(&greatest_sums()));
     texts.extend(off_by_one(&greatest_sums()).into_iter().take(2));
+    texts.push(write(&many_rounds()));
     let mut rng = Random::new(2026);
     for _ in 0..60 {
         let network = random_board(&mut rng);

@@ -1,7 +1,7 @@
 -- Cycle cancelling. Lowering a cycle by its smallest flow keeps the balance at every vertex, raises no flow, and makes one positive edge zero.
 -- So after as many rounds as there are positive edges none is left, and a round that finds no cycle ends it earlier: no positive cycle is left.
 use mathlib.Core.Path.{_≡_, refl, ap, sym, _∙_}
-use mathlib.Core.Bool.{true, true≢false}
+use mathlib.Core.Bool.{false, true, true≢false}
 use mathlib.Core.Logic.{_⊎_, inl, inr, _≢_}
 use mathlib.Core.List.{List, [], _∷_}
 use Prim.Native.Nat.{ℕ, zero, suc, _+_, _-_, _≤_, _<_}
@@ -21,7 +21,7 @@ use Rattle.cancelling.specs.Cancelling.{smallest, lowered, lowerCycle, cancelle
 use Rattle.flows.specs.Trails.{down, edgesOf, changed, Fits, downs}
 use Rattle.flows.specs.Paths.{Acyclic, Within}
 use Rattle.flows.proofs.Change.{changed-length, closed-trail, In, changed-at}
-use Rattle.flows.proofs.Walk.{Cycle, cycle-found, first-on-cycle}
+use Rattle.flows.proofs.Walk.{Cycle, cycle-found, first-on-cycle, on-cycle-first}
 
 -- the smallest flow is one of the flows, and at most each
 record Attained (flows es : List ℕ) (x : ℕ) : Type 0 where
@@ -293,3 +293,11 @@ module _ (tails heads flows : List ℕ) (n : ℕ) (w : Within tails heads flows 
   pub acyclic-acyclic : Acyclic tails heads (acyclicFlows tails heads n flows)
   unfolding acyclicFlows
   acyclic-acyclic = cancelled-acyclic tails heads n (length flows) flows w (positives-most flows)
+
+  -- so no vertex is on a cycle
+  pub acyclic-none : (v : ℕ) → onCycle tails heads n (acyclicFlows tails heads n flows) v ≡ false
+  acyclic-none v = at (known (onCycle tails heads n (acyclicFlows tails heads n flows) v))
+    where
+      at : Known (onCycle tails heads n (acyclicFlows tails heads n flows) v) → onCycle tails heads n (acyclicFlows tails heads n flows) v ≡ false
+      at (was-true t) = let f = on-cycle-first tails heads (acyclicFlows tails heads n flows) n v t in absurd (acyclic-acyclic v (f .next) (f .edge) (f .rest))
+      at (was-false t) = t

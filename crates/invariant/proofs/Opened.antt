@@ -20,8 +20,9 @@ use Rattle.board.specs.declared.Network.{Network}
 use Rattle.board.specs.declared.Board.{Board}
 use Rattle.rules.specs.Rules.{demandAt, edgeFits, terminalFits, countsFit, judged, lawful, Lawful}
 use Rattle.rules.proofs.Meaning.{lawful-tested}
-use Rattle.flows.specs.Paths.{Within, Acyclic}
+use Rattle.flows.specs.Paths.{Positive, Within, Acyclic, rank}
 use Rattle.flows.specs.Trails.{stay}
+use Rattle.flows.proofs.Source.{none-enters, rank-source}
 use Rattle.flows.proofs.Cancel.{acyclic-length, acyclic-below, acyclic-balance, acyclic-acyclic}
 use Rattle.loader.specs.Load.{acyclicOf, opened}
 use Rattle.invariant.specs.Intact.{edgeIntact, terminalIntact, intact}
@@ -77,6 +78,23 @@ module _ (net : Network) (law : Lawful net) where
       → sumAt (net .heads) (acyclicOf net) v ≡ sumAt (net .tails) (acyclicOf net) v + demandAt net v
   first-balance v h s =
       omega (arith, acyclic-balance (net .tails) (net .heads) (net .flows) (net .vertices) within long-tails long-heads v, law .balance v h s)
+
+  -- no positive edge enters the source, and its rank is 0
+  long-first : length (acyclicOf net) ≡ length (net .flows)
+  long-first = acyclic-length (net .tails) (net .heads) (net .flows) (net .vertices) within long-tails long-heads
+
+  within-first : Within (net .tails) (net .heads) (acyclicOf net) (net .vertices)
+  within-first = record { start = λ e h. within .start e (omega (arith, long-first)); end = λ e h. within .end e (omega (arith, long-first)) }
+
+  pub source-unentered : (a : ℕ) → Positive (net .tails) (net .heads) (acyclicOf net) a (net .source) → ⊥
+  source-unentered =
+      none-enters (net .tails) (net .heads) (acyclicOf net) (net .vertices) (net .source) (demandAt net) (long-tails ∙ sym long-first) within-first
+      first-acyclic first-balance
+
+  pub source-rank : rank (net .tails) (net .heads) (acyclicOf net) (net .vertices) (net .source) ≡ 0
+  source-rank =
+      rank-source (net .tails) (net .heads) (acyclicOf net) (net .vertices) (net .source) (demandAt net) (long-tails ∙ sym long-first) within-first
+      first-acyclic first-balance
 
   -- the test
   fits : both (countsFit net) (both (all (edgeFits net) 0 maxEdges) (both (all (terminalFits net) 0 maxTerminals) (eqb (judged net) 0))) ≡ true
@@ -135,7 +153,7 @@ module _ (net : Network) (law : Lawful net) where
   opened-invariant = record {
     lawful = law;
     acyclic = refl;
-    flows-size = acyclic-length (net .tails) (net .heads) (net .flows) (net .vertices) within long-tails long-heads;
+    flows-size = long-first;
     places-size = refl;
     placed = law .home;
     balance = first-balance;
