@@ -5,3 +5,4 @@ pub mod Source
 pub mod Change
 pub mod Walk
 pub mod Cancel
+pub mod Cut

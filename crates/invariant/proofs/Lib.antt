@@ -1,2 +1,4 @@
+pub mod Network
 pub mod Opened
+pub mod Kept
 pub mod Loaded

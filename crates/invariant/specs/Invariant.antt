@@ -48,6 +48,7 @@ module _ (b : Board) where
     pub flows-size : length (b .flows) ≡ length (b .network .flows)
     pub places-size : length (b .places) ≡ length (b .network .homes)
     pub placed : (i : ℕ) → i < b .network .terminals → place i < b .network .vertices
+    pub unplaced : (i : ℕ) → b .network .terminals ≤ i → place i ≡ 0
     -- the flow that enters a vertex is the flow that leaves it and the demands of the terminals at it
     pub balance : (v : ℕ) → v < b .network .vertices → (v ≡ b .network .source → ⊥)
         → sumAt (b .network .heads) (b .flows) v ≡ sumAt (b .network .tails) (b .flows) v + sumAt (b .places) (b .network .demands) v
