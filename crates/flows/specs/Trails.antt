@@ -16,6 +16,7 @@ abbrev pub downs : List ℕ → List Step
 downs [] = []
 downs (e ∷ es) = down e ∷ downs es
 
+-- the edge of a step, and the edges of a list of steps
 abbrev pub edgeOf : Step → ℕ
 edgeOf (down e) = e
 edgeOf (up e) = e
@@ -24,6 +25,7 @@ abbrev pub edgesOf : List Step → List ℕ
 edgesOf [] = []
 edgesOf (s ∷ w) = edgeOf s ∷ edgesOf w
 
+-- where a step starts, and where it ends
 abbrev pub startOf : List ℕ → List ℕ → Step → ℕ
 startOf tails heads (down e) = getD tails e 0
 startOf tails heads (up e) = getD heads e 0

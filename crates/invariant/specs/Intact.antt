@@ -23,6 +23,7 @@ terminalIntact b j =
     both (terminalFits (b .network) j)
     (pick (ltb j (b .network .terminals)) (ltb (getD (b .places) j 0) (b .network .vertices)) (eqb (getD (b .places) j 0) 0))
 
+-- every edge and terminal is intact, and the journal has room for the moves
 unfoldable pub intact : Board → Bool
 intact b =
     both (countsFit (b .network))

@@ -43,6 +43,7 @@ module _ (b : Board) where
     pub here : place i ≡ v
 
   pub record Invariant : Type 0 where
+    -- what play never changes, and places within their counts
     pub lawful : Lawful (b .network)
     pub acyclic : b .acyclic ≡ acyclicFlows (b .network .tails) (b .network .heads) (b .network .vertices) (b .network .flows)
     pub flows-size : length (b .flows) ≡ length (b .network .flows)
