@@ -6,7 +6,7 @@ use Rattle.text.specs.declared.Range.{Range}
 use Rattle.board.specs.declared.Network.{Network}
 use Rattle.text.specs.Text.{got, line, headed}
 use Rattle.lines.proofs.Turns.{answered-got, answered-refused}
-use Rattle.reader.proofs.Loops.{head-stop, head-source, head-got}
+use Rattle.rows.proofs.Loops.{head-stop, head-source, head-got}
 use borrow.Author.Needs.{needs}
 use Rattle.reader.proofs.header.Statement.{statement}
 use Rattle.reader.proofs.header.Tie as tie

@@ -5,25 +5,25 @@ use native.Mathlib.Omega.{arith}
 use borrow.Author.Needs.{needs}
 use lib.ListN.{length, take, drop}
 use Rattle.board.specs.declared.Network.{Network}
-use Rattle.text.specs.Text.{terminalRanges, terminalLines}
+use Rattle.text.specs.Text.{edgeRanges, edgeLines}
 use Rattle.lines.proofs.Turns.{answered-got, answered-refused, rest-used}
-use Rattle.reader.proofs.Loops.{terminal-stop, terminal-step, terminal-end}
-use Rattle.reader.proofs.terminal_lines.Statement.{statement}
-use Rattle.reader.proofs.terminal_lines.Tie as tie
+use Rattle.rows.proofs.Loops.{edge-stop, edge-step, edge-end}
+use Rattle.rows.proofs.edge_lines.Statement.{statement}
+use Rattle.rows.proofs.edge_lines.Tie as tie
 
 abbrev Inv-loop : tie.InvT-loop
-Inv-loop s start ranges terminals out₀ at₀ j₀ out at j =
-    (j ≤ terminals) × (at ≤ length s) × (out .vertices ≡ out₀ .vertices) ×
-    (terminalLines out j (terminals - j) (drop at s) ≡ terminalLines out₀ 0 terminals (drop start s))
+Inv-loop s start ranges edges out₀ at₀ i₀ out at i =
+    (i ≤ edges) × (at ≤ length s) × (out .vertices ≡ out₀ .vertices) ×
+    (edgeLines out i (edges - i) (drop at s) ≡ edgeLines out₀ 0 edges (drop start s))
 
 abbrev μ-loop : tie.MeasureT-loop
-μ-loop s start ranges terminals out₀ at₀ j₀ out at j = terminals - j
+μ-loop s start ranges edges out₀ at₀ i₀ out at i = edges - i
 
-terminal-ranges-requires : tie.Need-terminal-ranges-requires Inv-loop μ-loop
-terminal-ranges-requires c κs = c .before .pre .1
+edge-ranges-requires : tie.Need-edge-ranges-requires Inv-loop μ-loop
+edge-ranges-requires c κs = c .before .pre .1
 
-cast-terminals : tie.Need-cast-terminals Inv-loop μ-loop
-cast-terminals c = search needs
+cast-edges : tie.Need-cast-edges Inv-loop μ-loop
+cast-edges c = search needs
 
 loop-holds : tie.Need-loop-holds Inv-loop μ-loop
 loop-holds c = (omega arith, c .before .before .before .pre .0, refl, rw sub-zero)
@@ -49,17 +49,16 @@ returns c =
     let at-line = c .before .before .before .line in
     let at-loop-test = c .before .before .before .before .before .loop-test in
     let at-loop = c .before .before .before .before .before .before .loop in
-    let at-terminal-ranges = c .before .before .before .before .before .before .before .before .terminal-ranges in
+    let at-edge-ranges = c .before .before .before .before .before .before .before .before .edge-ranges in
     let at-args = c .before .before .before .before .before .before .before .before .before .before .args in (
       answered-refused _ _ _ _ _ (c .refused .ensures .0) (at-if1 .taken)
-          ∙ terminal-stop (at-loop .out) (at-loop .out) (at-terminal-ranges .result) _ _ (at-loop .at) (at-args .s .now) _ (at-loop-test .taken)
-          (at-line .result) (at-loop .inv .3) (ap (take 2) (at-terminal-ranges .ensures) ∙ ap terminalRanges (sym (at-loop .inv .2)))
-          (at-line .ensures .0) (at-if1 .taken),
+          ∙ edge-stop (at-loop .out) (at-loop .out) (at-edge-ranges .result) _ _ (at-loop .at) (at-args .s .now) _ (at-loop-test .taken) (at-line .result)
+          (at-loop .inv .3) (ap (take 3) (at-edge-ranges .ensures) ∙ ap edgeRanges (sym (at-loop .inv .2))) (at-line .ensures .0) (at-if1 .taken),
       omega arith,
     )
 
-with-terminal-requires : tie.Need-with-terminal-requires Inv-loop μ-loop
-with-terminal-requires c κs = omega arith
+with-edge-requires : tie.Need-with-edge-requires Inv-loop μ-loop
+with-edge-requires c κs = omega arith
 
 add-at : tie.Need-add-at Inv-loop μ-loop
 add-at c =
@@ -67,40 +66,40 @@ add-at c =
     (c .before .before .before .before .before .before .before .before .loop .inv .1) (c .before .before .before .before .before .line .ensures .1) in
     omega arith
 
-add-j : tie.Need-add-j Inv-loop μ-loop
-add-j c = omega arith
+add-i : tie.Need-add-i Inv-loop μ-loop
+add-i c = omega arith
 
 loop-less : tie.Need-loop-less Inv-loop μ-loop
 loop-less c = omega arith
 
 loop-again : tie.Need-loop-again Inv-loop μ-loop
 loop-again c =
-    let at-with-terminal = c .before .with-terminal in
+    let at-with-edge = c .before .with-edge in
     let at-if1 = c .before .before .before .if1 in
     let at-line = c .before .before .before .before .before .line in
     let at-loop-test = c .before .before .before .before .before .before .before .loop-test in
     let at-loop = c .before .before .before .before .before .before .before .before .loop in
-    let at-terminal-ranges = c .before .before .before .before .before .before .before .before .before .before .terminal-ranges in
+    let at-edge-ranges = c .before .before .before .before .before .before .before .before .before .before .edge-ranges in
     let at-args = c .before .before .before .before .before .before .before .before .before .before .before .before .args in (
       omega arith,
       rest-used (at-args .s .now) _ _ (at-loop .inv .1) (at-line .ensures .1),
-      ap (λ (net : Network). net .vertices) (at-with-terminal .ensures) ∙ at-loop .inv .2,
-      terminal-step (at-loop .out) (at-with-terminal .result) (at-terminal-ranges .result) _ _ (at-loop .at) (at-args .s .now) _ (at-loop-test .taken)
-          (at-line .result) (at-loop .inv .3) (ap (take 2) (at-terminal-ranges .ensures) ∙ ap terminalRanges (sym (at-loop .inv .2)))
-          (at-line .ensures .0) (at-if1 .left) (at-with-terminal .ensures),
+      ap (λ (net : Network). net .vertices) (at-with-edge .ensures) ∙ at-loop .inv .2,
+      edge-step (at-loop .out) (at-with-edge .result) (at-edge-ranges .result) _ _ (at-loop .at) (at-args .s .now) _ (at-loop-test .taken)
+          (at-line .result) (at-loop .inv .3) (ap (take 3) (at-edge-ranges .ensures) ∙ ap edgeRanges (sym (at-loop .inv .2))) (at-line .ensures .0)
+          (at-if1 .left) (at-with-edge .ensures),
     )
 
 returns-2 : tie.Need-returns-2 Inv-loop μ-loop
-returns-2 c = (answered-got _ _ _ _ refl ∙ sym (terminal-end _ _ _ _ (c .loop-test .left)) ∙ c .before .loop .inv .3, omega arith)
+returns-2 c = (answered-got _ _ _ _ refl ∙ sym (edge-end _ _ _ _ (c .loop-test .left)) ∙ c .before .loop .inv .3, omega arith)
 
-pub terminal-lines-spec : {M : Type 1} → statement M
-terminal-lines-spec =
+pub edge-lines-spec : {M : Type 1} → statement M
+edge-lines-spec =
     tie.close
     (tie.spec
     Inv-loop
     μ-loop
-    terminal-ranges-requires
-    cast-terminals
+    edge-ranges-requires
+    cast-edges
     loop-holds
     sub-line
     part-line-start
@@ -108,9 +107,9 @@ terminal-lines-spec =
     line-requires
     refused-requires
     returns
-    with-terminal-requires
+    with-edge-requires
     add-at
-    add-j
+    add-i
     loop-less
     loop-again
     returns-2)
