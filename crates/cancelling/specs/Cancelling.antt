@@ -1,25 +1,11 @@
 -- Cycle cancelling: document 01, "Draining".
 use mathlib.Core.Bool.{true, false}
-use mathlib.Core.List.{List, [], _∷_}
-use Prim.Native.Nat.{ℕ, zero, suc, _-_}
+use mathlib.Core.List.{List}
+use Prim.Native.Nat.{ℕ, zero, suc}
 use lib.Dec.{ltb}
-use lib.ListN.{length, getD, set}
-use Rattle.lists.specs.Choice.{pick}
+use lib.ListN.{length}
 use Rattle.cycles.specs.Cycles.{cycleVertex, cycleFrom}
-
--- the smallest of x and the flows of the edges
-unfoldable pub smallest : List ℕ → ℕ → List ℕ → ℕ
-smallest flows x [] = x
-smallest flows x (e ∷ es) = smallest flows (pick (ltb (getD flows e 0) x) (getD flows e 0) x) es
-
--- the flows, each edge lowered by x
-unfoldable pub lowered : List ℕ → ℕ → List ℕ → List ℕ
-lowered flows x [] = flows
-lowered flows x (e ∷ es) = lowered (set flows e (getD flows e 0 - x)) x es
-
--- "Lower each channel walked since its first visit by the smallest flow among them."
-unfoldable pub lowerCycle : List ℕ → List ℕ → List ℕ
-lowerCycle flows es = lowered flows (smallest flows (getD flows (getD es 0 0) 0) es) es
+use Rattle.lowering.specs.Lowering.{lowerCycle}
 
 module _ (tails heads : List ℕ) (n : ℕ) where
   -- "Repeat until no ring is left": k rounds at most

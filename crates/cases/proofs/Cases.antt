@@ -14,7 +14,8 @@ use Rattle.text.specs.Text.{ranged}
 use Rattle.text.specs.Results.{readText}
 use Rattle.graph.specs.Graph.{opens, pass, passes, reached, leads, onward}
 use Rattle.cycles.specs.Cycles.{since, follow, onCycle, cycleVertex, cycleFrom}
-use Rattle.cancelling.specs.Cancelling.{smallest, lowered, lowerCycle, cancelled, acyclicFlows}
+use Rattle.lowering.specs.Lowering.{smallest, lowered, lowerCycle}
+use Rattle.cancelling.specs.Cancelling.{cancelled, acyclicFlows}
 use Rattle.loader.specs.declared.Loaded.{Loaded}
 use Rattle.loader.specs.Load.{loadText}
 

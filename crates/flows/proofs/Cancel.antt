@@ -17,7 +17,8 @@ use Rattle.lists.proofs.Laws.{Known, was-true, was-false, known, pick-yes, pick
 use Rattle.lists.proofs.Lowest.{lowest-least}
 use Rattle.lists.proofs.Pigeon.{has-nothing, has-here, has-later, has-cases}
 use Rattle.cycles.specs.Cycles.{onCycle, cycleVertex, cycleFrom}
-use Rattle.cancelling.specs.Cancelling.{smallest, lowered, lowerCycle, cancelled, acyclicFlows}
+use Rattle.lowering.specs.Lowering.{smallest, lowered, lowerCycle}
+use Rattle.cancelling.specs.Cancelling.{cancelled, acyclicFlows}
 use Rattle.flows.specs.Trails.{down, edgesOf, changed, Fits, downs}
 use Rattle.flows.specs.Paths.{Acyclic, Within}
 use Rattle.flows.proofs.Change.{changed-length, closed-trail, In, changed-at}

@@ -1,2 +1,1 @@
-pub mod Writing
 pub mod WritesBack

@@ -1,7 +1,7 @@
 use mathlib.Core.Path.{sym, _∙_}
 use native.Mathlib.Omega.{arith}
 use borrow.Author.Tests.{not-true, not-false}
-use Rattle.writer.proofs.Writing.{loaded-counts, write-closed, write-short, write-done}
+use Rattle.printing.proofs.Writing.{loaded-counts, write-closed, write-short, write-done}
 use borrow.Author.Needs.{needs}
 use Rattle.writer.proofs.write.Statement.{statement}
 use Rattle.writer.proofs.write.Tie as tie

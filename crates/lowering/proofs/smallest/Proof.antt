@@ -3,12 +3,12 @@ use native.Mathlib.Omega.{arith}
 use mathlib.Core.Path.{_≡_, sym, _∙_}
 use Prim.Native.Nat.{_-_, _≤_}
 use lib.ListN.{length, getD, drop}
-use Rattle.cancelling.specs.Cancelling.{smallest}
-use Rattle.cancelling.proofs.Rounds.{smallest-turn, smallest-end}
+use Rattle.lowering.specs.Lowering.{smallest}
+use Rattle.lowering.proofs.Folds.{smallest-turn, smallest-end}
 use borrow.Author.Needs.{needs}
 use native.Mathlib.Omega.{arith}
-use Rattle.cancelling.proofs.smallest.Statement.{statement}
-use Rattle.cancelling.proofs.smallest.Tie as tie
+use Rattle.lowering.proofs.smallest.Statement.{statement}
+use Rattle.lowering.proofs.smallest.Tie as tie
 
 abbrev Inv-loop : tie.InvT-loop
 Inv-loop flows cycle first least₀ i₀ least i =

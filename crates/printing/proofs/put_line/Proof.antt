@@ -6,9 +6,9 @@ use borrow.Author.Needs.{needs}
 use lib.ListN.{length, take, drop}
 use lib.Seq.{sets, length-sets}
 use Rattle.text.specs.Text.{numbersText}
-use Rattle.writer.proofs.Writing.{Left, line-begun, line-length, line-turned, line-done}
-use Rattle.writer.proofs.put_line.Statement.{statement}
-use Rattle.writer.proofs.put_line.Tie as tie
+use Rattle.printing.proofs.Writing.{Left, line-begun, line-length, line-turned, line-done}
+use Rattle.printing.proofs.put_line.Statement.{statement}
+use Rattle.printing.proofs.put_line.Tie as tie
 
 abbrev Inv-loop : tie.InvT-loop
 Inv-loop buf₀ at letter count values to₀ i₀ buf to i =

@@ -1,8 +1,8 @@
 use mathlib.Core.Path.{sym}
 use borrow.Author.Tests.{lt-ltb, le-ltb}
 use Rattle.lists.proofs.Laws.{pick-yes, pick-no}
-use Rattle.cancelling.proofs.lesser.Statement.{statement}
-use Rattle.cancelling.proofs.lesser.Tie as tie
+use Rattle.lowering.proofs.lesser.Statement.{statement}
+use Rattle.lowering.proofs.lesser.Tie as tie
 
 returns : tie.Need-returns
 returns c = sym (pick-yes _ _ _ (lt-ltb _ _ (c .if1 .taken)))

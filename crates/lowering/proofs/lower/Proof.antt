@@ -3,12 +3,12 @@ use native.Mathlib.Omega.{arith}
 use mathlib.Core.Path.{_≡_, refl, sym, _∙_}
 use Prim.Native.Nat.{_-_}
 use lib.ListN.{length, drop}
-use Rattle.cancelling.specs.Cancelling.{lowered}
-use Rattle.cancelling.proofs.Rounds.{lowered-turn, lowered-end}
+use Rattle.lowering.specs.Lowering.{lowered}
+use Rattle.lowering.proofs.Folds.{lowered-turn, lowered-end}
 use borrow.Author.Needs.{needs}
 use native.Mathlib.Omega.{arith}
-use Rattle.cancelling.proofs.lower.Statement.{statement}
-use Rattle.cancelling.proofs.lower.Tie as tie
+use Rattle.lowering.proofs.lower.Statement.{statement}
+use Rattle.lowering.proofs.lower.Tie as tie
 
 abbrev Inv-loop : tie.InvT-loop
 Inv-loop flows₀ x cycle i₀ flows i =

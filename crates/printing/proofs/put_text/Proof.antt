@@ -1,7 +1,7 @@
-use Rattle.writer.proofs.Writing.{text-written}
+use Rattle.printing.proofs.Writing.{text-written}
 use borrow.Author.Needs.{needs}
-use Rattle.writer.proofs.put_text.Statement.{statement}
-use Rattle.writer.proofs.put_text.Tie as tie
+use Rattle.printing.proofs.put_text.Statement.{statement}
+use Rattle.printing.proofs.put_text.Tie as tie
 
 put-line-requires : tie.Need-put-line-requires
 put-line-requires c κs = search needs

@@ -1,7 +1,7 @@
-use Rattle.cancelling.proofs.Rounds.{lower-made}
+use Rattle.lowering.proofs.Folds.{lower-made}
 use borrow.Author.Needs.{needs}
-use Rattle.cancelling.proofs.lower_cycle.Statement.{statement}
-use Rattle.cancelling.proofs.lower_cycle.Tie as tie
+use Rattle.lowering.proofs.lower_cycle.Statement.{statement}
+use Rattle.lowering.proofs.lower_cycle.Tie as tie
 
 smallest-requires : tie.Need-smallest-requires
 smallest-requires c κs = search needs

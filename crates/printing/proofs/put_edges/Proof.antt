@@ -6,34 +6,34 @@ use native.Mathlib.Omega.{arith}
 use borrow.Author.Needs.{needs}
 use lib.ListN.{length, take}
 use lib.Seq.{sets, length-sets}
-use Rattle.text.specs.Text.{terminalRow, linesText}
-use Rattle.writer.proofs.Writing.{Left, lines-turned, lines-done}
-use Rattle.writer.proofs.put_terminals.Statement.{statement}
-use Rattle.writer.proofs.put_terminals.Tie as tie
+use Rattle.text.specs.Text.{edgeRow, linesText}
+use Rattle.printing.proofs.Writing.{Left, lines-turned, lines-done}
+use Rattle.printing.proofs.put_edges.Statement.{statement}
+use Rattle.printing.proofs.put_edges.Tie as tie
 
 abbrev Inv-loop : tie.InvT-loop
-Inv-loop buf₀ at net terminals to₀ j₀ buf to j =
-    (j ≤ terminals) × (to ≤ at + 50 * j)
-    × Left buf (sets buf₀ at (linesText 87 (terminalRow net) 0 terminals)) to (at + length (linesText 87 (terminalRow net) 0 terminals))
-    (linesText 87 (terminalRow net) j (terminals - j))
+Inv-loop buf₀ at net edges to₀ i₀ buf to i =
+    (i ≤ edges) × (to ≤ at + 50 * i)
+    × Left buf (sets buf₀ at (linesText 67 (edgeRow net) 0 edges)) to (at + length (linesText 67 (edgeRow net) 0 edges))
+    (linesText 67 (edgeRow net) i (edges - i))
 
 abbrev μ-loop : tie.MeasureT-loop
-μ-loop buf₀ at net terminals to₀ j₀ buf to j = terminals - j
+μ-loop buf₀ at net edges to₀ i₀ buf to i = edges - i
 
-cast-terminals : tie.Need-cast-terminals Inv-loop μ-loop
-cast-terminals c = search needs
+cast-edges : tie.Need-cast-edges Inv-loop μ-loop
+cast-edges c = search needs
 
 loop-holds : tie.Need-loop-holds Inv-loop μ-loop
 loop-holds c = (omega arith, omega arith, record { size = rw sub-zero; gives = rw sub-zero })
 
-terminal-row-requires : tie.Need-terminal-row-requires Inv-loop μ-loop
-terminal-row-requires c κs = tt
+edge-row-requires : tie.Need-edge-row-requires Inv-loop μ-loop
+edge-row-requires c κs = tt
 
 put-line-requires : tie.Need-put-line-requires Inv-loop μ-loop
 put-line-requires c κs = omega arith
 
-add-j : tie.Need-add-j Inv-loop μ-loop
-add-j c = omega arith
+add-i : tie.Need-add-i Inv-loop μ-loop
+add-i c = omega arith
 
 loop-less : tie.Need-loop-less Inv-loop μ-loop
 loop-less c = omega arith
@@ -41,12 +41,12 @@ loop-less c = omega arith
 loop-again : tie.Need-loop-again Inv-loop μ-loop
 loop-again c =
     let at-put-line = c .before .before .put-line in
-    let at-terminal-row = c .before .before .before .terminal-row in
+    let at-edge-row = c .before .before .before .edge-row in
     let at-loop-test = c .before .before .before .before .before .loop-test in
     let at-loop = c .before .before .before .before .before .before .loop in (
       omega arith,
       omega arith,
-      lines-turned _ _ _ _ (at-loop-test .taken) (at-loop .inv .2) _ _ _ (ap (take 2) (at-terminal-row .ensures)) (at-put-line .ensures .1 .1)
+      lines-turned _ _ _ _ (at-loop-test .taken) (at-loop .inv .2) _ _ _ (ap (take 3) (at-edge-row .ensures)) (at-put-line .ensures .1 .1)
           (at-put-line .ensures .0),
     )
 
@@ -54,19 +54,21 @@ same-length : tie.Need-same-length Inv-loop μ-loop
 same-length c = ap length (lines-done _ _ _ _ (c .loop-test .left) (c .before .loop .inv .2) .1) ∙ simp length-sets
 
 returns : tie.Need-returns Inv-loop μ-loop
-returns c = lines-done _ _ _ _ (c .loop-test .left) (c .before .loop .inv .2)
+returns c =
+    let d = lines-done _ _ _ _ (c .loop-test .left) (c .before .loop .inv .2) in
+    (d .0, (omega arith, d .1))
 
-pub put-terminals-spec : {M : Type 1} → statement M
-put-terminals-spec =
+pub put-edges-spec : {M : Type 1} → statement M
+put-edges-spec =
     tie.close
     (tie.spec
     Inv-loop
     μ-loop
-    cast-terminals
+    cast-edges
     loop-holds
-    terminal-row-requires
+    edge-row-requires
     put-line-requires
-    add-j
+    add-i
     loop-less
     loop-again
     same-length
