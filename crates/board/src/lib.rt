@@ -57,6 +57,12 @@ pub struct Board {
     pub finish_from: u32,
 }
 
+// What a call on a board gives: 0 and the board after it; or the number that the call is refused with, and the board as it was.
+pub struct Played {
+    pub answer: u32,
+    pub board: Board,
+}
+
 impl Board {
     pub const MAX_VERTICES: u32 = 32;
 
@@ -65,6 +71,9 @@ impl Board {
     pub const MAX_TERMINALS: usize = 16;
 
     pub const MAX_FLOW: u32 = 1000000;
+
+    // What the terminals need together at most: MAX_TERMINALS × MAX_FLOW.
+    pub const MAX_TOTAL: u32 = 16000000;
 
     pub const JOURNAL: usize = 1056;
 

@@ -44,7 +44,8 @@ fn between(low: u32, n: u32, high: u32) -> bool
     lists::and(low <= n, n <= high)
 }
 
-fn counts_fit(net: Network) -> bool
+// Whether the counts and the source are in their ranges.
+pub fn counts_fit(net: Network) -> bool
     ensures { λ r. ⌜ r ≡ countsFit net ⌝ }
 {
     let vertices = between(2, net.vertices, Board::MAX_VERTICES);

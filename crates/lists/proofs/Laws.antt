@@ -45,6 +45,17 @@ pub pick-no : {A : Type 0} (t : Bool) (a b : A) → t ≡ false → pick t a b �
 unfolding pick
 pick-no t a b e = rw e
 
+-- a choice of numbers that gives 0 did not give the other one
+pub pick-passed : (t : Bool) (x k : ℕ) → pick t x (suc k) ≡ 0 → (t ≡ true) × (x ≡ 0)
+unfolding pick
+pick-passed true x k h = (refl, h)
+pick-passed false x k h = absurd (omega (arith, h))
+
+pub pick-avoided : (t : Bool) (x k : ℕ) → pick t (suc k) x ≡ 0 → (t ≡ false) × (x ≡ 0)
+unfolding pick
+pick-avoided true x k h = absurd (omega (arith, h))
+pick-avoided false x k h = (refl, h)
+
 pub both-left : (a b : Bool) → both a b ≡ true → a ≡ true
 unfolding both
 both-left true b h = refl

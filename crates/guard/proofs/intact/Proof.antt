@@ -1,0 +1,62 @@
+use Rattle.guard.specs.Guard.{intact}
+use borrow.Author.Needs.{needs}
+use Rattle.guard.proofs.intact.Statement.{statement}
+use Rattle.guard.proofs.intact.Tie as tie
+
+counts-fit-requires : tie.Need-counts-fit-requires
+counts-fit-requires c κs = search needs
+
+cast-all-intact : tie.Need-cast-all-intact
+cast-all-intact c = search needs
+
+all-intact-requires : tie.Need-all-intact-requires
+all-intact-requires c κs = search needs
+
+cast-all-intact-2 : tie.Need-cast-all-intact-2
+cast-all-intact-2 c = search needs
+
+all-intact-requires-2 : tie.Need-all-intact-requires-2
+all-intact-requires-2 c κs = search needs
+
+last-entry-requires : tie.Need-last-entry-requires
+last-entry-requires c κs = search needs
+
+move-intact-requires : tie.Need-move-intact-requires
+move-intact-requires c κs = search needs
+
+cast-and : tie.Need-cast-and
+cast-and c = search needs
+
+and-requires : tie.Need-and-requires
+and-requires c κs = search needs
+
+and-requires-2 : tie.Need-and-requires-2
+and-requires-2 c κs = search needs
+
+and-requires-3 : tie.Need-and-requires-3
+and-requires-3 c κs = search needs
+
+and-requires-4 : tie.Need-and-requires-4
+and-requires-4 c κs = search needs
+
+returns : tie.Need-returns
+unfolding intact
+returns c = cc
+
+pub intact-spec : {M : Type 1} → statement M
+intact-spec =
+    tie.close
+    (tie.spec
+    counts-fit-requires
+    cast-all-intact
+    all-intact-requires
+    cast-all-intact-2
+    all-intact-requires-2
+    last-entry-requires
+    move-intact-requires
+    cast-and
+    and-requires
+    and-requires-2
+    and-requires-3
+    and-requires-4
+    returns)

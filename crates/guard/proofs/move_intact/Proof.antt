@@ -1,0 +1,26 @@
+use mathlib.Core.Path.{sym, ap}
+use Rattle.guard.specs.Guard.{moveIntact}
+use borrow.Author.Needs.{needs}
+use Rattle.guard.proofs.move_intact.Statement.{statement}
+use Rattle.guard.proofs.move_intact.Tie as tie
+use Rattle.guard.proofs.move_intact.Reads as reads
+use Rattle.guard.proofs.move_intact.Lts as lts
+
+-- src/lib.rt:86:27
+enum-told : tie.Need-enum-told
+enum-told c = search needs
+
+-- src/lib.rt:87:20
+enum-known-step : tie.Need-enum-known-step
+enum-known-step c = search needs
+
+-- src/lib.rt:82:1
+returns : tie.Need-returns
+returns c = search needs
+
+-- src/lib.rt:82:1
+returns-2 : tie.Need-returns-2
+returns-2 c = sym (ap moveIntact (c .before .before .step .given .1))
+
+pub move-intact-spec : {M : Type 1} → statement M
+move-intact-spec = tie.close (tie.spec enum-told enum-known-step returns returns-2)

@@ -1,0 +1,17 @@
+use Rattle.guard.specs.Guard.{playing}
+use borrow.Author.Needs.{needs}
+use Rattle.guard.proofs.playing.Statement.{statement}
+use Rattle.guard.proofs.playing.Tie as tie
+
+intact-requires : tie.Need-intact-requires
+intact-requires c κs = search needs
+
+and-requires : tie.Need-and-requires
+and-requires c κs = search needs
+
+returns : tie.Need-returns
+unfolding playing
+returns c = cc
+
+pub playing-spec : {M : Type 1} → statement M
+playing-spec = tie.close (tie.spec intact-requires and-requires returns)

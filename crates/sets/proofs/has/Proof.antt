@@ -1,0 +1,19 @@
+use mathlib.Core.Path.{refl, sym}
+use Rattle.sets.specs.Sets.{hasBit}
+use Rattle.sets.proofs.Bits.{has-past}
+use borrow.Author.Needs.{needs}
+use Rattle.sets.proofs.has.Statement.{statement}
+use Rattle.sets.proofs.has.Tie as tie
+
+shr-result : tie.Need-shr-result
+shr-result c = search needs
+
+returns : tie.Need-returns
+unfolding hasBit
+returns c = refl
+
+returns-2 : tie.Need-returns-2
+returns-2 c = sym (has-past _ 64 _ (search needs) (c .if1 .left))
+
+pub has-spec : {M : Type 1} → statement M
+has-spec = tie.close (tie.spec shr-result returns returns-2)

@@ -1,0 +1,27 @@
+// Sets of small numbers as bits.
+ghost use mathlib.Core.Path.{_≡_};
+ghost use Prim.Native.Nat.{_-_, _<_};
+ghost use Rattle.lists.specs.Choice.{pick};
+ghost use Rattle.sets.specs.Sets.{setWidth, hasBit, withBit};
+
+// Whether c is in the set.
+pub fn has(m: u64, c: usize) -> bool
+    ensures { λ r. ⌜ r ≡ hasBit m c ⌝ }
+{
+    if c < 64 { (m >> c) % 2 == 1 } else { false }
+}
+
+// The set, with c where it is to join.
+pub fn with(m: u64, joins: bool, c: usize) -> u64
+    requires { ⌜ c < setWidth ⌝ }
+    ensures { λ r. ⌜ r ≡ pick joins (withBit m c) m ⌝ }
+{
+    if joins { m | (1u64 << c) } else { m }
+}
+
+// The set m without the set s, which is part of it.
+pub fn without(m: u64, s: u64) -> u64
+    ensures { λ r. ⌜ r ≡ m - s ⌝ }
+{
+    if s <= m { m - s } else { 0 }
+}

@@ -1,0 +1,53 @@
+-- What is left of the search is the whole search, as long as no edge has passed.
+use mathlib.Core.Path.{_≡_, refl, sym, _∙_}
+use Prim.Native.Nat.{_-_}
+use lib.ListN.{length}
+use Rattle.lists.specs.Lists.{lowest}
+use Rattle.lists.proofs.Laws.{lowest-hit, lowest-miss, lowest-end}
+use Rattle.singular.specs.Singular.{leaves, leaving}
+use borrow.Author.Needs.{needs}
+use native.Mathlib.Omega.{arith}
+use Rattle.singular.proofs.leaving.Statement.{statement}
+use Rattle.singular.proofs.leaving.Tie as tie
+
+abbrev Inv-loop : tie.InvT-loop
+Inv-loop tails flows v i e₀ e = lowest (leaves tails flows v) e (length flows - e) ≡ leaving tails flows v i
+
+abbrev μ-loop : tie.MeasureT-loop
+μ-loop tails flows v i e₀ e = length flows - e
+
+loop-holds : tie.Need-loop-holds Inv-loop μ-loop
+unfolding leaving
+loop-holds c = refl
+
+leaves-requires : tie.Need-leaves-requires Inv-loop μ-loop
+leaves-requires c κs = search needs
+
+returns : tie.Need-returns Inv-loop μ-loop
+returns c = sym (lowest-hit _ _ _ (c .before .before .loop-test .taken) (sym (c .before .leaves .ensures) ∙ c .if1 .taken)) ∙ c .before .before .before .loop .inv
+
+add-e : tie.Need-add-e Inv-loop μ-loop
+add-e c = omega arith
+
+loop-less : tie.Need-loop-less Inv-loop μ-loop
+loop-less c = omega arith
+
+loop-again : tie.Need-loop-again Inv-loop μ-loop
+loop-again c = lowest-miss _ _ _ (c .before .before .loop-test .taken) (sym (c .before .leaves .ensures) ∙ c .if1 .left) ∙ c .before .before .before .loop .inv
+
+returns-2 : tie.Need-returns-2 Inv-loop μ-loop
+returns-2 c = sym (lowest-end _ _ _ (c .loop-test .left)) ∙ c .before .loop .inv
+
+pub leaving-spec : {M : Type 1} → statement M
+leaving-spec =
+    tie.close
+    (tie.spec
+    Inv-loop
+    μ-loop
+    loop-holds
+    leaves-requires
+    returns
+    add-e
+    loop-less
+    loop-again
+    returns-2)
