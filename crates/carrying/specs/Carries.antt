@@ -1,0 +1,38 @@
+-- The call `carry`: document 01, "Moves".
+use mathlib.Core.Bool.{Bool}
+use Prim.Native.Nat.{ℕ, _-_}
+use lib.Dec.{ltb, eqb}
+use lib.ListN.{set}
+use Rattle.lists.specs.Choice.{pick, both}
+use Rattle.board.specs.declared.Board.{Board}
+use Rattle.board.specs.declared.Played.{Played}
+use Rattle.board.specs.declared.Move.the-variants.{Carry}
+use Rattle.guard.specs.Parts.{flow, tail, marked, demand, place}
+use Rattle.guard.specs.Guard.{playing}
+use Rattle.opening.specs.Opens.{flowFits, enters}
+use Rattle.journal.specs.Moved.{moved, answered}
+
+-- a mill and a channel that the board has
+unfoldable pub onBoard : Board → ℕ → ℕ → Bool
+onBoard b i e = both (ltb i (b .network .terminals)) (ltb e (b .network .edges))
+
+-- "Carry: 20, 6, 21, 22, 23"
+unfoldable pub carryRefusal : Board → ℕ → ℕ → ℕ
+carryRefusal b i e =
+    pick (playing b)
+    (pick (onBoard b i e)
+    (pick (eqb (place b i) (b .network .source)) 21
+    (pick (enters b i e)
+    (pick (flowFits (marked b e) (flow b e) (demand b i)) 0 23)
+    22))
+    6)
+    20
+
+-- "The flow falls by the need and the channel joins the mill's route": the terminal is at the tail now
+unfoldable pub carried : Board → ℕ → ℕ → Board
+carried b i e =
+    moved b (set (b .flows) e (flow b e - demand b i)) (b .marks) (set (b .places) i (tail b e)) (record { step = Carry (record { terminal = i; edge = e }) })
+
+-- the call
+unfoldable pub carryCall : Board → ℕ → ℕ → Played
+carryCall b i e = answered (carryRefusal b i e) b (carried b i e)
