@@ -33,6 +33,14 @@ module _ (from to flows : List ℕ) where
   abbrev pub Acyclic : Type 0
   Acyclic = (a b : ℕ) → Positive a b → Path b a → ⊥
 
+  -- at most one positive edge leaves v
+  abbrev pub OneLeaves : ℕ → Type 0
+  OneLeaves v = (g g' : ℕ) → getD from g 0 ≡ v → 0 < getD flows g 0 → getD from g' 0 ≡ v → 0 < getD flows g' 0 → g ≡ g'
+
+  -- and so it is at v and at every vertex that can be reached from it
+  abbrev pub Unparted : ℕ → Type 0
+  Unparted v = (u : ℕ) → Path v u → OneLeaves u
+
   -- every edge joins vertices below n
   pub record Within (n : ℕ) : Type 0 where
     pub start : (e : ℕ) → e < length flows → getD from e 0 < n

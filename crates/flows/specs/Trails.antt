@@ -4,7 +4,7 @@ use mathlib.Core.Bool.{false}
 use mathlib.Core.List.{List, [], _∷_}
 use Prim.Native.Nat.{ℕ, _+_, _-_, _<_, _≤_}
 use lib.ListN.{length, getD, set}
-use Rattle.lists.specs.Members.{has}
+use Rattle.lists.specs.Members.{has, Distinct}
 
 -- a step over an edge: down, from its tail to its head; or up, from its head to its tail
 pub data Step : Type 0 where
@@ -44,6 +44,13 @@ changed flows x (up e ∷ w) = changed (set flows e (getD flows e 0 + x)) x w
 pub data Trail (tails heads : List ℕ) : ℕ → List Step → ℕ → Type 0 where
   stay : {a : ℕ} → Trail tails heads a [] a
   go : {a b : ℕ} {w : List Step} (s : Step) → startOf tails heads s ≡ a → Trail tails heads (endOf tails heads s) w b → Trail tails heads a (s ∷ w) b
+
+-- a cycle: a trail of steps, not none, that ends where it begins and goes over no edge twice; it may pass a vertex more than once
+pub record Closed (tails heads : List ℕ) (w : List Step) : Type 0 where
+  pub vertex : ℕ
+  pub trail : Trail tails heads vertex w vertex
+  pub distinct : Distinct (edgesOf w)
+  pub some : 0 < length w
 
 -- a down-step's edge has flow x or more
 abbrev pub Room : List ℕ → ℕ → Step → Type 0

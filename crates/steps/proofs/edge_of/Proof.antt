@@ -1,0 +1,17 @@
+use mathlib.Core.Path.{refl}
+use Rattle.steps.proofs.Bytes.{step-up, step-down}
+use borrow.Author.Needs.{needs}
+use Rattle.steps.proofs.edge_of.Statement.{statement}
+use Rattle.steps.proofs.edge_of.Tie as tie
+
+cast-result : tie.Need-cast-result
+cast-result c = search needs
+
+returns : tie.Need-returns
+returns c = rw (step-up _ (c .if1 .taken)) refl
+
+returns-2 : tie.Need-returns-2
+returns-2 c = rw (step-down _ (c .if1 .left)) refl
+
+pub edge-of-spec : {M : Type 1} → statement M
+edge-of-spec = tie.close (tie.spec cast-result returns returns-2)

@@ -1,0 +1,9 @@
+use Rattle.steps.proofs.Bytes.{up-byte}
+use Rattle.steps.proofs.is_up.Statement.{statement}
+use Rattle.steps.proofs.is_up.Tie as tie
+
+returns : tie.Need-returns
+returns c = up-byte _
+
+pub is-up-spec : {M : Type 1} → statement M
+is-up-spec = tie.close (tie.spec returns)

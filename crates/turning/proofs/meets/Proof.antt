@@ -1,0 +1,54 @@
+use mathlib.Core.Path.{sym, ap, _∙_}
+use Rattle.steps.specs.Steps.{stepOf}
+use Rattle.turning.specs.declared.StepRule.{StepRule}
+use Rattle.turning.specs.Turns.{meets}
+use borrow.Author.Needs.{needs}
+use Rattle.turning.proofs.meets.Statement.{statement}
+use Rattle.turning.proofs.meets.Tie as tie
+
+enum-told : tie.Need-enum-told
+enum-told c = search needs
+
+on-board-requires : tie.Need-on-board-requires
+on-board-requires c κs = search needs
+
+enum-told-2 : tie.Need-enum-told-2
+enum-told-2 c = search needs
+
+positive-requires : tie.Need-positive-requires
+positive-requires c κs = search needs
+
+enum-told-3 : tie.Need-enum-told-3
+enum-told-3 c = search needs
+
+up-singular-requires : tie.Need-up-singular-requires
+up-singular-requires c κs = search needs
+
+returns : tie.Need-returns
+returns c =
+    let at-args = c .before .before .before .args in
+    c .on-board .ensures ∙ ap (λ (rule : StepRule). meets rule (at-args .board) (stepOf (at-args .s))) (sym (c .before .enum-told .given .1))
+
+returns-2 : tie.Need-returns-2
+returns-2 c =
+    let at-args = c .before .before .before .args in
+    c .positive .ensures ∙ ap (λ (rule : StepRule). meets rule (at-args .board) (stepOf (at-args .s))) (sym (c .before .enum-told2 .given .1))
+
+returns-3 : tie.Need-returns-3
+returns-3 c =
+    let at-args = c .before .before .before .args in
+    c .up-singular .ensures ∙ ap (λ (rule : StepRule). meets rule (at-args .board) (stepOf (at-args .s))) (sym (c .before .enum-told3 .given .1))
+
+pub meets-spec : {M : Type 1} → statement M
+meets-spec =
+    tie.close
+    (tie.spec
+    enum-told
+    on-board-requires
+    enum-told-2
+    positive-requires
+    enum-told-3
+    up-singular-requires
+    returns
+    returns-2
+    returns-3)

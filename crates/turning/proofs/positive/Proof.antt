@@ -1,0 +1,18 @@
+use borrow.Author.Needs.{needs}
+use Rattle.turning.proofs.positive.Statement.{statement}
+use Rattle.turning.proofs.positive.Tie as tie
+
+edge-of-requires : tie.Need-edge-of-requires
+edge-of-requires c κs = search needs
+
+cast-e : tie.Need-cast-e
+cast-e c = search needs
+
+word-at-requires : tie.Need-word-at-requires
+word-at-requires c κs = search needs
+
+returns : tie.Need-returns
+returns c = cc
+
+pub positive-spec : {M : Type 1} → statement M
+positive-spec = tie.close (tie.spec edge-of-requires cast-e word-at-requires returns)
