@@ -8,7 +8,7 @@ use Rattle.board.specs.Limits.{maxMoves}
 use Rattle.text.specs.Results.{readText}
 use Rattle.loader.specs.Load.{loadText}
 use Rattle.loader.proofs.Loads.{load-accepted, loaded-lawful}
-use Rattle.invariant.specs.Intact.{intact}
+use Rattle.guard.specs.Guard.{intact}
 use Rattle.invariant.specs.Invariant.{Invariant}
 use Rattle.invariant.proofs.Opened.{opened-invariant}
 use Rattle.invariant.proofs.Kept.{kept-intact}

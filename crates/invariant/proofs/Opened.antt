@@ -1,21 +1,28 @@
 -- The board of a lawful network before the first move keeps the invariant: its flows are the text's with the cycles cancelled; nothing is marked, no route
 -- holds an edge, and each terminal is at its vertex.
-use mathlib.Core.Path.{_≡_, refl, sym, _∙_}
+use mathlib.Core.Path.{_≡_, refl, sym, ap, _∙_}
 use mathlib.Core.Bool.{true, false, true≢false}
 use mathlib.Core.List.{[]}
-use Prim.Native.Nat.{ℕ}
+use Prim.Native.Nat.{ℕ, zero, suc}
 use native.Mathlib.Nat.{div-eq-of-lt}
 use native.Mathlib.Omega.{arith}
+use lib.ListN.{getD, replicate, length-replicate}
 use lib.Pow.{pow-pos}
 use Rattle.lists.specs.Members.{has}
 use Rattle.lists.proofs.Laws.{pick-no}
 use Rattle.lists.proofs.Totals.{total-none}
+use Rattle.sets.specs.Sets.{hasBit}
+use Rattle.board.specs.Limits.{maxMoves}
+use Rattle.board.specs.Record.{blank}
 use Rattle.board.specs.declared.Network.{Network}
 use Rattle.board.specs.declared.Board.{Board}
+use Rattle.board.specs.declared.Entry.{Entry}
 use Rattle.rules.specs.Rules.{Lawful}
 use Rattle.flows.specs.Trails.{stay}
+use Rattle.guard.specs.Parts.{marked}
+use Rattle.guard.specs.Guard.{moveIntact}
 use Rattle.loader.specs.Load.{acyclicOf, opened}
-use Rattle.invariant.specs.Routes.{marked, routeBy, route, share, load}
+use Rattle.invariant.specs.Routes.{routeBy, route, share, load}
 use Rattle.invariant.specs.Invariant.{Invariant}
 use Rattle.invariant.proofs.Network.{long-first, first-balance}
 
@@ -26,7 +33,7 @@ module _ (net : Network) (law : Lawful net) where
 
   -- nothing is marked, and no route holds an edge
   unmarked : (e : ℕ) → marked start e ≡ false
-  unfolding marked
+  unfolding hasBit
   unmarked e = rw (div-eq-of-lt (pow-pos e)) refl
 
   no-mark : {A : Type 0} (e : ℕ) → marked start e ≡ true → A
@@ -48,6 +55,12 @@ module _ (net : Network) (law : Lawful net) where
   unfolding has
   not-held e i h = true≢false (sym h ∙ rw (route-empty i) refl)
 
+  -- every place of the journal is blank
+  getD-blank : (n i : ℕ) → getD (replicate n blank) i blank ≡ blank
+  getD-blank zero i = refl
+  getD-blank (suc n) zero = refl
+  getD-blank (suc n) (suc i) = getD-blank n i
+
   pub opened-invariant : Invariant start
   opened-invariant = record {
     lawful = law;
@@ -56,6 +69,9 @@ module _ (net : Network) (law : Lawful net) where
     places-size = refl;
     placed = law .home;
     unplaced = λ i h. law .no-terminal i h .0;
+    journal-size = length-replicate maxMoves blank;
+    blanks = λ i h. getD-blank maxMoves i;
+    amounts = λ i. ap (λ (m : Entry). moveIntact (m .step)) (getD-blank maxMoves i);
     balance = first-balance net law;
     support = λ e h. h;
     one-out = λ e g g' m. no-mark e (m .mark);

@@ -1,3 +1,3 @@
-pub mod Intact
 pub mod Routes
 pub mod Invariant
+pub mod Bound

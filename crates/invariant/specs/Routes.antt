@@ -1,7 +1,6 @@
--- Marks, routes and loads of a board.
-use mathlib.Core.Bool.{Bool}
+-- Routes and loads of a board.
 use mathlib.Core.List.{List, [], _∷_, _++_}
-use Prim.Native.Nat.{ℕ, _^_, _/_, _%_}
+use Prim.Native.Nat.{ℕ}
 use lib.Dec.{eqb}
 use lib.ListN.{getD, take}
 use Rattle.lists.specs.Choice.{pick}
@@ -11,10 +10,6 @@ use Rattle.board.specs.declared.Board.{Board}
 use Rattle.board.specs.declared.Entry.{Entry}
 use Rattle.board.specs.declared.Move.{Move}
 use Rattle.board.specs.declared.Move.the-variants.{Carry, Turn}
-
--- an edge is marked where its bit of the set is 1
-unfoldable pub marked : Board → ℕ → Bool
-marked b e = eqb (b .marks / 2 ^ e % 2) 1
 
 -- the edge that a move carried terminal i over
 abbrev pub carriedOver : ℕ → Move → List ℕ
