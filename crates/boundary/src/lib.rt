@@ -4,6 +4,9 @@ ghost use mathlib.Core.Path.{_≡_};
 ghost use lib.ListN.{length};
 ghost use Rattle.text.specs.Results.{writeText, written};
 ghost use Rattle.loader.specs.Load.{loadText};
+ghost use Rattle.calls.specs.Calls.{answers};
+ghost use Rattle.calls.specs.Codes.{callsOf, filled, listed};
+ghost use Rattle.boundary.specs.Ends.{after};
 
 // Loads a text, and writes the board that it gave into the buffer. Answers what the load answered; `writing` and `used` get what the
 // writer answered: its number and the length of the text.
@@ -38,5 +41,42 @@ pub extern "C" fn vulprow_acyclic(text: &[u8], flows: &mut [u32; Board::MAX_EDGE
     let acyclic = board.acyclic;
     let answer = loaded.answer;
     *flows = acyclic;
+    answer
+}
+
+// Loads a text and makes calls on the board that it gave, three numbers a call (crates/calls). Answers what the load answered. `given` gets the
+// calls' answers; `flows`, `places`, `marks`, `moves` and `journal`, five numbers a place, are those of the board after them.
+#[no_mangle]
+pub extern "C" fn vulprow_play(
+    text: &[u8],
+    codes: &[u32],
+    steps: &[u8],
+    given: &mut [u32],
+    flows: &mut [u32; Board::MAX_EDGES],
+    places: &mut [u32; Board::MAX_TERMINALS],
+    marks: &mut u64,
+    moves: &mut u32,
+    journal: &mut [u64],
+) -> u32
+    ensures { λ r. ⌜ r ≡ loadText (now (text .entry)) .answer ⌝ }
+    ensures { λ _. ⌜ now (given .exit) ≡ filled (now (given .entry)) 0 (answers (loadText (now (text .entry)) .board) (callsOf (now (steps .entry)) (now (codes .entry)))) ⌝ }
+    ensures { λ _. ⌜ now (flows .exit) ≡ after (now (text .entry)) (now (steps .entry)) (now (codes .entry)) .flows ⌝ }
+    ensures { λ _. ⌜ now (places .exit) ≡ after (now (text .entry)) (now (steps .entry)) (now (codes .entry)) .places ⌝ }
+    ensures { λ _. ⌜ now (marks .exit) ≡ after (now (text .entry)) (now (steps .entry)) (now (codes .entry)) .marks ⌝ }
+    ensures { λ _. ⌜ now (moves .exit) ≡ after (now (text .entry)) (now (steps .entry)) (now (codes .entry)) .moves ⌝ }
+    ensures { λ _. ⌜ now (journal .exit) ≡ listed (now (journal .entry)) 0 (after (now (text .entry)) (now (steps .entry)) (now (codes .entry)) .journal) ⌝ }
+{
+    let loaded = loader::load(text);
+    let board = loaded.board;
+    let answer = loaded.answer;
+    let end = calls::run(board, codes, steps, given);
+    let end_flows = end.flows;
+    let end_places = end.places;
+    let end_journal = end.journal;
+    *flows = end_flows;
+    *places = end_places;
+    *marks = end.marks;
+    *moves = end.moves;
+    calls::put_journal(end_journal, journal);
     answer
 }

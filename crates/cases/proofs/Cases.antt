@@ -8,8 +8,12 @@ use lib.Dec.{T, eqb}
 use lib.ListN.{take}
 use Rattle.lists.specs.Choice.{pick, both}
 use Rattle.lists.specs.Lists.{indexOf, all, lowest, sumAt, keyed}
+use Rattle.sets.specs.Sets.{hasBit, withBit, collect}
 use Rattle.decimal.specs.Decimal.{numberOf, valueFrom}
 use Rattle.board.specs.Record.{closedBoard}
+use Rattle.board.specs.declared.Board.{Board}
+use Rattle.board.specs.declared.Move.{Move}
+use Rattle.board.specs.declared.Move.the-variants.{Carry, Turn}
 use Rattle.text.specs.Text.{ranged}
 use Rattle.text.specs.Results.{readText}
 use Rattle.graph.specs.Graph.{opens, pass, passes, reached, leads, onward}
@@ -18,29 +22,71 @@ use Rattle.lowering.specs.Lowering.{smallest, lowered, lowerCycle}
 use Rattle.cancelling.specs.Cancelling.{cancelled, acyclicFlows}
 use Rattle.loader.specs.declared.Loaded.{Loaded}
 use Rattle.loader.specs.Load.{loadText}
+use Rattle.singular.specs.Singular.{leaves, leaving, straight}
+use Rattle.journal.specs.Moved.{lastEntry, answered}
+use Rattle.guard.specs.Guard.{intact, playing}
+use Rattle.opening.specs.Opens.{flowFits, enters, isOpen, openEdge, hasOpen, openTerminal, someOpen}
+use Rattle.carrying.specs.Carries.{onBoard, carryRefusal, carried, carryCall}
+use Rattle.steps.specs.Steps.{stepOf, stepsOf, every, leadsBack, isCycle, gather}
+use Rattle.marking.specs.Marking.{singular, isFresh, fresh}
+use Rattle.amounts.specs.Amounts.{smaller, isShort, raise, amountFrom, amount}
+use Rattle.shifting.specs.Shifts.{shiftedAt, shiftFrom, shifted}
+use Rattle.turning.specs.Turns.{turnRefusal, turned, turnCall}
+use Rattle.undoing.specs.Undone.{undoRefusal, undone, undoCall}
+use Rattle.calls.specs.Calls.{Call, carry, turn, undo, played, answers}
 
 -- a text in ASCII
 pub bytes : String → List ℕ
 bytes String.[] = []
 bytes (String._∷_ c s) = code c ∷ bytes s
 
--- a board text, what loading it answers, and the acyclic flows of the board; the closed board has no edges
+-- a board text and what loading it answers; the calls made then and what they answer; the flows at the end, and the amount of the last standing
+-- move, 0 where it is no turn. The closed board has no edges.
 pub record Case : Type 0 where
   pub text : String
   pub answer : ℕ
+  pub calls : List Call
+  pub given : List ℕ
   pub flows : List ℕ
+  pub last : ℕ
 
--- S, S with other lines, and the board whose channels 1 and 2 drain to 0
+-- a case of loading alone
+pub loading : String → ℕ → List ℕ → Case
+loading text answer flows = record { text = text; answer = answer; calls = []; given = []; flows = flows; last = 0 }
+
+-- a case of calls on an accepted board
+pub calling : String → List Call → List ℕ → List ℕ → ℕ → Case
+calling text calls given flows last = record { text = text; answer = 0; calls = calls; given = given; flows = flows; last = last }
+
+-- the board whose channels 1 and 2 drain to 0, and document 01's T
+drained : String
+drained = "B,3,3,1,0\nC,0,1,4\nC,1,2,3\nC,2,1,3\nW,1,4\n"
+
+boardT : String
+boardT = "B,4,4,2,0\nC,0,1,3\nC,0,2,3\nC,1,3,3\nC,2,3,3\nW,3,2\nW,3,4\n"
+
+-- down 0, down 2, up 3, up 1
+around : List ℕ
+around = 0 ∷ 2 ∷ 131 ∷ 129 ∷ []
+
+-- S and S with other lines, the drained board, and T
 pub cases : List Case
 cases =
-    record { text = "B,2,1,1,0\nC,0,1,5\nW,1,5\n"; answer = 0; flows = 5 ∷ [] }
-    ∷ record { text = "B,2,1,1,0\nC,1,1,5\nW,1,5\n"; answer = 3; flows = [] }
-    ∷ record { text = "B,2,1,1,0\nC,0,1,5\nW,0,5\n"; answer = 4; flows = [] }
-    ∷ record { text = "B,2,1,1,0\nC,0,1,4\nW,1,5\n"; answer = 5; flows = [] }
-    ∷ record { text = "B,2,1,1,0\nC,0,1,1000000\nW,1,1000000\n"; answer = 0; flows = 1000000 ∷ [] }
-    ∷ record { text = "B,2,1,1,0\nC,0,1,1000001\nW,1,1000001\n"; answer = 2; flows = [] }
-    ∷ record { text = "B,2,1,1,0\nC,0,1,05\nW,1,5\n"; answer = 1; flows = [] }
-    ∷ record { text = "B,3,3,1,0\nC,0,1,4\nC,1,2,3\nC,2,1,3\nW,1,4\n"; answer = 0; flows = 4 ∷ 0 ∷ 0 ∷ [] }
+    loading "B,2,1,1,0\nC,0,1,5\nW,1,5\n" 0 (5 ∷ [])
+    ∷ loading "B,2,1,1,0\nC,1,1,5\nW,1,5\n" 3 []
+    ∷ loading "B,2,1,1,0\nC,0,1,5\nW,0,5\n" 4 []
+    ∷ loading "B,2,1,1,0\nC,0,1,4\nW,1,5\n" 5 []
+    ∷ loading "B,2,1,1,0\nC,0,1,1000000\nW,1,1000000\n" 0 (1000000 ∷ [])
+    ∷ loading "B,2,1,1,0\nC,0,1,1000001\nW,1,1000001\n" 2 []
+    ∷ loading "B,2,1,1,0\nC,0,1,05\nW,1,5\n" 1 []
+    ∷ loading drained 0 (4 ∷ 0 ∷ 0 ∷ [])
+    ∷ calling drained (carry 0 0 ∷ turn (1 ∷ 2 ∷ []) ∷ []) (0 ∷ 25 ∷ []) (0 ∷ 0 ∷ 0 ∷ []) 0
+    ∷ calling boardT (carry 0 0 ∷ []) (22 ∷ []) (3 ∷ 3 ∷ 3 ∷ 3 ∷ []) 0
+    ∷ calling boardT (carry 1 2 ∷ []) (23 ∷ []) (3 ∷ 3 ∷ 3 ∷ 3 ∷ []) 0
+    ∷ calling boardT (carry 2 0 ∷ []) (6 ∷ []) (3 ∷ 3 ∷ 3 ∷ 3 ∷ []) 0
+    ∷ calling boardT (undo ∷ []) (27 ∷ []) (3 ∷ 3 ∷ 3 ∷ 3 ∷ []) 0
+    ∷ calling boardT (carry 0 2 ∷ carry 0 0 ∷ turn around ∷ []) (0 ∷ 0 ∷ 0 ∷ []) (0 ∷ 4 ∷ 0 ∷ 4 ∷ []) 1
+    ∷ calling boardT (carry 0 2 ∷ carry 0 0 ∷ turn around ∷ undo ∷ []) (0 ∷ 0 ∷ 0 ∷ 0 ∷ []) (1 ∷ 3 ∷ 1 ∷ 3 ∷ []) 0
     ∷ []
 
 same : List ℕ → List ℕ → Bool
@@ -49,8 +95,16 @@ same [] (y ∷ ys) = false
 same (x ∷ xs) [] = false
 same (x ∷ xs) (y ∷ ys) = both (eqb x y) (same xs ys)
 
+amountOf : Move → ℕ
+amountOf (Carry r) = 0
+amountOf (Turn a) = a .amount
+
+-- the board at the end
+ends : Case → Board → Bool
+ends x b = both (same (take (b .network .edges) (b .flows)) (x .flows)) (eqb (amountOf (lastEntry b .step)) (x .last))
+
 holds : Case → Loaded → Bool
-holds x l = both (eqb (l .answer) (x .answer)) (same (take (l .board .network .edges) (l .board .acyclic)) (x .flows))
+holds x l = both (eqb (l .answer) (x .answer)) (both (same (answers (l .board) (x .calls)) (x .given)) (ends x (played (l .board) (x .calls))))
 
 -- every case of the table is as it says
 pub hold : List Case → Bool
@@ -60,4 +114,8 @@ hold (x ∷ xs) = both (holds x (loadText (bytes (x .text)))) (hold xs)
 pub starred : T (hold cases)
 unfolding loadText readText bytes cases hold holds same both pick indexOf numberOf valueFrom ranged all lowest sumAt keyed closedBoard
     opens pass passes reached leads onward since follow smallest lowered lowerCycle onCycle cycleVertex cycleFrom cancelled acyclicFlows
+    loading calling drained boardT around amountOf ends played answers answered intact playing
+    flowFits enters isOpen openEdge hasOpen openTerminal someOpen onBoard carryRefusal carried carryCall
+    hasBit withBit collect stepOf stepsOf every leadsBack isCycle gather leaves leaving straight singular isFresh fresh
+    smaller isShort raise amountFrom amount shiftedAt shiftFrom shifted turnRefusal turned turnCall undoRefusal undone undoCall
 starred = tt

@@ -1,6 +1,9 @@
 //! compare [SEED COUNT]: random inputs through the engine and through the reference, whose answers must be the same. Without a seed, a fixed
 //! one and then a fresh one, which is printed. The first difference is printed with its input, and the exit status is 1.
 
+mod play;
+
+use play::{compare_play, random_list, EngineCall};
 use reference::boards::random_board;
 use reference::cancelling::acyclic_flows;
 use reference::cases::{texts, T};
@@ -112,7 +115,13 @@ fn compare_random(rng: &mut Random, tally: &mut Tally) -> Result<(), String> {
         4 => good.len() + rng.below(9),
         _ => text.len(),
     };
-    compare_load(rng, &text, length, tally)
+    compare_load(rng, &text, length, tally)?;
+    // Lists of calls: on good boards as a rule, and on those that a damaged text leaves.
+    if rng.chance(1, 16) {
+        let calls = random_list(rng, &good);
+        compare_play(if rng.chance(7, 8) { &good } else { &text }, &calls, tally)?;
+    }
+    Ok(())
 }
 
 /// The texts made by hand, and for T and a few random boards every kind of damage at every field, every start and surplus.
@@ -124,7 +133,16 @@ fn compare_made(seed: u64, tally: &mut Tally) -> Result<(), String> {
     for board in boards {
         texts.extend([at_every_field(&board), every_start(&board), surplus(&board)].concat());
     }
-    texts.iter().try_for_each(|text| compare_load(&mut rng, text, text.len(), tally))
+    texts.iter().try_for_each(|text| compare_load(&mut rng, text, text.len(), tally))?;
+    // Document 01's calls on T: the refusals, the turn with amount 1 and its undo, and the empty turn.
+    let to_source = [EngineCall::Carry(0, 2), EngineCall::Carry(0, 0)];
+    let around = EngineCall::Turn(vec![0, 2, 131, 129]);
+    let lists = [
+        vec![EngineCall::Carry(0, 0), EngineCall::Carry(1, 2), EngineCall::Carry(2, 0), EngineCall::Undo, EngineCall::Turn(vec![])],
+        [&to_source[..], &[around.clone()]].concat(),
+        [&to_source[..], &[around, EngineCall::Undo, EngineCall::Turn(vec![])]].concat(),
+    ];
+    lists.iter().try_for_each(|calls| compare_play(T.as_bytes(), calls, tally))
 }
 
 fn compare(seed: u64, count: u64, tally: &mut Tally) -> Result<(), String> {

@@ -1,0 +1,54 @@
+-- `boundary::vulprow_play` meets its contract: what the three calls ensure, each put into the next.
+use mathlib.Core.Path.{ap, _∙_}
+use Rattle.board.specs.declared.Board.{Board}
+use Rattle.loader.specs.declared.Loaded.{Loaded}
+use Rattle.calls.specs.Calls.{played, answers}
+use Rattle.calls.specs.Codes.{callsOf, filled, listed}
+use borrow.Author.Needs.{needs}
+use Rattle.boundary.proofs.vulprow_play.Statement.{statement}
+use Rattle.boundary.proofs.vulprow_play.Tie as tie
+
+load-requires : tie.Need-load-requires
+load-requires c κs = search needs
+
+run-requires : tie.Need-run-requires
+run-requires c κs = search needs
+
+put-journal-requires : tie.Need-put-journal-requires
+put-journal-requires c κs = search needs
+
+same-length : tie.Need-same-length
+same-length c = search needs
+
+same-length-2 : tie.Need-same-length-2
+same-length-2 c = search needs
+
+returns : tie.Need-returns
+returns c =
+    let loading = c .before .before .before .before .before .before .before .before .before .before .before .before .load .ensures in
+    let at-run = c .before .before .before .before .before .before .before .before .before .run in
+    let args = c .before .before .before .before .before .before .before .before .before .before .before .before .before .before .before .before .before .before .args in
+    let board = ap (λ (l : Loaded). l .board) loading in
+    let calls = callsOf (args .steps .now) (args .codes .now) in
+    let end = at-run .ensures .0 ∙ ap (λ (b : Board). played b calls) board in
+    let journal = c .before .before .put-journal .ensures ∙ ap (λ (b : Board). listed (args .journal .now) 0 (b .journal)) end in (
+      ap (λ (l : Loaded). l .answer) loading,
+      (
+        at-run .ensures .1 ∙ ap (λ (b : Board). filled (args .given .now) 0 (answers b calls)) board,
+        (
+          ap (λ (b : Board). b .flows) end,
+          (
+            ap (λ (b : Board). b .places) end,
+            (
+              ap (λ (b : Board). b .marks) end,
+              (ap (λ (b : Board). b .moves) end, journal),
+            ),
+          ),
+        ),
+      ),
+    )
+
+pub vulprow-play-spec : {M : Type 1} → statement M
+vulprow-play-spec =
+    tie.close
+    (tie.spec load-requires run-requires put-journal-requires same-length same-length-2 returns)

@@ -1,0 +1,10 @@
+-- The board that a text gives once calls are made on it.
+use mathlib.Core.List.{List}
+use Prim.Native.Nat.{ℕ}
+use Rattle.board.specs.declared.Board.{Board}
+use Rattle.loader.specs.Load.{loadText}
+use Rattle.calls.specs.Calls.{played}
+use Rattle.calls.specs.Codes.{callsOf}
+
+abbrev pub after : List ℕ → List ℕ → List ℕ → Board
+after text steps codes = played (loadText text .board) (callsOf steps codes)

@@ -1,0 +1,126 @@
+-- The laws that the functions cite: what a list of numbers holds is read and written from its front, so each turn of a loop does the first of
+-- what is left, and leaves the rest.
+use mathlib.Core.Path.{_≡_, refl}
+use mathlib.Core.Bool.{true, false}
+use mathlib.Core.List.{List, [], _∷_}
+use Prim.Native.Nat.{ℕ, suc, _+_, _-_, _≤_, _<_}
+use native.Mathlib.Numerals.{add-one}
+use native.Mathlib.Omega.{arith}
+use lib.Dec.{leb}
+use borrow.Author.Tests.{leb-true}
+use lib.ListN.{length, getD, take, drop, set, length-drop, drop-of-length-le}
+use lib.Seq.{drop-cons}
+use Rattle.lists.specs.Choice.{both}
+use Rattle.lists.proofs.Laws.{pick-yes, pick-no, both-left, both-right}
+use Rattle.board.specs.declared.Board.{Board}
+use Rattle.board.specs.declared.Entry.{Entry}
+use Rattle.board.specs.declared.Played.{Played}
+use Rattle.calls.specs.Calls.{Call, made, played, answers}
+use Rattle.calls.specs.Codes.{part, callOf, callsOf, filled, moveCode, listed}
+
+-- the steps of a turn
+module _ (steps : List ℕ) (a c : ℕ) where
+  pub part-some : both (leb a c) (leb c (length steps)) ≡ true → part steps a c ≡ take (c - a) (drop a steps)
+  unfolding part
+  part-some t = pick-yes _ _ _ t
+
+  pub part-none : both (leb a c) (leb c (length steps)) ≡ false → part steps a c ≡ []
+  unfolding part
+  part-none t = pick-no _ _ _ t
+
+  pub part-start : both (leb a c) (leb c (length steps)) ≡ true → a ≤ c
+  part-start t = leb-true a c (both-left _ _ t)
+
+  pub part-end : both (leb a c) (leb c (length steps)) ≡ true → c ≤ length steps
+  part-end t = leb-true c (length steps) (both-right _ _ t)
+
+-- the calls from place i on
+module _ (steps codes : List ℕ) (i : ℕ) where
+  three-left : i + 3 ≤ length codes → drop i codes ≡ getD codes i 0 ∷ getD codes (i + 1) 0 ∷ getD codes (i + 2) 0 ∷ drop (i + 3) codes
+  three-left h =
+      let one : i + 1 ≡ suc i = omega arith in
+      let two : i + 2 ≡ suc (suc i) = omega arith in
+      let three : i + 3 ≡ suc (suc (suc i)) = omega arith in
+      rw (one, two, three, drop-cons codes i 0 (omega arith), drop-cons codes (suc i) 0 (omega arith), drop-cons codes (suc (suc i)) 0 (omega arith))
+
+  calls-turn : i + 3 ≤ length codes
+      → callsOf steps (drop i codes) ≡ callOf steps (getD codes i 0) (getD codes (i + 1) 0) (getD codes (i + 2) 0) ∷ callsOf steps (drop (i + 3) codes)
+  unfolding callsOf
+  calls-turn h = rw (three-left h)
+
+-- fewer than three numbers are no call
+calls-few : (steps codes : List ℕ) → length codes < 3 → callsOf steps codes ≡ []
+unfolding callsOf
+calls-few steps [] h = refl
+calls-few steps (x ∷ []) h = refl
+calls-few steps (x ∷ y ∷ []) h = refl
+calls-few steps (x ∷ y ∷ z ∷ codes) h = absurd (omega arith)
+
+-- the calls that are left, with this many numbers; one turn makes the first of them
+module _ (steps codes : List ℕ) (left : ℕ) where
+  abbrev at : ℕ
+  at = length codes - left
+
+  abbrev pub calls : List Call
+  calls = callsOf steps (drop (length codes - left) codes)
+
+  calls-none : left < 3 → calls ≡ []
+  calls-none h = calls-few steps (drop at codes) (rw (length-drop at codes) (omega arith))
+
+  module _ (b : Board) where
+    pub played-end : left < 3 → b ≡ played b calls
+    unfolding played
+    played-end h = rw (calls-none h)
+
+    pub answers-end : (buf : List ℕ) (k : ℕ) → left < 3 → buf ≡ filled buf k (answers b calls)
+    unfolding answers filled
+    answers-end buf k h = rw (calls-none h)
+
+    module _ (given : Played) (some : 3 ≤ left) (inside : left ≤ length codes)
+        (makes : given ≡ made b (callOf steps (getD codes at 0) (getD codes (at + 1) 0) (getD codes (at + 2) 0))) where
+      next : length codes - (left - 3) ≡ at + 3
+      next = omega arith
+
+      pub played-turn : played (given .board) (callsOf steps (drop (length codes - (left - 3)) codes)) ≡ played b calls
+      unfolding played
+      played-turn = rw (calls-turn steps codes at (omega arith), next, makes)
+
+      pub answers-turn : (buf r : List ℕ) (k : ℕ) → r ≡ set buf k (given .answer)
+          → filled r (k + 1) (answers (given .board) (callsOf steps (drop (length codes - (left - 3)) codes))) ≡ filled buf k (answers b calls)
+      unfolding answers filled
+      answers-turn buf r k e = rw (calls-turn steps codes at (omega arith), next, e, makes, add-one k)
+
+-- before the first turn all is left
+pub all-left : (codes : List ℕ) → drop (length codes - length codes) codes ≡ codes
+all-left codes = let none : length codes - length codes ≡ 0 = omega arith in rw none
+
+-- five numbers, stored one after the other
+pub five-stored : (buf : List ℕ) (k : ℕ) (code b1 b2 b3 b4 b5 : List ℕ) → length code ≡ 5 → b1 ≡ set buf k (getD code 0 0)
+    → b2 ≡ set b1 (k + 1) (getD code 1 0) → b3 ≡ set b2 (k + 2) (getD code 2 0) → b4 ≡ set b3 (k + 3) (getD code 3 0)
+    → b5 ≡ set b4 (k + 4) (getD code 4 0) → b5 ≡ filled buf k code
+unfolding filled
+five-stored buf k (a ∷ b ∷ c ∷ d ∷ e ∷ []) b1 b2 b3 b4 b5 n e1 e2 e3 e4 e5 =
+    let one : k + 1 ≡ suc k = omega arith in
+    let two : k + 2 ≡ suc (suc k) = omega arith in
+    let three : k + 3 ≡ suc (suc (suc k)) = omega arith in
+    let four : k + 4 ≡ suc (suc (suc (suc k))) = omega arith in
+    rw (e5, e4, e3, e2, e1, one, two, three, four)
+five-stored buf k [] b1 b2 b3 b4 b5 n e1 e2 e3 e4 e5 = absurd (omega arith)
+five-stored buf k (a ∷ []) b1 b2 b3 b4 b5 n e1 e2 e3 e4 e5 = absurd (omega arith)
+five-stored buf k (a ∷ b ∷ []) b1 b2 b3 b4 b5 n e1 e2 e3 e4 e5 = absurd (omega arith)
+five-stored buf k (a ∷ b ∷ c ∷ []) b1 b2 b3 b4 b5 n e1 e2 e3 e4 e5 = absurd (omega arith)
+five-stored buf k (a ∷ b ∷ c ∷ d ∷ []) b1 b2 b3 b4 b5 n e1 e2 e3 e4 e5 = absurd (omega arith)
+five-stored buf k (a ∷ b ∷ c ∷ d ∷ e ∷ f ∷ code) b1 b2 b3 b4 b5 n e1 e2 e3 e4 e5 = absurd (omega arith)
+
+-- the entries from place i on
+module _ (js : List Entry) (i k : ℕ) (buf : List ℕ) where
+  pub listed-turn : (m z : Entry) (code r : List ℕ) → i < length js → m ≡ getD js i z → code ≡ moveCode (m .step) → r ≡ filled buf k code
+      → listed r (k + 5) (drop (i + 1) js) ≡ listed buf k (drop i js)
+  unfolding listed
+  listed-turn m z code r h em ec er =
+      let five : k + 5 ≡ suc (suc (suc (suc (suc k)))) = omega arith in
+      rw (er, ec, em, five, drop-cons js i z h, add-one i)
+
+  pub listed-end : length js ≤ i → buf ≡ listed buf k (drop i js)
+  unfolding listed
+  listed-end h = rw (drop-of-length-le js h)
