@@ -70,7 +70,8 @@ fn carried(board: Board, i: u32, e: u32) -> Board
             edge: e,
         }),
     };
-    journal::moved(board, flows, board.marks, places, entry)
+    let marks = board.marks;
+    journal::moved(board, flows, marks, places, entry)
 }
 
 // Relocates terminal i over edge e, to its tail.

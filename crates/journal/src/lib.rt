@@ -97,12 +97,12 @@ pub fn moved_back(
 {
     let last = lists::minus(board.moves, 1);
     let old = board.journal;
-    let journal = put_entry(old, last as usize, Entry::blank());
+    let blanked = put_entry(old, last as usize, Entry::blank());
     let mut next = board;
     next.flows = flows;
     next.marks = marks;
     next.places = places;
-    next.journal = journal;
+    next.journal = blanked;
     next.moves = last;
     next
 }

@@ -32,10 +32,7 @@ turnRefusal b w =
     pick (playing b)
     (pick (every (meets OnBoard b) w)
     (pick (isCycle (b .network .tails) (b .network .heads) w)
-    (pick (someOpen b) 24
-    (pick (every (meets Positive b) w)
-    (pick (every (meets UpSingular b) w) 0 26)
-    25))
+    (pick (someOpen b) 24 (pick (every (meets Positive b) w) (pick (every (meets UpSingular b) w) 0 26) 25))
     7)
     6)
     20

@@ -1,3 +1,7 @@
+use mathlib.Core.Path.{ap, _∙_}
+use lib.Dec.{eqb}
+use Rattle.lists.specs.Choice.{both}
+use Rattle.board.specs.Record.{playStage}
 use Rattle.guard.specs.Guard.{playing}
 use borrow.Author.Needs.{needs}
 use Rattle.guard.proofs.playing.Statement.{statement}
@@ -11,7 +15,7 @@ and-requires c κs = search needs
 
 returns : tie.Need-returns
 unfolding playing
-returns c = cc
+returns c = c .and .ensures ∙ ap (both (eqb (c .before .before .before .args .board .stage) playStage)) (c .before .before .intact .ensures)
 
 pub playing-spec : {M : Type 1} → statement M
 playing-spec = tie.close (tie.spec intact-requires and-requires returns)
