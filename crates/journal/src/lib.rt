@@ -1,5 +1,6 @@
 // The journal of standing moves.
 use board::Board;
+use board::EdgeSet;
 use board::Entry;
 ghost use mathlib.Core.Path.{_≡_};
 ghost use Prim.Native.Nat.{_≤_};
@@ -68,7 +69,7 @@ pub fn last_entry(board: Board) -> Entry
 pub fn moved(
     board: Board,
     flows: [u32; Board::MAX_EDGES],
-    marks: u64,
+    marks: EdgeSet,
     places: [u32; Board::MAX_TERMINALS],
     entry: Entry,
 ) -> Board
@@ -90,7 +91,7 @@ pub fn moved(
 pub fn moved_back(
     board: Board,
     flows: [u32; Board::MAX_EDGES],
-    marks: u64,
+    marks: EdgeSet,
     places: [u32; Board::MAX_TERMINALS],
 ) -> Board
     ensures { λ r. ⌜ r ≡ movedBack board flows marks places ⌝ }

@@ -1,5 +1,6 @@
 // Singular edges of a board, and the edges that a turn marks.
 use board::Board;
+use board::EdgeSet;
 ghost use mathlib.Core.Path.{_≡_};
 ghost use Rattle.marking.specs.Marking.{singular, isFresh, fresh};
 
@@ -23,10 +24,10 @@ fn is_fresh(board: Board, e: u32) -> bool
 }
 
 // The edges that a turn marks newly.
-pub fn fresh(board: Board) -> u64
+pub fn fresh(board: Board) -> EdgeSet
     ensures { λ r. ⌜ r ≡ fresh board ⌝ }
 {
-    let mut m: u64 = 0;
+    let mut m: EdgeSet = 0;
     let mut e: u32 = 0;
     while e < Board::MAX_EDGES as u32 {
         let joins = is_fresh(board, e);

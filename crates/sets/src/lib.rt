@@ -1,8 +1,8 @@
 // Sets of small numbers as bits.
 ghost use mathlib.Core.Path.{_≡_};
-ghost use Prim.Native.Nat.{_-_, _<_};
+ghost use Prim.Native.Nat.{_<_};
 ghost use Rattle.lists.specs.Choice.{pick};
-ghost use Rattle.sets.specs.Sets.{setWidth, hasBit, withBit};
+ghost use Rattle.sets.specs.Sets.{setWidth, hasBit, withBit, joined, without};
 
 // Whether c is in the set.
 pub fn has(m: u64, c: usize) -> bool
@@ -19,9 +19,16 @@ pub fn with(m: u64, joins: bool, c: usize) -> u64
     if joins { m | (1u64 << c) } else { m }
 }
 
+// The numbers of both sets.
+pub fn joined(m: u64, s: u64) -> u64
+    ensures { λ r. ⌜ r ≡ joined m s ⌝ }
+{
+    m | s
+}
+
 // The set m without the set s, which is part of it.
 pub fn without(m: u64, s: u64) -> u64
-    ensures { λ r. ⌜ r ≡ m - s ⌝ }
+    ensures { λ r. ⌜ r ≡ without m s ⌝ }
 {
     if s <= m { m - s } else { 0 }
 }

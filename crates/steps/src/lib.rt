@@ -1,4 +1,5 @@
 // The steps of a turn, a byte each: an edge's number, plus 128 for a step from its head to its tail.
+use board::EdgeSet;
 ghost use mathlib.Core.Path.{_≡_};
 ghost use Rattle.flows.specs.Trails.{edgeOf, startOf, endOf};
 ghost use Rattle.steps.specs.Steps.{stepOf, stepsOf, InSets, isUp, goes, leadsBack, isCycle, gather};
@@ -44,7 +45,7 @@ fn leads_back<'a>(tails: &'a [u32], heads: &'a [u32], steps: &'a [u8], r: u32) -
     requires { ⌜ InSets (now steps) ⌝ }
     ensures { λ q. ⌜ q ≡ leadsBack (now (tails .entry)) (now (heads .entry)) r 0 r (stepsOf (now (steps .entry))) ⌝ }
 {
-    let mut seen: u64 = 0;
+    let mut seen: EdgeSet = 0;
     let mut v = r;
     let mut i: usize = 0;
     while i < steps.len() {
@@ -83,11 +84,11 @@ fn goes(ups: bool, s: u8) -> bool
 }
 
 // The set of the edges of the steps that go the given way.
-pub fn gather(ups: bool, steps: &[u8]) -> u64
+pub fn gather(ups: bool, steps: &[u8]) -> EdgeSet
     requires { ⌜ InSets (now steps) ⌝ }
     ensures { λ r. ⌜ r ≡ gather ups 0 (stepsOf (now (steps .entry))) ⌝ }
 {
-    let mut m: u64 = 0;
+    let mut m: EdgeSet = 0;
     let mut i: usize = 0;
     while i < steps.len() {
         let s = steps[i];

@@ -10,10 +10,10 @@ use native.Mathlib.Omega.{arith}
 use lib.Dec.{eqb}
 use lib.ListN.{length, getD, drop, drop-of-length-le}
 use lib.Seq.{drop-cons}
-use lib.Bits.{bitOr}
 use borrow.Author.Tests.{ltb-true, ne-eqb}
 use Rattle.lists.specs.Choice.{pick}
 use Rattle.lists.proofs.Laws.{pick-no, pick-passed}
+use Rattle.sets.specs.Sets.{joined}
 use Rattle.board.specs.Limits.{maxEdges, maxTerminals, maxTotal}
 use Rattle.board.specs.declared.Board.{Board}
 use Rattle.board.specs.declared.Move.the-variants.{Turn}
@@ -67,11 +67,11 @@ module _ (b : Board) (play : playing b ≡ true) (long : length (b .flows) ≡ m
   turn-small wide w = amount-small b w maxTotal flows-small (λ j. let d = playing-demand b play wide j in omega (arith, d))
 
 -- the parts of the board after a turn, as the code makes them one by one
-pub turn-made : (b : Board) (w : List Step) (a downs ups new : ℕ) (flows : List ℕ) → a ≡ amount b w → downs ≡ gather false 0 w → ups ≡ gather true 0 w
-    → new ≡ fresh b → flows ≡ shifted a downs ups (b .flows)
-    → moved b flows (bitOr (b .marks) new) (b .places) (record { step = Turn (record { amount = a; down = downs; up = ups; marked = new }) }) ≡ turned b w
+pub turn-made : (b : Board) (w : List Step) (a downs ups new marks : ℕ) (flows : List ℕ) → a ≡ amount b w → downs ≡ gather false 0 w → ups ≡ gather true 0 w
+    → new ≡ fresh b → flows ≡ shifted a downs ups (b .flows) → marks ≡ joined (b .marks) new
+    → moved b flows marks (b .places) (record { step = Turn (record { amount = a; down = downs; up = ups; marked = new }) }) ≡ turned b w
 unfolding turned
-turn-made b w a downs ups new flows ea ed eu en ef = rw (ef, ea, ed, eu, en)
+turn-made b w a downs ups new marks flows ea ed eu en ef em = rw (ef, em, ea, ed, eu, en)
 
 -- the tests in their order, each with the number it refuses with
 module _ (b : Board) (w : List Step) where

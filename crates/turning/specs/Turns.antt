@@ -3,8 +3,8 @@ use mathlib.Core.Bool.{Bool, true, false}
 use mathlib.Core.List.{List}
 use Prim.Native.Nat.{ℕ}
 use lib.Dec.{ltb}
-use lib.Bits.{bitOr}
 use Rattle.lists.specs.Choice.{pick}
+use Rattle.sets.specs.Sets.{joined}
 use Rattle.board.specs.declared.Board.{Board}
 use Rattle.board.specs.declared.Played.{Played}
 use Rattle.board.specs.declared.Move.the-variants.{Turn}
@@ -40,7 +40,7 @@ turnRefusal b w =
 -- the marks of before with the new ones, and the flows changed by the amount; the entry holds the amount and the sets
 unfoldable pub turned : Board → List Step → Board
 turned b w =
-    moved b (shifted (amount b w) (gather false 0 w) (gather true 0 w) (b .flows)) (bitOr (b .marks) (fresh b)) (b .places)
+    moved b (shifted (amount b w) (gather false 0 w) (gather true 0 w) (b .flows)) (joined (b .marks) (fresh b)) (b .places)
     (record { step = Turn (record { amount = amount b w; down = gather false 0 w; up = gather true 0 w; marked = fresh b }) })
 
 -- the call, with the steps as bytes

@@ -106,7 +106,7 @@ fn turned(board: Board, steps: &[u8]) -> Board
     let fresh = marking::fresh(board);
     let old = board.flows;
     let flows = shifting::shifted(amount, down, up, old);
-    let marks = board.marks | fresh;
+    let marks = sets::joined(board.marks, fresh);
     let places = board.places;
     let entry = Entry {
         step: Move::Turn(Augmentation {

@@ -1,8 +1,9 @@
 -- The call `undo`: document 01, "Moves".
-use Prim.Native.Nat.{ℕ, _+_, _-_}
+use Prim.Native.Nat.{ℕ, _+_}
 use lib.Dec.{eqb}
 use lib.ListN.{set}
 use Rattle.lists.specs.Choice.{pick}
+use Rattle.sets.specs.Sets.{without}
 use Rattle.board.specs.declared.Board.{Board}
 use Rattle.board.specs.declared.Played.{Played}
 use Rattle.board.specs.declared.Move.{Move}
@@ -20,7 +21,7 @@ undoRefusal b = pick (playing b) (pick (eqb (b .moves) 0) 27 0) 20
 abbrev pub undoneMove : Board → Move → Board
 undoneMove b (Carry r) =
     movedBack b (set (b .flows) (r .edge) (flow b (r .edge) + demand b (r .terminal))) (b .marks) (set (b .places) (r .terminal) (head b (r .edge)))
-undoneMove b (Turn a) = movedBack b (shifted (a .amount) (a .up) (a .down) (b .flows)) (b .marks - a .marked) (b .places)
+undoneMove b (Turn a) = movedBack b (shifted (a .amount) (a .up) (a .down) (b .flows)) (without (b .marks) (a .marked)) (b .places)
 
 unfoldable pub undone : Board → Board
 undone b = undoneMove b (lastEntry b .step)

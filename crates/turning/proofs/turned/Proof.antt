@@ -33,6 +33,9 @@ shifted-requires c κs =
     let wide = length-unmapped ℕ (board .network .demands) maxTerminals (demands .1 .0 .1) in
     (rw (c .before .before .before .before .amount .ensures) (turn-small _ play long wide _), flows-small _ play long)
 
+joined-requires : tie.Need-joined-requires
+joined-requires c κs = search needs
+
 moved-requires : tie.Need-moved-requires
 moved-requires c κs = playing-moves _ (c .before .before .before .before .before .before .before .before .before .pre .0)
 
@@ -43,7 +46,7 @@ returns c =
     let at-gather2 = c .before .before .before .before .before .before .gather2 in
     let at-gather = c .before .before .before .before .before .before .before .gather in
     let at-amount = c .before .before .before .before .before .before .before .before .amount in
-    c .moved .ensures ∙ turn-made _ _ _ _ _ _ _ (at-amount .ensures) (at-gather .ensures) (at-gather2 .ensures) (at-fresh .ensures) (at-shifted .ensures)
+    c .moved .ensures ∙ turn-made _ _ _ _ _ _ _ _ (at-amount .ensures) (at-gather .ensures) (at-gather2 .ensures) (at-fresh .ensures) (at-shifted .ensures) (c .before .before .joined .ensures)
 
 pub turned-spec : {M : Type 1} → statement M
 turned-spec =
@@ -54,5 +57,6 @@ turned-spec =
     gather-requires-2
     fresh-requires
     shifted-requires
+    joined-requires
     moved-requires
     returns)
