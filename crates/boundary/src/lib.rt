@@ -68,7 +68,7 @@ pub extern "C" fn vulprow_play(
 {
     let loaded = loader::load(text);
     let board = loaded.board;
-    let answer = loaded.answer;
+    let loading = loaded.answer;
     let end = calls::run(board, codes, steps, given);
     let end_flows = end.flows;
     let end_places = end.places;
@@ -78,5 +78,5 @@ pub extern "C" fn vulprow_play(
     *marks = end.marks;
     *moves = end.moves;
     calls::put_journal(end_journal, journal);
-    answer
+    loading
 }
