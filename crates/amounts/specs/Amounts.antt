@@ -31,5 +31,6 @@ unfoldable pub amountFrom : Board → ℕ → List Step → ℕ
 amountFrom b a [] = a
 amountFrom b a (s ∷ w) = amountFrom b (allowed b a s) w
 
+-- from none on
 unfoldable pub amount : Board → List Step → ℕ
 amount b w = amountFrom b 0 w

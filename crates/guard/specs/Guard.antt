@@ -39,7 +39,7 @@ abbrev pub moveIntact : Move → Bool
 moveIntact (Carry r) = true
 moveIntact (Turn a) = leb (a .amount) maxTotal
 
--- every edge and terminal is intact, the journal has room for the moves, and so is the last move
+-- every edge and terminal is intact, the journal has room for the moves, and the last move is intact
 unfoldable pub intact : Board → Bool
 intact b =
     both (countsFit (b .network))

@@ -19,5 +19,6 @@ module _ (x downs ups : ℕ) where
   shiftFrom flows new e zero = new
   shiftFrom flows new e (suc k) = shiftFrom flows (set new e (shiftedAt e (getD flows e 0))) (suc e) k
 
+  -- all of them
   unfoldable pub shifted : List ℕ → List ℕ
   shifted flows = shiftFrom flows flows 0 (length flows)

@@ -12,6 +12,7 @@ use Rattle.flows.specs.Trails.{Step, down, up, edgeOf, startOf, endOf}
 abbrev pub upFrom : ℕ
 upFrom = 128
 
+-- the step of a byte, and the steps of bytes
 unfoldable pub stepOf : ℕ → Step
 stepOf s = pick (leb upFrom s) (up (s - upFrom)) (down s)
 
@@ -23,6 +24,7 @@ stepsOf (s ∷ w) = stepOf s ∷ stepsOf w
 abbrev pub InSets : List ℕ → Type 0
 InSets s = (i : ℕ) → i < length s → edgeOf (stepOf (getD s i 0)) < setWidth
 
+-- whether a step goes up
 abbrev pub isUp : Step → Bool
 isUp (down e) = false
 isUp (up e) = true

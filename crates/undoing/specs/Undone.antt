@@ -23,6 +23,7 @@ undoneMove b (Carry r) =
     movedBack b (set (b .flows) (r .edge) (flow b (r .edge) + demand b (r .terminal))) (b .marks) (set (b .places) (r .terminal) (head b (r .edge)))
 undoneMove b (Turn a) = movedBack b (shifted (a .amount) (a .up) (a .down) (b .flows)) (without (b .marks) (a .marked)) (b .places)
 
+-- the last standing move taken back
 unfoldable pub undone : Board → Board
 undone b = undoneMove b (lastEntry b .step)
 
