@@ -59,8 +59,8 @@ pub calling : String → List Call → List ℕ → List ℕ → ℕ → Case
 calling text calls given flows last = record { text = text; answer = 0; calls = calls; given = given; flows = flows; last = last }
 
 -- the board whose channels 1 and 2 drain to 0, and document 01's T
-drained : String
-drained = "B,3,3,1,0\nC,0,1,4\nC,1,2,3\nC,2,1,3\nW,1,4\n"
+withCycle : String
+withCycle = "B,3,3,1,0\nC,0,1,4\nC,1,2,3\nC,2,1,3\nW,1,4\n"
 
 boardT : String
 boardT = "B,4,4,2,0\nC,0,1,3\nC,0,2,3\nC,1,3,3\nC,2,3,3\nW,3,2\nW,3,4\n"
@@ -79,8 +79,8 @@ cases =
     ∷ loading "B,2,1,1,0\nC,0,1,1000000\nW,1,1000000\n" 0 (1000000 ∷ [])
     ∷ loading "B,2,1,1,0\nC,0,1,1000001\nW,1,1000001\n" 2 []
     ∷ loading "B,2,1,1,0\nC,0,1,05\nW,1,5\n" 1 []
-    ∷ loading drained 0 (4 ∷ 0 ∷ 0 ∷ [])
-    ∷ calling drained (carry 0 0 ∷ turn (1 ∷ 2 ∷ []) ∷ []) (0 ∷ 25 ∷ []) (0 ∷ 0 ∷ 0 ∷ []) 0
+    ∷ loading withCycle 0 (4 ∷ 0 ∷ 0 ∷ [])
+    ∷ calling withCycle (carry 0 0 ∷ turn (1 ∷ 2 ∷ []) ∷ []) (0 ∷ 25 ∷ []) (0 ∷ 0 ∷ 0 ∷ []) 0
     ∷ calling boardT (carry 0 0 ∷ []) (22 ∷ []) (3 ∷ 3 ∷ 3 ∷ 3 ∷ []) 0
     ∷ calling boardT (carry 1 2 ∷ []) (23 ∷ []) (3 ∷ 3 ∷ 3 ∷ 3 ∷ []) 0
     ∷ calling boardT (carry 2 0 ∷ []) (6 ∷ []) (3 ∷ 3 ∷ 3 ∷ 3 ∷ []) 0
@@ -114,7 +114,7 @@ hold (x ∷ xs) = both (holds x (loadText (bytes (x .text)))) (hold xs)
 pub starred : T (hold cases)
 unfolding loadText readText bytes cases hold holds same both pick indexOf numberOf valueFrom ranged all lowest sumAt keyed closedBoard
     opens pass passes reached leads onward since follow smallest lowered lowerCycle onCycle cycleVertex cycleFrom cancelled acyclicFlows
-    loading calling drained boardT around amountOf ends played answers answered intact playing
+    loading calling withCycle boardT around amountOf ends played answers answered intact playing
     flowFits enters isOpen openEdge hasOpen openTerminal someOpen onBoard carryRefusal carried carryCall
     hasBit withBit collect stepOf stepsOf every leadsBack isCycle gather leaves leaving straight singular isFresh fresh
     smaller isShort raise amountFrom amount shiftedAt shiftFrom shifted turnRefusal turned turnCall undoRefusal undone undoCall

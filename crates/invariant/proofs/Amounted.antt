@@ -143,19 +143,19 @@ module _ (b : Board) where
 
   from-old : (a : ℕ) (w : List Step) → Wet w → 0 < a → Under a (amountFrom b a w)
   unfolding amountFrom
-  from-old a [] wet p = (p, omega arith)
-  from-old a (s ∷ w) wet p =
-      let u = allowed-old a s (wet s (inl refl)) p in
-      under-trans a (allowed b a s) (amountFrom b (allowed b a s) w) u (from-old (allowed b a s) w (λ t i. wet t (inr i)) (u .0))
+  from-old a [] above p = (p, omega arith)
+  from-old a (s ∷ w) above p =
+      let u = allowed-old a s (above s (inl refl)) p in
+      under-trans a (allowed b a s) (amountFrom b (allowed b a s) w) u (from-old (allowed b a s) w (λ t i. above t (inr i)) (u .0))
 
   -- what one step bounds, the amount keeps
   from-new : (a : ℕ) (w : List Step) (s : Step) (x : ℕ) → Wet w → In s w → ((c : ℕ) → Under x (allowed b c s)) → Under x (amountFrom b a w)
   unfolding amountFrom
-  from-new a [] s x wet i f = absurd i
-  from-new a (t ∷ w) s x wet (inl q) f =
+  from-new a [] s x above i f = absurd i
+  from-new a (t ∷ w) s x above (inl q) f =
       let u : Under x (allowed b a t) = rw (← q) (f a) in
-      under-trans x (allowed b a t) (amountFrom b (allowed b a t) w) u (from-old (allowed b a t) w (λ d i. wet d (inr i)) (u .0))
-  from-new a (t ∷ w) s x wet (inr i) f = from-new (allowed b a t) w s x (λ d j. wet d (inr j)) i f
+      under-trans x (allowed b a t) (amountFrom b (allowed b a t) w) u (from-old (allowed b a t) w (λ d i. above d (inr i)) (u .0))
+  from-new a (t ∷ w) s x above (inr i) f = from-new (allowed b a t) w s x (λ d j. above d (inr j)) i f
 
   -- x is a flow or a lack of one of the steps
   data Got (w : List Step) (x : ℕ) : Type 0 where
@@ -181,8 +181,8 @@ module _ (b : Board) where
 
   from-one : (a : ℕ) (w : List Step) → Wet w → (amountFrom b a w ≡ a) ⊎ Got w (amountFrom b a w)
   unfolding amountFrom
-  from-one a [] wet = inl refl
-  from-one a (s ∷ w) wet = at (from-one (allowed b a s) w (λ t i. wet t (inr i))) (allowed-one a s w (wet s (inl refl)))
+  from-one a [] above = inl refl
+  from-one a (s ∷ w) above = at (from-one (allowed b a s) w (λ t i. above t (inr i))) (allowed-one a s w (above s (inl refl)))
     where
       at : (amountFrom b (allowed b a s) w ≡ allowed b a s) ⊎ Got w (amountFrom b (allowed b a s) w) → (allowed b a s ≡ a) ⊎ Got (s ∷ w) (allowed b a s)
           → (amountFrom b (allowed b a s) w ≡ a) ⊎ Got (s ∷ w) (amountFrom b (allowed b a s) w)
@@ -193,37 +193,37 @@ module _ (b : Board) where
 -- the amount
 down-under : (b : Board) (w : List Step) (e : ℕ) → Wet b w → In (down e) w → Under (flow b e) (amount b w)
 unfolding amount
-down-under b w e wet i = from-new b 0 w (down e) (flow b e) wet i (λ c. smaller-so c (flow b e) (wet (down e) i) .new)
+down-under b w e above i = from-new b 0 w (down e) (flow b e) above i (λ c. smaller-so c (flow b e) (above (down e) i) .new)
 
 pub amount-down : (b : Board) (w : List Step) (e : ℕ) → ((s : Step) → In s w → 0 < flow b (edgeOf s)) → In (down e) w → amount b w ≤ flow b e
-amount-down b w e wet i = down-under b w e wet i .1
+amount-down b w e above i = down-under b w e above i .1
 
 pub amount-above : (b : Board) (w : List Step) (e : ℕ) → ((s : Step) → In s w → 0 < flow b (edgeOf s)) → In (down e) w → 0 < amount b w
-amount-above b w e wet i = down-under b w e wet i .0
+amount-above b w e above i = down-under b w e above i .0
 
 pub amount-up : (b : Board) (w : List Step) (e i : ℕ) → ((s : Step) → In s w → 0 < flow b (edgeOf s)) → In (up e) w → i < b .network .terminals
     → place b i ≡ head b e → flow b e < demand b i → flow b e + amount b w ≤ demand b i
 unfolding amount
-amount-up b w e i wet m h p l =
+amount-up b w e i above m h p l =
     omega (
       arith,
       l,
-      from-new b 0 w (up e) (demand b i - flow b e) wet m
+      from-new b 0 w (up e) (demand b i - flow b e) above m
           (λ c. raise-new b e c 0 (b .network .terminals) i (omega arith) (omega arith) (record { here = p; lack = l })) .1,
     )
 
--- the amount makes a down-step's edge zero, or an up-step's edge the need of a terminal at its head
+-- the amount makes a down-step's edge zero, or an up-step's edge the demand of a terminal at its head
 pub data Attained (b : Board) (w : List Step) : Type 0 where
-  dried : (e : ℕ) → In (down e) w → amount b w ≡ flow b e → Attained b w
+  zeroed : (e : ℕ) → In (down e) w → amount b w ≡ flow b e → Attained b w
   met : (e i : ℕ) → In (up e) w → i < b .network .terminals → place b i ≡ head b e → flow b e + amount b w ≡ demand b i → Attained b w
 
 pub amount-attained : (b : Board) (w : List Step) (e : ℕ) → ((s : Step) → In s w → 0 < flow b (edgeOf s)) → In (down e) w → Attained b w
 unfolding amount
-amount-attained b w e wet i = at (from-one b 0 w wet) (amount-above b w e wet i)
+amount-attained b w e above i = at (from-one b 0 w above) (amount-above b w e above i)
   where
     at : (amountFrom b 0 w ≡ 0) ⊎ Got b w (amountFrom b 0 w) → 0 < amount b w → Attained b w
     at (inl q) p = absurd (omega (arith, p, q))
-    at (inr (flow-got d j q)) p = dried d j q
+    at (inr (flow-got d j q)) p = zeroed d j q
     at (inr (lack-got d j l)) p =
         met d (l .terminal) j (l .below) (l .short .here) (omega (arith, l .value, l .short .lack))
 

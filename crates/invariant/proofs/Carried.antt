@@ -35,8 +35,8 @@ module _ (b : Board) (i e : ℕ) (inv : Invariant b) (c : Carriable b i e) where
   needs : 1 ≤ demand b i
   needs = law .demand i (c .terminal) .0
 
-  wet : 0 < flow b e
-  wet = omega (arith, needs, c .covers)
+  positive : 0 < flow b e
+  positive = omega (arith, needs, c .covers)
 
   -- the edge and the terminal are within their lists
   pub in-flows : e < length (b .flows)
@@ -61,12 +61,12 @@ module _ (b : Board) (i e : ℕ) (inv : Invariant b) (c : Carriable b i e) where
       at (inl q) = rw q (omega (arith, flow-moved))
       at (inr n) = omega (arith, flow-kept g n)
 
-  was-wet : (g : ℕ) → 0 < flow (carried b i e) g → 0 < flow b g
-  was-wet g h = omega (arith, flow-falls g)
+  was-positive : (g : ℕ) → 0 < flow (carried b i e) g → 0 < flow b g
+  was-positive g h = omega (arith, flow-falls g)
 
   was-marked : (g : ℕ) → Marked (carried b i e) g → Marked b g
   unfolding carried
-  was-marked g m = record { mark = m .mark; above = was-wet g (m .above) }
+  was-marked g m = record { mark = m .mark; above = was-positive g (m .above) }
 
   -- a marked edge is at 0 after the carry
   emptied : marked b e ≡ true → flow (carried b i e) e ≡ 0
@@ -121,10 +121,10 @@ module _ (b : Board) (i e : ℕ) (inv : Invariant b) (c : Carriable b i e) where
       at : (k ≡ i) ⊎ (k ≢ i) → flow (carried b i e) g ≤ demand b k
       at (inl q) =
           let t' = arrived k (head b g) q a in
-          let same : w ≡ e = inv .one-out g w e (was-marked g m) t (was-wet w h) t' wet in
-          let dry = emptied (inv .down-closed g e (was-marked g m) t' wet) in
-          absurd (omega (arith, dry, rw same at h))
-      at (inr n) = omega (arith, flow-falls g, inv .all-fit g w k (was-marked g m) t (was-wet w h) (was-at k (head b g) n a))
+          let same : w ≡ e = inv .one-out g w e (was-marked g m) t (was-positive w h) t' positive in
+          let zero-now = emptied (inv .down-closed g e (was-marked g m) t' positive) in
+          absurd (omega (arith, zero-now, rw same at h))
+      at (inr n) = omega (arith, flow-falls g, inv .all-fit g w k (was-marked g m) t (was-positive w h) (was-at k (head b g) n a))
 
   one-misfit : (g g' k j : ℕ) → Marked (carried b i e) g → Marked (carried b i e) g' → head b g' ≡ head b g
       → At (carried b i e) k (head b g) → At (carried b i e) j (head b g) → (k ≡ j → ⊥)
@@ -138,8 +138,8 @@ module _ (b : Board) (i e : ℕ) (inv : Invariant b) (c : Carriable b i e) where
       at : (k ≡ i) ⊎ (k ≢ i) → (j ≡ i) ⊎ (j ≢ i) → (flow (carried b i e) g ≤ demand b k) ⊎ (flow (carried b i e) g' ≤ demand b j)
       at (inl q) (inl r) = absurd (n (q ∙ sym r))
       at (inl q) (inr r) =
-          kept (inr (inv .all-fit g' e j (was-marked g' m') (arrived k (head b g) q a ∙ sym s) wet (rw s (was-at j (head b g) r a'))))
-      at (inr q) (inl r) = kept (inl (inv .all-fit g e k (was-marked g m) (arrived j (head b g) r a') wet (was-at k (head b g) q a)))
+          kept (inr (inv .all-fit g' e j (was-marked g' m') (arrived k (head b g) q a ∙ sym s) positive (rw s (was-at j (head b g) r a'))))
+      at (inr q) (inl r) = kept (inl (inv .all-fit g e k (was-marked g m) (arrived j (head b g) r a') positive (was-at k (head b g) q a)))
       at (inr q) (inr r) = kept (inv .one-misfit g g' k j (was-marked g m) (was-marked g' m') s (was-at k (head b g) q a) (was-at j (head b g) r a') n)
 
   module _ (room : b .moves < maxMoves) where
@@ -187,7 +187,7 @@ module _ (b : Board) (i e : ℕ) (inv : Invariant b) (c : Carriable b i e) where
           arith,
           load-moved b i e in-journal,
           largest-moved b i e in-journal (c .terminal),
-          inv .load-positive e (record { mark = rw q at m; above = wet }),
+          inv .load-positive e (record { mark = rw q at m; above = positive }),
         ))
         at (inr n) = omega (arith, load-kept b i e in-journal g n, largest-kept b i e in-journal g n, inv .load-zero g m (sym (flow-kept g n) ∙ z))
 
@@ -208,7 +208,7 @@ module _ (b : Board) (i e : ℕ) (inv : Invariant b) (c : Carriable b i e) where
     on-routes k g h t = at (eq-or-ne k i)
       where
         in-front : (g ≡ e) ⊎ (has g (route b i) ≡ true) → 0 < first b g
-        in-front (inl q) = rw q (inv .support e wet)
+        in-front (inl q) = rw q (inv .support e positive)
         in-front (inr r) = inv .on-routes i g (c .terminal) r
 
         at : (k ≡ i) ⊎ (k ≢ i) → 0 < first b g
@@ -228,10 +228,10 @@ module _ (b : Board) (i e : ℕ) (inv : Invariant b) (c : Carriable b i e) where
       blanks = blanks;
       amounts = amounts;
       balance = balance;
-      support = λ g h. inv .support g (was-wet g h);
-      one-out = λ g w w' m t h t' h'. inv .one-out g w w' (was-marked g m) t (was-wet w h) t' (was-wet w' h');
-      down-closed = λ g w m t h. inv .down-closed g w (was-marked g m) t (was-wet w h);
-      across-closed = λ g g' m t h. inv .across-closed g g' (was-marked g m) t (was-wet g' h);
+      support = λ g h. inv .support g (was-positive g h);
+      one-out = λ g w w' m t h t' h'. inv .one-out g w w' (was-marked g m) t (was-positive w h) t' (was-positive w' h');
+      down-closed = λ g w m t h. inv .down-closed g w (was-marked g m) t (was-positive w h);
+      across-closed = λ g g' m t h. inv .across-closed g g' (was-marked g m) t (was-positive g' h);
       all-fit = all-fit;
       one-misfit = one-misfit;
       load-unmarked = load-unmarked;

@@ -1,4 +1,4 @@
--- Undo after a carry gives back the very same record: the flow that fell by the need rises by it, the terminal goes back to the head of the edge, where
+-- Undo after a carry gives back the very same record: the flow that fell by the demand rises by it, the terminal goes back to the head of the edge, where
 -- it was, and the place in the journal is blank, as it was.
 use mathlib.Core.Path.{_≡_, ap, sym, _∙_}
 use Prim.Native.Nat.{ℕ, _+_, _-_, _<_}

@@ -19,24 +19,24 @@ use Rattle.amounts.specs.Amounts.{amount}
 use Rattle.turning.specs.Turns.{turned}
 use Rattle.invariant.specs.Invariant.{Invariant}
 use Rattle.invariant.proofs.Carriable.{facts-open, some-open}
-use Rattle.invariant.proofs.Amounted.{amount-above, Attained, dried, met, amount-attained, SomeDown, some-down}
+use Rattle.invariant.proofs.Amounted.{amount-above, Attained, zeroed, met, amount-attained, SomeDown, some-down}
 use Rattle.invariant.proofs.Turnable.{Turnable}
 use Rattle.invariant.proofs.TurnedMarks.{now-single}
 use Rattle.invariant.proofs.TurnedFlows.{turn-fits, now-changed, now-length, positive-before}
 use Rattle.invariant.proofs.Counting.{covered-below, covered-fewer}
 use Rattle.invariant.proofs.Potential.{level, levels, potential, level-rises}
 
--- an edge dries, or a terminal's need is met
+-- an edge falls to 0, or a terminal gets exactly its demand
 pub data Gain (b : Board) (w : List Step) : Type 0 where
-  dries : (e : ℕ) → In (down e) w → flow (turned b w) e ≡ 0 → Gain b w
+  zeroes : (e : ℕ) → In (down e) w → flow (turned b w) e ≡ 0 → Gain b w
   meets : (e i : ℕ) → In (up e) w → i < b .network .terminals → place b i ≡ head b e → marked (turned b w) e ≡ true → flow (turned b w) e ≡ demand b i → Gain b w
 
 module _ (b : Board) (w : List Step) (inv : Invariant b) (t : Turnable b w) where
   falling : SomeDown w
-  falling = some-down (b .network .tails) (b .network .heads) (level b) w (t .cycle) (λ s i. level-rises b inv (edgeOf s) (t .wet s i))
+  falling = some-down (b .network .tails) (b .network .heads) (level b) w (t .cycle) (λ s i. level-rises b inv (edgeOf s) (t .above s i))
 
   pub turn-amount : 0 < amount b w
-  turn-amount = amount-above b w (falling .edge) (t .wet) (falling .among)
+  turn-amount = amount-above b w (falling .edge) (t .above) (falling .among)
 
   -- a step's edge after the turn
   stepped : (s : Step) → In s w → flow (turned b w) (edgeOf s) ≡ after (b .flows) (amount b w) s
@@ -46,13 +46,13 @@ module _ (b : Board) (w : List Step) (inv : Invariant b) (t : Turnable b w) wher
 
   climbed : (e : ℕ) → In (up e) w → marked (turned b w) e ≡ true
   unfolding turned
-  climbed e i = now-single b e (t .wet (up e) i) (t .climbs e i)
+  climbed e i = now-single b e (t .above (up e) i) (t .climbs e i)
 
   pub turn-gains : Gain b w
-  turn-gains = go (amount-attained b w (falling .edge) (t .wet) (falling .among))
+  turn-gains = go (amount-attained b w (falling .edge) (t .above) (falling .among))
     where
       go : Attained b w → Gain b w
-      go (dried e i q) = dries e i (stepped (down e) i ∙ omega (arith, q))
+      go (zeroed e i q) = zeroes e i (stepped (down e) i ∙ omega (arith, q))
       go (met e k i l p q) = meets e k i l p (climbed e i) (stepped (up e) i ∙ q)
 
   -- no edge becomes positive
@@ -64,9 +64,9 @@ module _ (b : Board) (w : List Step) (inv : Invariant b) (t : Turnable b w) wher
   unfolding turned
   fewer = covered-below (turned b w .flows) (b .flows) (now-length b w inv t) covered
 
-  dry-fewer : (e : ℕ) → In (down e) w → flow (turned b w) e ≡ 0 → positives (turned b w .flows) < positives (b .flows)
+  zero-fewer : (e : ℕ) → In (down e) w → flow (turned b w) e ≡ 0 → positives (turned b w .flows) < positives (b .flows)
   unfolding turned
-  dry-fewer e i z = covered-fewer (turned b w .flows) (b .flows) e (now-length b w inv t) covered z (t .wet (down e) i)
+  zero-fewer e i z = covered-fewer (turned b w .flows) (b .flows) e (now-length b w inv t) covered z (t .above (down e) i)
 
   met-open : (e i : ℕ) → In (up e) w → i < b .network .terminals → place b i ≡ head b e → flow (turned b w) e ≡ demand b i → someOpen (turned b w) ≡ true
   unfolding turned
@@ -81,9 +81,9 @@ module _ (b : Board) (w : List Step) (inv : Invariant b) (t : Turnable b w) wher
   turned-falls = go turn-gains
     where
       go : Gain b w → positives (turned b w .flows) + 2 * levels (turned b w) - pick (someOpen (turned b w)) 1 0 < positives (b .flows) + 2 * levels b - pick (someOpen b) 1 0
-      go (dries e i z) =
+      go (zeroes e i z) =
           let shut = pick-no {A = ℕ} (someOpen b) 1 0 (t .none-open) in
-          omega (arith, dry-fewer e i z, same-levels, shut)
+          omega (arith, zero-fewer e i z, same-levels, shut)
       go (meets e i s l p m q) =
           let shut = pick-no {A = ℕ} (someOpen b) 1 0 (t .none-open) in
           let one = pick-yes {A = ℕ} (someOpen (turned b w)) 1 0 (met-open e i s l p q) in

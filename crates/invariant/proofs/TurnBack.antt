@@ -66,7 +66,7 @@ module _ (b : Board) (w : List Step) (inv : Invariant b) (t : Turnable b w) (roo
   flows-back =
       shifted-back (amount b w) (gather false 0 w) (gather true 0 w) (b .flows)
       (λ e p q. one-way e w (t .cycle .distinct) (gathered-down w e p) (gathered-up w e q))
-      (λ e p h. amount-down b w e (t .wet) (gathered-down w e p))
+      (λ e p h. amount-down b w e (t .above) (gathered-down w e p))
 
   marks-back : bitOr (b .marks) (fresh b) - fresh b ≡ b .marks
   marks-back = joined-back (b .marks) (fresh b) (λ e p q. true≢false (sym p ∙ fresh-facts b e q .unmarked))

@@ -22,7 +22,7 @@ pub record Turnable (b : Board) (w : List Step) : Type 0 where
   pub cycle : Closed (b .network .tails) (b .network .heads) w
   pub inside : (s : Step) → In s w → edgeOf s < b .network .edges
   pub none-open : someOpen b ≡ false
-  pub wet : (s : Step) → In s w → 0 < flow b (edgeOf s)
+  pub above : (s : Step) → In s w → 0 < flow b (edgeOf s)
   pub climbs : (e : ℕ) → In (up e) w → singular b e ≡ true
 
 module _ (b : Board) (w : List Step) where
@@ -33,14 +33,14 @@ module _ (b : Board) (w : List Step) where
       let on = pick-passed _ _ 5 (play .1) in
       let cyc = pick-passed _ _ 6 (on .1) in
       let shut = pick-avoided _ _ 23 (cyc .1) in
-      let wet = pick-passed _ _ 24 (shut .1) in
-      let ups = pick-passed _ _ 25 (wet .1) in (
+      let above = pick-passed _ _ 24 (shut .1) in
+      let ups = pick-passed _ _ 25 (above .1) in (
         play .0,
         record {
           cycle = cycle-closed (b .network .tails) (b .network .heads) w (cyc .0);
           inside = λ s i. ltb-true _ _ (every-in (meets OnBoard b) w s (on .0) i);
           none-open = shut .0;
-          wet = λ s i. ltb-true _ _ (every-in (meets Positive b) w s (wet .0) i);
+          above = λ s i. ltb-true _ _ (every-in (meets Positive b) w s (above .0) i);
           climbs = λ e i. sym (pick-yes (isUp (up e)) _ _ refl) ∙ every-in (meets UpSingular b) w (up e) (ups .0) i;
         },
       )
@@ -50,7 +50,7 @@ module _ (b : Board) (w : List Step) where
   turn-accepted play t =
       pick-yes _ _ 20 play ∙ pick-yes _ _ 6 (every-of (meets OnBoard b) w (λ s i. lt-ltb _ _ (t .inside s i)))
       ∙ pick-yes _ _ 7 (closed-cycle (b .network .tails) (b .network .heads) w (t .cycle)) ∙ pick-no _ 24 _ (t .none-open)
-      ∙ pick-yes _ _ 25 (every-of (meets Positive b) w (λ s i. lt-ltb _ _ (t .wet s i))) ∙ pick-yes _ _ 26 (every-of (meets UpSingular b) w climb)
+      ∙ pick-yes _ _ 25 (every-of (meets Positive b) w (λ s i. lt-ltb _ _ (t .above s i))) ∙ pick-yes _ _ 26 (every-of (meets UpSingular b) w climb)
     where
       climb : (s : Step) → In s w → meets UpSingular b s ≡ true
       climb (down e) i = pick-no false _ _ refl

@@ -49,7 +49,7 @@ module _ (b : Board) (w : List Step) (inv : Invariant b) (t : Turnable b w) wher
   turn-fits =
       fits-of (b .flows) (amount b w) w
       (λ s i. omega (arith, t .inside s i, inv .flows-size, inv .lawful .flows-size, inv .lawful .edges))
-      (λ e i. amount-down b w e (t .wet) i) (t .cycle .distinct)
+      (λ e i. amount-down b w e (t .above) i) (t .cycle .distinct)
 
   pub now-changed : flowsNow b w ≡ changed (b .flows) (amount b w) w
   now-changed = shifted-changed (b .flows) (amount b w) w turn-fits
@@ -80,7 +80,7 @@ module _ (b : Board) (w : List Step) (inv : Invariant b) (t : Turnable b w) wher
     where
       go : Became b w e → 0 < flow b e
       go (lower l) = omega arith
-      go (higher i q) = t .wet (up e) i
+      go (higher i q) = t .above (up e) i
 
   -- where an edge had no more than a terminal at its head needs, so it has now
   pub fit-after : (e i : ℕ) → 0 < flow b e → At b i (head b e) → flow b e ≤ demand b i → getD (flowsNow b w) e 0 ≤ demand b i
@@ -88,7 +88,7 @@ module _ (b : Board) (w : List Step) (inv : Invariant b) (t : Turnable b w) wher
     where
       go : Became b w e → (flow b e < demand b i) ⊎ (demand b i ≤ flow b e) → getD (flowsNow b w) e 0 ≤ demand b i
       go (lower k) q = omega arith
-      go (higher m k) (inl q) = omega (arith, k, amount-up b w e i (t .wet) m (at .terminal) (at .here) q)
+      go (higher m k) (inl q) = omega (arith, k, amount-up b w e i (t .above) m (at .terminal) (at .here) q)
       go (higher m k) (inr q) = absurd (not-equal b inv (t .none-open) e i h at (omega arith))
 
   -- what rises is marked
@@ -97,7 +97,7 @@ module _ (b : Board) (w : List Step) (inv : Invariant b) (t : Turnable b w) wher
     where
       go : Became b w e → getD (flowsNow b w) e 0 ≤ flow b e
       go (lower l) = l
-      go (higher i q) = absurd (true≢false (sym (now-single b e (t .wet (up e) i) (t .climbs e i)) ∙ h))
+      go (higher i q) = absurd (true≢false (sym (now-single b e (t .above (up e) i) (t .climbs e i)) ∙ h))
 
   pub balance-after : (v : ℕ)
       → sumAt (b .network .heads) (flowsNow b w) v + sumAt (b .network .tails) (b .flows) v

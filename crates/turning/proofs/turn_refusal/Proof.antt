@@ -70,8 +70,8 @@ returns-6 c =
     let at-if3 = c .before .before .before .before .before .before in
     let cycle = sym (at-if3 .before .is-cycle .ensures) ∙ not-false _ (at-if3 .if3 .left) in
     let shut = sym (c .before .before .before .before .before .some-open .ensures) ∙ c .before .before .before .before .if4 .left in
-    let wet = sym (c .before .before .before .all-meet2 .ensures) ∙ not-false _ (c .before .before .if5 .left) in
-    refused-26 _ _ play on cycle shut wet (sym (c .before .all-meet3 .ensures) ∙ not-true _ (c .if6 .taken))
+    let above = sym (c .before .before .before .all-meet2 .ensures) ∙ not-false _ (c .before .before .if5 .left) in
+    refused-26 _ _ play on cycle shut above (sym (c .before .all-meet3 .ensures) ∙ not-true _ (c .if6 .taken))
 
 returns-7 : tie.Need-returns-7
 returns-7 c =
@@ -81,8 +81,8 @@ returns-7 c =
     let at-if3 = c .before .before .before .before .before .before in
     let cycle = sym (at-if3 .before .is-cycle .ensures) ∙ not-false _ (at-if3 .if3 .left) in
     let shut = sym (c .before .before .before .before .before .some-open .ensures) ∙ c .before .before .before .before .if4 .left in
-    let wet = sym (c .before .before .before .all-meet2 .ensures) ∙ not-false _ (c .before .before .if5 .left) in
-    accepted _ _ play on cycle shut wet (sym (c .before .all-meet3 .ensures) ∙ not-false _ (c .if6 .left))
+    let above = sym (c .before .before .before .all-meet2 .ensures) ∙ not-false _ (c .before .before .if5 .left) in
+    accepted _ _ play on cycle shut above (sym (c .before .all-meet3 .ensures) ∙ not-false _ (c .if6 .left))
 
 pub turn-refusal-spec : {M : Type 1} → statement M
 turn-refusal-spec =
