@@ -22,6 +22,7 @@ use Rattle.cancelling.specs.Cancelling.{cancelled, acyclicFlows}
 use Rattle.flows.specs.Trails.{down, edgesOf, changed, Fits, downs}
 use Rattle.flows.specs.Paths.{Acyclic, Within}
 use Rattle.flows.proofs.Change.{changed-length, closed-trail, In, changed-at}
+use Rattle.flows.proofs.Positives.{positives, positives-some, positives-most, positives-fewer}
 use Rattle.flows.proofs.Walk.{Cycle, cycle-found, first-on-cycle, on-cycle-first}
 
 -- the smallest flow is one of the flows, and at most each
@@ -128,47 +129,6 @@ lowered-below flows x [] d = omega arith
 lowered-below flows x (e ∷ es) d =
     omega (arith, lowered-below (set flows e (getD flows e 0 - x)) x es d, set-below flows e (getD flows e 0 - x) d (omega arith))
 
--- how many flows are positive
-unfoldable pub positives : List ℕ → ℕ
-positives [] = 0
-positives (zero ∷ fs) = positives fs
-positives (suc x ∷ fs) = suc (positives fs)
-
-pub positives-most : (flows : List ℕ) → positives flows ≤ length flows
-unfolding positives
-positives-most [] = omega arith
-positives-most (zero ∷ fs) = omega (arith, positives-most fs)
-positives-most (suc x ∷ fs) = omega (arith, positives-most fs)
-
-pub positives-some : (flows : List ℕ) (e : ℕ) → 0 < getD flows e 0 → 0 < positives flows
-unfolding positives
-positives-some [] e h = absurd (omega arith)
-positives-some (zero ∷ fs) zero h = absurd (omega arith)
-positives-some (zero ∷ fs) (suc e) h = positives-some fs e h
-positives-some (suc x ∷ fs) e h = omega arith
-
-pub positives-below : (gs fs : List ℕ) → length gs ≡ length fs → ((e : ℕ) → getD gs e 0 ≤ getD fs e 0) → positives gs ≤ positives fs
-unfolding positives
-positives-below [] fs l b = omega arith
-positives-below (g ∷ gs) [] l b = absurd (omega arith)
-positives-below (zero ∷ gs) (zero ∷ fs) l b = positives-below gs fs (omega arith) (λ e. b (suc e))
-positives-below (zero ∷ gs) (suc f ∷ fs) l b = omega (arith, positives-below gs fs (omega arith) (λ e. b (suc e)))
-positives-below (suc g ∷ gs) (zero ∷ fs) l b = absurd (omega (arith, b 0))
-positives-below (suc g ∷ gs) (suc f ∷ fs) l b = omega (arith, positives-below gs fs (omega arith) (λ e. b (suc e)))
-
-pub positives-fewer : (gs fs : List ℕ) (d : ℕ) → length gs ≡ length fs → ((e : ℕ) → getD gs e 0 ≤ getD fs e 0) → getD gs d 0 ≡ 0 → 0 < getD fs d 0
-    → positives gs < positives fs
-unfolding positives
-positives-fewer gs [] d l b z p = absurd (omega arith)
-positives-fewer [] (f ∷ fs) d l b z p = absurd (omega arith)
-positives-fewer (g ∷ gs) (zero ∷ fs) zero l b z p = absurd (omega arith)
-positives-fewer (zero ∷ gs) (suc f ∷ fs) zero l b z p = omega (arith, positives-below gs fs (omega arith) (λ e. b (suc e)))
-positives-fewer (suc g ∷ gs) (suc f ∷ fs) zero l b z p = absurd (omega arith)
-positives-fewer (zero ∷ gs) (zero ∷ fs) (suc d) l b z p = positives-fewer gs fs d (omega arith) (λ e. b (suc e)) z p
-positives-fewer (zero ∷ gs) (suc f ∷ fs) (suc d) l b z p = omega (arith, positives-fewer gs fs d (omega arith) (λ e. b (suc e)) z p)
-positives-fewer (suc g ∷ gs) (zero ∷ fs) (suc d) l b z p = absurd (omega (arith, b 0))
-positives-fewer (suc g ∷ gs) (suc f ∷ fs) (suc d) l b z p = omega (arith, positives-fewer gs fs d (omega arith) (λ e. b (suc e)) z p)
-
 -- what every round keeps: the new flows are as many, none is above its old flow, and the balance of each vertex is the same
 pub record Less (tails heads flows now : List ℕ) : Type 0 where
   pub long : length now ≡ length flows
@@ -223,7 +183,7 @@ module _ (tails heads flows : List ℕ) where
         let d = a .edge in
         let zero-now : getD (changed flows (least es) (downs es)) d 0 ≡ 0 =
         changed-at flows (least es) (downs es) (down d) fits (in-downs d es (a .among)) ∙ omega (arith, a .value) in
-        positives-fewer (lowerCycle flows es) flows d lower-long lower-below (rw is-changed zero-now) (c .positive d (a .among))
+        positives-fewer (lowerCycle flows es) flows d lower-long (λ g h. omega (arith, h, lower-below g)) (rw is-changed zero-now) (c .positive d (a .among))
 
 -- the rounds
 within-same : {tails heads flows now : List ℕ} {n : ℕ} → length now ≡ length flows → Within tails heads flows n → Within tails heads now n

@@ -14,7 +14,7 @@ use borrow.Author.Tests.{leb-true, le-leb, lt-leb}
 use Rattle.lists.specs.Choice.{pick}
 use Rattle.lists.specs.Lists.{total, keyed, sumAt}
 use Rattle.lists.proofs.Totals.{total-same, total-none, total-add, total-one}
-use Rattle.lists.proofs.Laws.{Known, was-true, was-false, known, lt-or-ge, pick-yes, pick-no}
+use Rattle.lists.proofs.Laws.{Known, was-true, was-false, known, lt-or-ge, above-inside, pick-yes, pick-no}
 use Rattle.flows.specs.Paths.{Positive, Within}
 use Rattle.flows.proofs.Sums.{keyed-cases}
 
@@ -151,7 +151,7 @@ module _ (tails heads flows places demands : List ℕ) (n source : ℕ) (rank : 
       let r = rank (getD heads e 0) in
       let up : rank (getD tails e 0) < r = rises _ _ (record { edge = e; inside = inside; start = refl; end = refl; above = pos }) in
       let lead : Leads (upper r) tails heads flows = λ g f t.
-      let in-range : g < length flows = range g f in
+      let in-range : g < length flows = above-inside flows g f in
       le-leb r (rank (getD heads g 0)) (omega (
         arith,
         leb-true r (rank (getD tails g 0)) t,
@@ -159,13 +159,6 @@ module _ (tails heads flows places demands : List ℕ) (n source : ℕ) (rank : 
       )) in
       let part = edge-le (upper r) tails heads flows e long-tails long-heads lead (lt-leb r (rank (getD tails e 0)) up) (le-leb r r (omega arith)) in
       omega (arith, part, flux r (omega arith))
-    where
-      range : (g : ℕ) → 0 < getD flows g 0 → g < length flows
-      range g f = go (lt-or-ge g (length flows))
-        where
-          go : (g < length flows) ⊎ (length flows ≤ g) → g < length flows
-          go (inl h) = h
-          go (inr h) = absurd (omega (arith, List·getD-eq-default flows 0 h))
 
   pub flow-most : (c : ℕ) → ((i : ℕ) → getD demands i 0 ≤ c) → (e : ℕ) → getD flows e 0 ≤ length demands * c
   flow-most c small e = go (lt-or-ge e (length flows)) (lt-or-ge 0 (getD flows e 0))

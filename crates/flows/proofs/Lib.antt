@@ -4,5 +4,6 @@ pub mod Rank
 pub mod Source
 pub mod Change
 pub mod Walk
+pub mod Positives
 pub mod Cancel
 pub mod Cut

@@ -3,20 +3,19 @@
 use mathlib.Core.Path.{_≡_, refl, sym, ap, _∙_}
 use mathlib.Core.Bool.{Bool}
 use mathlib.Core.Logic.{_⊎_, inl, inr, _≢_}
-use mathlib.Core.List.{List, [], _∷_, _++_}
-use Prim.Native.Nat.{ℕ, zero, suc, _+_, _<_, _≤_}
+use mathlib.Core.List.{List, [], _∷_, _++_, append-nil, append-assoc}
+use Prim.Native.Nat.{ℕ, _+_, _<_, _≤_}
 use native.Mathlib.Numerals.{add-one}
 use native.Mathlib.Omega.{arith}
-use lib.Dec.{ltb, eqb}
+use lib.Dec.{eqb}
 use lib.ListN.{length, take}
 use lib.Seq.{take-suc-set}
-use borrow.Author.Tests.{eq-eqb, ne-eqb, ltb-true, ltb-false}
+use borrow.Author.Tests.{eq-eqb, ne-eqb}
 use Rattle.lists.specs.Choice.{pick}
-use Rattle.lists.specs.Lists.{total, most}
 use Rattle.lists.specs.Members.{has}
-use Rattle.lists.proofs.Laws.{Known, was-true, was-false, known, eq-or-ne, pick-yes, pick-no}
+use Rattle.lists.proofs.Laws.{eq-or-ne, pick-yes, pick-no}
 use Rattle.lists.proofs.Pigeon.{has-here}
-use Rattle.lists.proofs.Totals.{total-same}
+use Rattle.lists.proofs.Totals.{total-same, total-raised, most-same, most-at}
 use Rattle.board.specs.declared.Board.{Board}
 use Rattle.board.specs.declared.Entry.{Entry}
 use Rattle.board.specs.declared.Move.the-variants.{Carry}
@@ -24,58 +23,12 @@ use Rattle.guard.specs.Parts.{demand}
 use Rattle.carrying.specs.Carries.{carried}
 use Rattle.invariant.specs.Routes.{carriedOver, routeBy, route, share, load, largest}
 
--- terms that are equal but for one: the sums differ by that one at most
-total-raised : (f g : ℕ → ℕ) (i k v : ℕ) → ((j : ℕ) → j ≢ v → f j ≡ g j) → total f i k ≤ total g i k + f v
-unfolding total
-total-raised f g i zero v e = omega arith
-total-raised f g i (suc k) v e = go (eq-or-ne i v) (total-raised f g (suc i) k v e)
-  where
-    go : (i ≡ v) ⊎ (i ≢ v) → total f (suc i) k ≤ total g (suc i) k + f v → total f i (suc k) ≤ total g i (suc k) + f v
-    go (inl q) ih =
-        let rest : total f (suc i) k ≡ total g (suc i) k = total-same f g (suc i) k (λ j h l. e j (λ z. omega (arith, z, h, q))) in
-        let first : f i ≡ f v = ap f q in
-        omega arith
-    go (inr n) ih = omega (arith, e i n)
-
--- the greatest term
-most-same : (f g : ℕ → ℕ) (i k : ℕ) → ((j : ℕ) → f j ≡ g j) → most f i k ≡ most g i k
-unfolding most
-most-same f g i zero e = refl
-most-same f g i (suc k) e = rw (e i, most-same f g (suc i) k e) refl
-
-greater : (a m : ℕ) → (a ≤ pick (ltb m a) a m) × (m ≤ pick (ltb m a) a m)
-greater a m = go (known (ltb m a))
-  where
-    go : Known (ltb m a) → (a ≤ pick (ltb m a) a m) × (m ≤ pick (ltb m a) a m)
-    go (was-true t) = let l = ltb-true m a t in rw (pick-yes (ltb m a) a m t) (omega arith, omega arith)
-    go (was-false t) = let l = ltb-false m a t in rw (pick-no (ltb m a) a m t) (omega arith, omega arith)
-
-most-at : (f : ℕ → ℕ) (i k v : ℕ) → i ≤ v → v < i + k → f v ≤ most f i k
-unfolding most
-most-at f i zero v h g = absurd (omega arith)
-most-at f i (suc k) v h g = go (eq-or-ne i v) (λ l. most-at f (suc i) k v l (omega arith)) (greater (f i) (most f (suc i) k))
-  where
-    now : ℕ
-    now = pick (ltb (most f (suc i) k) (f i)) (f i) (most f (suc i) k)
-
-    go : (i ≡ v) ⊎ (i ≢ v) → (suc i ≤ v → f v ≤ most f (suc i) k) → (f i ≤ now) × (most f (suc i) k ≤ now) → f v ≤ now
-    go (inl q) ih w = let first : f i ≡ f v = ap f q in omega (arith, w .0)
-    go (inr n) ih w = omega (arith, ih (omega arith), w .1)
-
 -- one more move at the end of the list
-append-none : (xs : List ℕ) → xs ++ [] ≡ xs
-append-none [] = refl
-append-none (x ∷ xs) = ap (λ (l : List ℕ). x ∷ l) (append-none xs)
-
-append-twice : (xs ys zs : List ℕ) → (xs ++ ys) ++ zs ≡ xs ++ (ys ++ zs)
-append-twice [] ys zs = refl
-append-twice (x ∷ xs) ys zs = ap (λ (l : List ℕ). x ∷ l) (append-twice xs ys zs)
-
 route-more : (i : ℕ) (ms : List Entry) (m : Entry) → routeBy i (ms ++ (m ∷ [])) ≡ carriedOver i (m .step) ++ routeBy i ms
 unfolding routeBy
-route-more i [] m = sym (append-none (carriedOver i (m .step)))
+route-more i [] m = sym (append-nil (carriedOver i (m .step)))
 route-more i (n ∷ ms) m =
-    ap (λ (l : List ℕ). l ++ carriedOver i (n .step)) (route-more i ms m) ∙ append-twice (carriedOver i (m .step)) (routeBy i ms) (carriedOver i (n .step))
+    ap (λ (l : List ℕ). l ++ carriedOver i (n .step)) (route-more i ms m) ∙ append-assoc (carriedOver i (m .step)) (routeBy i ms) (carriedOver i (n .step))
 
 module _ (b : Board) (i e : ℕ) (room : b .moves < length (b .journal)) where
   -- the routes

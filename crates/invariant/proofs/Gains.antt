@@ -11,7 +11,7 @@ use Rattle.lists.specs.Choice.{pick}
 use Rattle.lists.proofs.Laws.{pick-yes, pick-no}
 use Rattle.board.specs.declared.Board.{Board}
 use Rattle.flows.specs.Trails.{Step, down, up, edgeOf}
-use Rattle.flows.proofs.Cancel.{positives, positives-some}
+use Rattle.flows.proofs.Positives.{positives, positives-some, positives-below, positives-fewer}
 use Rattle.flows.proofs.Change.{In, after, changed-at}
 use Rattle.guard.specs.Parts.{flow, head, marked, demand, place}
 use Rattle.opening.specs.Opens.{someOpen}
@@ -23,7 +23,6 @@ use Rattle.invariant.proofs.Amounted.{amount-above, Attained, zeroed, m
 use Rattle.invariant.proofs.Turnable.{Turnable}
 use Rattle.invariant.proofs.TurnedMarks.{now-single}
 use Rattle.invariant.proofs.TurnedFlows.{turn-fits, now-changed, now-length, positive-before}
-use Rattle.invariant.proofs.Counting.{covered-below, covered-fewer}
 use Rattle.invariant.proofs.Potential.{level, levels, potential, level-rises}
 
 -- an edge falls to 0, or a terminal gets exactly its demand
@@ -62,11 +61,11 @@ module _ (b : Board) (w : List Step) (inv : Invariant b) (t : Turnable b w) wher
 
   fewer : positives (turned b w .flows) ≤ positives (b .flows)
   unfolding turned
-  fewer = covered-below (turned b w .flows) (b .flows) (now-length b w inv t) covered
+  fewer = positives-below (turned b w .flows) (b .flows) (now-length b w inv t) covered
 
   zero-fewer : (e : ℕ) → In (down e) w → flow (turned b w) e ≡ 0 → positives (turned b w .flows) < positives (b .flows)
   unfolding turned
-  zero-fewer e i z = covered-fewer (turned b w .flows) (b .flows) e (now-length b w inv t) covered z (t .above (down e) i)
+  zero-fewer e i z = positives-fewer (turned b w .flows) (b .flows) e (now-length b w inv t) covered z (t .above (down e) i)
 
   met-open : (e i : ℕ) → In (up e) w → i < b .network .terminals → place b i ≡ head b e → flow (turned b w) e ≡ demand b i → someOpen (turned b w) ≡ true
   unfolding turned

@@ -14,7 +14,6 @@ pub mod TurnedFlows
 pub mod TurnedRoutes
 pub mod Turned
 pub mod TurnBack
-pub mod Counting
 pub mod Potential
 pub mod Gains
 pub mod Standing

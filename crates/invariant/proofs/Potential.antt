@@ -18,7 +18,8 @@ use Rattle.board.specs.declared.Network.{Network}
 use Rattle.rules.specs.Rules.{Lawful}
 use Rattle.flows.specs.Paths.{rank}
 use Rattle.flows.proofs.Rank.{rank-rises, rank-below}
-use Rattle.flows.proofs.Cancel.{positives, positives-below}
+use Rattle.lists.proofs.Totals.{total-less, total-most}
+use Rattle.flows.proofs.Positives.{positives, positives-within, positives-below}
 use Rattle.guard.specs.Parts.{flow, tail, head, demand, place}
 use Rattle.opening.specs.Opens.{someOpen}
 use Rattle.carrying.specs.Carries.{carried}
@@ -28,7 +29,6 @@ use Rattle.invariant.proofs.Network.{within-first, long-first, first-ac
 use Rattle.invariant.proofs.Carriable.{Carriable}
 use Rattle.invariant.proofs.Carried.{in-flows}
 use Rattle.invariant.proofs.TurnedMarks.{positive-inside}
-use Rattle.invariant.proofs.Counting.{positives-within, total-less, total-most}
 
 -- the rank of a vertex in the acyclic flow
 abbrev pub level : Board → ℕ → ℕ
@@ -91,7 +91,7 @@ module _ (b : Board) (i e : ℕ) (inv : Invariant b) (c : Carriable b i e) where
 
   fewer : positives (carried b i e .flows) ≤ positives (b .flows)
   unfolding carried
-  fewer = positives-below (carried b i e .flows) (b .flows) (length-set (b .flows) e (flow b e - demand b i)) flow-after
+  fewer = positives-below (carried b i e .flows) (b .flows) (length-set (b .flows) e (flow b e - demand b i)) (λ g h. omega (arith, h, flow-after g))
 
   falls : level b (tail b e) < level b (place b i)
   falls = rw (← c .enters) (level-rises b inv e (omega (arith, inv .lawful .demand i (c .terminal) .0, c .covers)))

@@ -9,10 +9,10 @@ use Prim.Native.Nat.{ℕ, zero, suc, _+_, _-_, _≤_, _<_}
 use native.Mathlib.Omega.{arith}
 use native.Mathlib.Nat.{add-zero}
 use lib.Dec.{ltb}
-use lib.ListN.{length, getD, List·getD-eq-default}
+use lib.ListN.{length, getD}
 use borrow.Author.Tests.{eqb-true, eq-eqb, ltb-true, ltb-false, lt-ltb}
 use Rattle.lists.specs.Members.{has, Distinct, Below}
-use Rattle.lists.proofs.Laws.{Known, was-true, was-false, known, lt-or-ge, both-left, both-right, both-true}
+use Rattle.lists.proofs.Laws.{above-inside, Known, was-true, was-false, known, lt-or-ge, both-left, both-right, both-true}
 use Rattle.lists.proofs.Lowest.{lowest-least, lowest-found}
 use Rattle.lists.proofs.Pigeon.{has-nothing, has-here, has-later, has-cases, pigeon}
 use Rattle.singular.specs.Singular.{leaves, leaving, straight}
@@ -40,11 +40,7 @@ module _ (tails flows : List ℕ) (v : ℕ) where
 
   -- it is an edge
   pub leaves-inside : (g : ℕ) → Leaves g → g < length flows
-  leaves-inside g l = at (lt-or-ge g (length flows))
-    where
-      at : (g < length flows) ⊎ (length flows ≤ g) → g < length flows
-      at (inl h) = h
-      at (inr h) = let z : getD flows g 0 ≡ 0 = List·getD-eq-default flows 0 h in absurd (omega (arith, l .above, z))
+  leaves-inside g l = above-inside flows g (l .above)
 
   -- the lowest from i on
   pub leaving-from : (i : ℕ) → i ≤ leaving tails flows v i

@@ -7,10 +7,10 @@ use mathlib.Core.Logic.{_⊎_, inl, inr}
 use Prim.Native.Nat.{ℕ, _+_, _<_, _≤_}
 use native.Mathlib.Omega.{arith}
 use lib.Bits.{bitOr}
-use lib.ListN.{length, List·getD-eq-default}
+use lib.ListN.{length}
 use borrow.Author.Tests.{ltb-true, lt-ltb, not-true}
 use Rattle.lists.specs.Choice.{either}
-use Rattle.lists.proofs.Laws.{Known, was-true, was-false, known, lt-or-ge, both-left, both-right, both-true}
+use Rattle.lists.proofs.Laws.{above-inside, Known, was-true, was-false, known, lt-or-ge, both-left, both-right, both-true}
 use Rattle.sets.specs.Sets.{hasBit}
 use Rattle.sets.proofs.Bits.{has-none, has-joined, collect-new, collect-from}
 use Rattle.board.specs.declared.Board.{Board}
@@ -41,13 +41,6 @@ pub record Now (b : Board) (e : ℕ) : Type 0 where
   pub above : 0 < flow b e
 
 module _ (b : Board) where
-  within-length : (e : ℕ) → 0 < flow b e → e < length (b .flows)
-  within-length e h = go (lt-or-ge e (length (b .flows)))
-    where
-      go : (e < length (b .flows)) ⊎ (length (b .flows) ≤ e) → e < length (b .flows)
-      go (inl l) = l
-      go (inr l) = absurd (omega (arith, List·getD-eq-default (b .flows) 0 l))
-
   pub fresh-facts : (e : ℕ) → hasBit (fresh b) e ≡ true → Fresh b e
   unfolding fresh isFresh
   fresh-facts e h = go (collect-from (isFresh b) 0 0 (length (b .flows)) e h)
@@ -61,7 +54,7 @@ module _ (b : Board) where
   fresh-of : (e : ℕ) → Fresh b e → hasBit (fresh b) e ≡ true
   unfolding fresh isFresh
   fresh-of e f =
-      collect-new (isFresh b) 0 0 (length (b .flows)) e (omega arith) (omega (arith, within-length e (f .above)))
+      collect-new (isFresh b) 0 0 (length (b .flows)) e (omega arith) (omega (arith, above-inside (b .flows) e (f .above)))
       (both-true _ _ (rw (f .unmarked) refl) (both-true _ _ (lt-ltb _ _ (f .above)) (f .single)))
 
   now-cases : (e : ℕ) → hasBit (marksNow b) e ≡ true → (marked b e ≡ true) ⊎ Fresh b e
@@ -134,7 +127,7 @@ module _ (b : Board) (inv : Invariant b) where
   now-down-closed e g n p h = go (now-cases b e (n .mark))
     where
       edge : Positive (b .network .tails) (b .network .heads) (b .flows) (head b e) (head b g)
-      edge = record { edge = g; inside = within-length b g h; start = p; end = refl; above = h }
+      edge = record { edge = g; inside = above-inside (b .flows) g h; start = p; end = refl; above = h }
 
       go : (marked b e ≡ true) ⊎ Fresh b e → hasBit (marksNow b) g ≡ true
       go (inl m) = now-old b g (inv .down-closed e g (old e n m) p h)

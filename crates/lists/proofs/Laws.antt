@@ -37,6 +37,12 @@ eq-or-ne a b = go (known (eqb a b))
     go (was-true e) = inl (eqb-true a b e)
     go (was-false e) = inr (eqb-false a b e)
 
+-- past the end there is 0, so an entry above it is inside
+pub above-inside : (xs : List ℕ) (i : ℕ) → 0 < getD xs i 0 → i < length xs
+above-inside [] i h = absurd (omega arith)
+above-inside (x ∷ xs) zero h = omega arith
+above-inside (x ∷ xs) (suc i) h = omega (arith, above-inside xs i h)
+
 pub pick-yes : {A : Type 0} (t : Bool) (a b : A) → t ≡ true → pick t a b ≡ a
 unfolding pick
 pick-yes t a b e = rw e
