@@ -19,7 +19,7 @@ pub fn is_up(s: u8) -> bool
 }
 
 // Where a step starts.
-fn start_of<'a>(tails: &'a [u32], heads: &'a [u32], s: u8) -> u32
+pub fn start_of<'a>(tails: &'a [u32], heads: &'a [u32], s: u8) -> u32
     ensures { λ r. ⌜ r ≡ startOf (now (tails .entry)) (now (heads .entry)) (stepOf s) ⌝ }
 {
     if s >= 128 {

@@ -1,0 +1,3 @@
+pub mod Packed
+pub mod Loops
+pub mod Walks
