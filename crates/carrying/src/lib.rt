@@ -20,7 +20,7 @@ fn on_board(board: Board, i: u32, e: u32) -> bool
 }
 
 // Whether terminal i is at the source.
-fn is_home(board: Board, i: u32) -> bool
+pub fn is_home(board: Board, i: u32) -> bool
     ensures { λ r. ⌜ r ≡ eqb (place board i) (board .network .source) ⌝ }
 {
     let net = board.network;
@@ -29,7 +29,7 @@ fn is_home(board: Board, i: u32) -> bool
 }
 
 // 20, 6, 21, 22 or 23, in this order; 0 where the carry is accepted.
-fn carry_refusal(board: Board, i: u32, e: u32) -> u32
+pub fn carry_refusal(board: Board, i: u32, e: u32) -> u32
     ensures { λ r. ⌜ r ≡ carryRefusal board i e ⌝ }
 {
     if !guard::playing(board) {

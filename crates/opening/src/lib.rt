@@ -32,7 +32,7 @@ pub fn enters(board: Board, i: u32, e: u32) -> bool
 }
 
 // Whether the carry of terminal i over edge e is open.
-fn is_open(board: Board, i: u32, e: u32) -> bool
+pub fn is_open(board: Board, i: u32, e: u32) -> bool
     ensures { λ r. ⌜ r ≡ isOpen board i e ⌝ }
 {
     let entering = enters(board, i, e);
@@ -41,7 +41,7 @@ fn is_open(board: Board, i: u32, e: u32) -> bool
 }
 
 // The lowest edge of an open carry of terminal i, or the count of edges.
-fn open_edge(board: Board, i: u32) -> u32
+pub fn open_edge(board: Board, i: u32) -> u32
     ensures { λ r. ⌜ r ≡ openEdge board i ⌝ }
 {
     let net = board.network;
@@ -65,7 +65,7 @@ fn has_open(board: Board, i: u32) -> bool
 }
 
 // The lowest terminal with an open carry, or the count of terminals.
-fn open_terminal(board: Board) -> u32
+pub fn open_terminal(board: Board) -> u32
     ensures { λ r. ⌜ r ≡ openTerminal board ⌝ }
 {
     let net = board.network;

@@ -69,7 +69,7 @@ fn all_meet(rule: StepRule, board: Board, steps: &[u8]) -> bool
 }
 
 // 20, 6, 7, 24, 25 or 26, in this order; 0 where the turn is accepted.
-fn turn_refusal(board: Board, steps: &[u8]) -> u32
+pub fn turn_refusal(board: Board, steps: &[u8]) -> u32
     ensures { λ r. ⌜ r ≡ turnRefusal board (stepsOf (now (steps .entry))) ⌝ }
 {
     if !guard::playing(board) {
