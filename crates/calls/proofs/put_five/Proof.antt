@@ -60,7 +60,7 @@ returns c =
     let at-1 = at-2 .before .before .before .before in
     let start = at-1 .before .before .before in
     let long : length (start .args .t3) ≡ 5 = search (needs, start .good) in
-    five-stored _ _ _ _ _ _ _ _ long (at-1 .put-long .ensures) (at-2 .put-long2 .ensures) (at-3 .put-long3 .ensures) (at-4 .put-long4 .ensures)
+    five-stored (start .args .buf .now) (start .args .k) (start .args .t3) _ _ _ _ _ long (at-1 .put-long .ensures) (at-2 .put-long2 .ensures) (at-3 .put-long3 .ensures) (at-4 .put-long4 .ensures)
     (at-5 .put-long5 .ensures)
 
 pub put-five-spec : {M : Type 1} → statement M
