@@ -11,7 +11,7 @@ use lib.ListN.{getD, set, length-set}
 use lib.Seq.{getD-set-same, getD-set-other}
 use Rattle.lists.specs.Choice.{pick}
 use Rattle.lists.specs.Lists.{total}
-use Rattle.lists.proofs.Laws.{eq-or-ne}
+use Rattle.lists.proofs.Laws.{above-inside, eq-or-ne}
 use Rattle.board.specs.Limits.{maxMoves}
 use Rattle.board.specs.declared.Board.{Board}
 use Rattle.board.specs.declared.Network.{Network}
@@ -20,12 +20,13 @@ use Rattle.flows.specs.Paths.{rank}
 use Rattle.flows.proofs.Rank.{rank-rises, rank-below}
 use Rattle.lists.proofs.Totals.{total-less, total-most}
 use Rattle.flows.proofs.Positives.{positives, positives-within, positives-below}
-use Rattle.guard.specs.Parts.{flow, tail, head, demand, place}
+use Rattle.loader.specs.Load.{acyclicOf}
+use Rattle.guard.specs.Parts.{flow, first, tail, head, demand, place}
 use Rattle.opening.specs.Opens.{someOpen}
 use Rattle.carrying.specs.Carries.{carried}
 use Rattle.invariant.specs.Bound.{movesBound}
 use Rattle.invariant.specs.Invariant.{Invariant}
-use Rattle.invariant.proofs.Network.{within-first, long-first, first-acyclic}
+use Rattle.invariant.proofs.Network.{within-first, first-acyclic}
 use Rattle.invariant.proofs.Carriable.{Carriable}
 use Rattle.invariant.proofs.Carried.{in-flows}
 use Rattle.invariant.proofs.TurnedMarks.{positive-inside}
@@ -48,18 +49,22 @@ one-most true = omega arith
 one-most false = omega arith
 
 module _ (b : Board) (inv : Invariant b) where
-  pub level-rises : (e : ℕ) → 0 < flow b e → level b (tail b e) < level b (head b e)
-  level-rises e h =
+  -- it rises along every edge of the acyclic flow, and so along every positive edge
+  pub first-rises : (e : ℕ) → 0 < first b e → level b (tail b e) < level b (head b e)
+  first-rises e h =
       rw (inv .acyclic)
       (rank-rises (b .network .tails) (b .network .heads) _ (b .network .vertices) (tail b e) (head b e) (within-first (b .network) (inv .lawful))
       (first-acyclic (b .network) (inv .lawful))
       (record {
         edge = e;
-        inside = omega (arith, positive-inside b inv e h, inv .lawful .edges .1, inv .lawful .flows-size, long-first (b .network) (inv .lawful));
+        inside = above-inside (acyclicOf (b .network)) e (rw (inv .acyclic) at h);
         start = refl;
         end = refl;
-        above = rw (inv .acyclic) at (inv .support e h);
+        above = rw (inv .acyclic) at h;
       }))
+
+  pub level-rises : (e : ℕ) → 0 < flow b e → level b (tail b e) < level b (head b e)
+  level-rises e h = first-rises e (inv .support e h)
 
   pub potential-first : potential b ≤ movesBound (b .network)
   unfolding potential movesBound

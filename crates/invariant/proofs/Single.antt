@@ -27,14 +27,14 @@ module _ (tails flows : List ℕ) (v : ℕ) where
     pub start : getD tails g 0 ≡ v
     pub above : 0 < getD flows g 0
 
-  leaves-so : (g : ℕ) → leaves tails flows v g ≡ true → Leaves g
+  pub leaves-so : (g : ℕ) → leaves tails flows v g ≡ true → Leaves g
   unfolding leaves
   leaves-so g t = record {
     start = eqb-true (getD tails g 0) v (both-right (ltb 0 (getD flows g 0)) _ t);
     above = ltb-true 0 (getD flows g 0) (both-left _ _ t);
   }
 
-  so-leaves : (g : ℕ) → Leaves g → leaves tails flows v g ≡ true
+  pub so-leaves : (g : ℕ) → Leaves g → leaves tails flows v g ≡ true
   unfolding leaves
   so-leaves g l = both-true _ _ (lt-ltb 0 (getD flows g 0) (l .above)) (eq-eqb (getD tails g 0) v (l .start))
 

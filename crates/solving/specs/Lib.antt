@@ -1,0 +1,3 @@
+pub mod Player
+pub mod Complete
+pub mod Unstrayed
