@@ -1,10 +1,15 @@
--- The board that a text gives once calls are made on it.
+-- The board that a text gives once calls are made on it, and what a finish makes of that board.
 use mathlib.Core.List.{List}
 use Prim.Native.Nat.{ℕ}
 use Rattle.board.specs.declared.Board.{Board}
 use Rattle.loader.specs.Load.{loadText}
+use Rattle.finishing.specs.declared.Finished.{Finished}
+use Rattle.finishing.specs.Finishes.{finishCall}
 use Rattle.calls.specs.Calls.{played}
 use Rattle.calls.specs.Codes.{callsOf}
 
 abbrev pub after : List ℕ → List ℕ → List ℕ → Board
 after text steps codes = played (loadText text .board) (callsOf steps codes)
+
+abbrev pub finished : List ℕ → List ℕ → List ℕ → Finished
+finished text steps codes = finishCall (after text steps codes)

@@ -4,9 +4,10 @@ ghost use mathlib.Core.Path.{_≡_};
 ghost use lib.ListN.{length};
 ghost use Rattle.text.specs.Results.{writeText, written};
 ghost use Rattle.loader.specs.Load.{loadText};
-ghost use Rattle.calls.specs.Calls.{answers};
-ghost use Rattle.calls.specs.Codes.{callsOf, filled, listed};
-ghost use Rattle.boundary.specs.Ends.{after};
+ghost use Rattle.calls.specs.Calls.{answers, Told};
+ghost use Rattle.calls.specs.Codes.{callsOf, listed};
+ghost use lib.Seq.{sets};
+ghost use Rattle.boundary.specs.Ends.{after, finished};
 
 // Loads a text, and writes the board that it gave into the buffer. Answers what the load answered; `writing` and `used` get what the
 // writer answered: its number and the length of the text.
@@ -45,13 +46,15 @@ pub extern "C" fn vulprow_acyclic(text: &[u8], flows: &mut [u32; Board::MAX_EDGE
 }
 
 // Loads a text and makes calls on the board that it gave, three numbers a call (crates/calls). Answers what the load answered. `given` gets the
-// calls' answers; `flows`, `places`, `marks`, `moves` and `journal`, five numbers a place, are those of the board after them.
+// calls' answers, `hints` the moves that hints gave; `flows`, `places`, `marks`, `moves` and `journal`, five numbers a place, are those of the
+// board after them.
 #[no_mangle]
 pub extern "C" fn vulprow_play(
     text: &[u8],
     codes: &[u32],
     steps: &[u8],
     given: &mut [u32],
+    hints: &mut [u32],
     flows: &mut [u32; Board::MAX_EDGES],
     places: &mut [u32; Board::MAX_TERMINALS],
     marks: &mut u64,
@@ -59,7 +62,8 @@ pub extern "C" fn vulprow_play(
     journal: &mut [u64],
 ) -> u32
     ensures { λ r. ⌜ r ≡ loadText (now (text .entry)) .answer ⌝ }
-    ensures { λ _. ⌜ now (given .exit) ≡ filled (now (given .entry)) 0 (answers (loadText (now (text .entry)) .board) (callsOf (now (steps .entry)) (now (codes .entry)))) ⌝ }
+    ensures { λ _. ⌜ now (given .exit) ≡ sets (now (given .entry)) 0 (answers (loadText (now (text .entry)) .board) (callsOf (now (steps .entry)) (now (codes .entry)))) ⌝ }
+    ensures { λ _. ⌜ Told (now (hints .entry)) 0 (loadText (now (text .entry)) .board) (callsOf (now (steps .entry)) (now (codes .entry))) (now (hints .exit)) ⌝ }
     ensures { λ _. ⌜ now (flows .exit) ≡ after (now (text .entry)) (now (steps .entry)) (now (codes .entry)) .flows ⌝ }
     ensures { λ _. ⌜ now (places .exit) ≡ after (now (text .entry)) (now (steps .entry)) (now (codes .entry)) .places ⌝ }
     ensures { λ _. ⌜ now (marks .exit) ≡ after (now (text .entry)) (now (steps .entry)) (now (codes .entry)) .marks ⌝ }
@@ -69,7 +73,7 @@ pub extern "C" fn vulprow_play(
     let loaded = loader::load(text);
     let board = loaded.board;
     let loading = loaded.answer;
-    let end = calls::run(board, codes, steps, given);
+    let end = calls::run(board, codes, steps, given, hints);
     let end_flows = end.flows;
     let end_places = end.places;
     let end_journal = end.journal;
@@ -79,4 +83,46 @@ pub extern "C" fn vulprow_play(
     *moves = end.moves;
     calls::put_journal(end_journal, journal);
     loading
+}
+
+// Loads a text, makes calls on the board that it gave, and finishes it (crates/playthrough). Answers what the finish answered. `given` and `hints` are as
+// above; `count` gets how many moves the finish made, and the others are those of the board at the end.
+#[no_mangle]
+pub extern "C" fn vulprow_finish(
+    text: &[u8],
+    codes: &[u32],
+    steps: &[u8],
+    given: &mut [u32],
+    hints: &mut [u32],
+    count: &mut u32,
+    flows: &mut [u32; Board::MAX_EDGES],
+    places: &mut [u32; Board::MAX_TERMINALS],
+    marks: &mut u64,
+    moves: &mut u32,
+    journal: &mut [u64],
+) -> u32
+    ensures { λ r. ⌜ r ≡ finished (now (text .entry)) (now (steps .entry)) (now (codes .entry)) .answer ⌝ }
+    ensures { λ _. ⌜ now (given .exit) ≡ sets (now (given .entry)) 0 (answers (loadText (now (text .entry)) .board) (callsOf (now (steps .entry)) (now (codes .entry)))) ⌝ }
+    ensures { λ _. ⌜ Told (now (hints .entry)) 0 (loadText (now (text .entry)) .board) (callsOf (now (steps .entry)) (now (codes .entry))) (now (hints .exit)) ⌝ }
+    ensures { λ _. ⌜ now (count .exit) ≡ finished (now (text .entry)) (now (steps .entry)) (now (codes .entry)) .count ⌝ }
+    ensures { λ _. ⌜ now (flows .exit) ≡ finished (now (text .entry)) (now (steps .entry)) (now (codes .entry)) .board .flows ⌝ }
+    ensures { λ _. ⌜ now (places .exit) ≡ finished (now (text .entry)) (now (steps .entry)) (now (codes .entry)) .board .places ⌝ }
+    ensures { λ _. ⌜ now (marks .exit) ≡ finished (now (text .entry)) (now (steps .entry)) (now (codes .entry)) .board .marks ⌝ }
+    ensures { λ _. ⌜ now (moves .exit) ≡ finished (now (text .entry)) (now (steps .entry)) (now (codes .entry)) .board .moves ⌝ }
+    ensures { λ _. ⌜ now (journal .exit) ≡ listed (now (journal .entry)) 0 (finished (now (text .entry)) (now (steps .entry)) (now (codes .entry)) .board .journal) ⌝ }
+{
+    let through = playthrough::play_through(text, codes, steps, given, hints);
+    let finish = through.finish;
+    let end = finish.board;
+    let answer = finish.answer;
+    let end_flows = end.flows;
+    let end_places = end.places;
+    let end_journal = end.journal;
+    *count = finish.count;
+    *flows = end_flows;
+    *places = end_places;
+    *marks = end.marks;
+    *moves = end.moves;
+    calls::put_journal(end_journal, journal);
+    answer
 }

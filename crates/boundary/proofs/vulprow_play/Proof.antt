@@ -1,9 +1,11 @@
 -- `boundary::vulprow_play` meets its contract: what the three calls ensure, each put into the next.
 use mathlib.Core.Path.{ap, _∙_}
+use lib.Seq.{sets}
 use Rattle.board.specs.declared.Board.{Board}
 use Rattle.loader.specs.declared.Loaded.{Loaded}
 use Rattle.calls.specs.Calls.{played, answers}
-use Rattle.calls.specs.Codes.{callsOf, filled, listed}
+use Rattle.calls.specs.Codes.{callsOf, listed}
+use Rattle.playthrough.proofs.Held.{told-loaded}
 use borrow.Author.Needs.{needs}
 use Rattle.boundary.proofs.vulprow_play.Statement.{statement}
 use Rattle.boundary.proofs.vulprow_play.Tie as tie
@@ -23,25 +25,33 @@ same-length c = search needs
 same-length-2 : tie.Need-same-length-2
 same-length-2 c = search needs
 
+same-length-3 : tie.Need-same-length-3
+same-length-3 c = search needs
+
 returns : tie.Need-returns
 returns c =
-    let loading = c .before .before .before .before .before .before .before .before .before .before .before .before .load .ensures in
-    let at-run = c .before .before .before .before .before .before .before .before .before .run in
-    let args = c .before .before .before .before .before .before .before .before .before .before .before .before .before .before .before .before .before .before .args in
+    let at-run = c .before .before .before .before .before .before .before .before .before .before .before .run in
+    let at-load = c .before .before .before .before .before .before .before .before .before .before .before .before .before .before .before in
+    let args = at-load .before .before .before .before .before .before .before .args in
+    let loading = at-load .load .ensures in
     let board = ap (λ (l : Loaded). l .board) loading in
     let calls = callsOf (args .steps .now) (args .codes .now) in
     let end = at-run .ensures .0 ∙ ap (λ (b : Board). played b calls) board in
-    let journal = c .before .before .put-journal .ensures ∙ ap (λ (b : Board). listed (args .journal .now) 0 (b .journal)) end in (
+    let journal = c .before .before .put-journal .ensures ∙ ap (λ (b : Board). listed (args .journal .now) 0 (b .journal)) end in
+    let told = told-loaded (args .text .now) calls _ loading _ _ (at-run .ensures .1 .1) in (
       ap (λ (l : Loaded). l .answer) loading,
       (
-        at-run .ensures .1 ∙ ap (λ (b : Board). filled (args .given .now) 0 (answers b calls)) board,
+        at-run .ensures .1 .0 ∙ ap (λ (b : Board). sets (args .given .now) 0 (answers b calls)) board,
         (
-          ap (λ (b : Board). b .flows) end,
+          told,
           (
-            ap (λ (b : Board). b .places) end,
+            ap (λ (b : Board). b .flows) end,
             (
-              ap (λ (b : Board). b .marks) end,
-              (ap (λ (b : Board). b .moves) end, journal),
+              ap (λ (b : Board). b .places) end,
+              (
+                ap (λ (b : Board). b .marks) end,
+                (ap (λ (b : Board). b .moves) end, journal),
+              ),
             ),
           ),
         ),
@@ -51,4 +61,11 @@ returns c =
 pub vulprow-play-spec : {M : Type 1} → statement M
 vulprow-play-spec =
     tie.close
-    (tie.spec load-requires run-requires put-journal-requires same-length same-length-2 returns)
+    (tie.spec
+    load-requires
+    run-requires
+    put-journal-requires
+    same-length
+    same-length-2
+    same-length-3
+    returns)

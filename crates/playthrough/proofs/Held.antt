@@ -1,0 +1,43 @@
+-- What the functions ensure, put together, is demand 3: the answers are the player's, the hints keep their rule on the player's board, and the finish
+-- completes the board, all by the theorem about every list of calls.
+use mathlib.Core.Path.{_≡_, ap, _∙_}
+use mathlib.Core.List.{List}
+use Prim.Native.Nat.{ℕ}
+use lib.Seq.{sets}
+use Rattle.board.specs.declared.Board.{Board}
+use Rattle.loader.specs.declared.Loaded.{Loaded}
+use Rattle.loader.specs.Load.{loadText}
+use Rattle.finishing.specs.declared.Finished.{Finished}
+use Rattle.finishing.specs.Finishes.{finishCall}
+use Rattle.calls.specs.Calls.{Call, played, answers, Told}
+use Rattle.solving.specs.Unstrayed.{Unstrayed}
+use Rattle.solving.proofs.Straying.{never-strayed}
+use Rattle.playthrough.specs.declared.Outcome.{Outcome}
+use Rattle.playthrough.specs.Through.{outcome, Held, Holds}
+
+-- what load, the calls and finish gave, each from what the one before gave
+module _ (text : List ℕ) (cs : List Call) (l : Loaded) (loads : l ≡ loadText text) where
+  pub gathered : (b : Board) (f : Finished) → b ≡ played (l .board) cs → f ≡ finishCall b → record { loading = l .answer; board = b; finish = f } ≡ outcome text cs
+  gathered b f plays ends = rw (ends, plays, loads)
+
+  pub from-load : {A : Type 0} (f : Board → A) → f (l .board) ≡ f (loadText text .board)
+  from-load f = rw loads
+
+  pub told-loaded : (hints hints' : List ℕ) → Told hints 0 (l .board) cs hints' → Told hints 0 (loadText text .board) cs hints'
+  told-loaded hints hints' t = rw (← loads) t
+
+pub held : (text : List ℕ) (cs : List Call) (given given' hints hints' : List ℕ) (r : Outcome) → r ≡ outcome text cs
+    → given' ≡ sets given 0 (answers (loadText text .board) cs) → Told hints 0 (loadText text .board) cs hints'
+    → Holds text cs given given' hints hints' r
+held text cs given given' hints hints' r e g t loads = rw e here
+  where
+    u : Unstrayed text cs (played (loadText text .board) cs)
+    u = never-strayed text cs loads
+
+    here : Held text cs given given' hints hints' (outcome text cs)
+    here = record {
+      unstrayed = u;
+      answered = g ∙ ap (λ (xs : List ℕ). sets given 0 xs) (u .answered);
+      hinted = record { suggestions = t .hints; kept = u .hinted (t .hints) (t .kept); written = t .written };
+      finished = u .finish;
+    }

@@ -1,0 +1,40 @@
+-- A whole play: a text is loaded, a list of calls is made, and the board is finished.
+use mathlib.Core.Path.{_≡_}
+use mathlib.Core.List.{List, []}
+use Prim.Native.Nat.{ℕ}
+use lib.Seq.{sets}
+use Rattle.loader.specs.Load.{loadText}
+use Rattle.hinting.specs.declared.Suggestion.{Suggestion}
+use Rattle.finishing.specs.Finishes.{finishCall}
+use Rattle.calls.specs.Calls.{Call, played, noted}
+use Rattle.solving.specs.Player.{says, HintsKeptBy}
+use Rattle.solving.specs.Complete.{Complete}
+use Rattle.solving.specs.Unstrayed.{Unstrayed}
+use Rattle.playthrough.specs.declared.Outcome.{Outcome}
+
+-- what is loaded, the board after the calls, and what finish makes of it
+abbrev pub outcome : List ℕ → List Call → Outcome
+outcome text cs = record {
+  loading = loadText text .answer;
+  board = played (loadText text .board) cs;
+  finish = finishCall (played (loadText text .board) cs);
+}
+
+-- the buffers of the answers and of the hints' moves, before and after
+module _ (text : List ℕ) (cs : List Call) (given given' hints hints' : List ℕ) (r : Outcome) where
+  -- the moves of the hints, each of which kept the hint's rule on the reference player's board
+  pub record HintsWritten : Type 0 where
+    pub suggestions : List Suggestion
+    pub kept : HintsKeptBy text [] cs suggestions
+    pub written : hints' ≡ noted hints 0 suggestions
+
+  -- demand 3, of what was answered, written and given
+  pub record Held : Type 0 where
+    pub unstrayed : Unstrayed text cs (r .board)
+    pub answered : given' ≡ sets given 0 (says text [] cs)
+    pub hinted : HintsWritten
+    pub finished : Complete (r .board) (r .finish)
+
+  -- .. for every text that is accepted
+  abbrev pub Holds : Type 0
+  Holds = loadText text .answer ≡ 0 → Held

@@ -1,0 +1,42 @@
+// A whole play as one call: load, a list of calls, and a finish.
+use board::Board;
+use finishing::Finished;
+ghost use mathlib.Core.Path.{_≡_};
+ghost use lib.Seq.{sets};
+ghost use Rattle.loader.specs.Load.{loadText};
+ghost use Rattle.calls.specs.Calls.{answers, Told};
+ghost use Rattle.calls.specs.Codes.{callsOf};
+ghost use Rattle.playthrough.specs.Through.{outcome, Holds};
+
+// What a whole play gives: the answer of the load, the board after the calls, and what the finish gave.
+pub struct Outcome {
+    pub loading: u32,
+    pub board: Board,
+    pub finish: Finished,
+}
+
+// Loads a text, makes the calls (crates/calls: three numbers a call, and the steps of the turns), and finishes the board. The answers and the moves
+// of the hints go into the buffers.
+pub fn play_through(
+    text: &[u8],
+    codes: &[u32],
+    steps: &[u8],
+    given: &mut [u32],
+    hints: &mut [u32],
+) -> Outcome
+    ensures { λ r. ⌜ r ≡ outcome (now (text .entry)) (callsOf (now (steps .entry)) (now (codes .entry))) ⌝ }
+    ensures { λ _. ⌜ now (given .exit) ≡ sets (now (given .entry)) 0 (answers (loadText (now (text .entry)) .board) (callsOf (now (steps .entry)) (now (codes .entry)))) ⌝ }
+    ensures { λ _. ⌜ Told (now (hints .entry)) 0 (loadText (now (text .entry)) .board) (callsOf (now (steps .entry)) (now (codes .entry))) (now (hints .exit)) ⌝ }
+    ensures { λ r. ⌜ Holds (now (text .entry)) (callsOf (now (steps .entry)) (now (codes .entry))) (now (given .entry)) (now (given .exit)) (now (hints .entry)) (now (hints .exit)) r ⌝ }
+{
+    let loaded = loader::load(text);
+    let start = loaded.board;
+    let loading = loaded.answer;
+    let board = calls::run(start, codes, steps, given, hints);
+    let finish = finishing::finish(board);
+    Outcome {
+        loading: loading,
+        board: board,
+        finish: finish,
+    }
+}
