@@ -88,10 +88,15 @@ impl Player {
         &self.standing
     }
 
+    /// The moves of an accepted finish; none before.
+    pub fn finishing(&self) -> &[Move] {
+        self.finishing.as_deref().unwrap_or_default()
+    }
+
     /// "The player's board is made afresh from both: .. then the listed moves in order, as under Moves." After a finish, its moves too.
     pub fn board(&self) -> Option<Board> {
         let Loaded { network, acyclic_flows } = self.loaded.as_ref()?;
-        let moves = self.standing.iter().chain(self.finishing.iter().flatten());
+        let moves = self.standing.iter().chain(self.finishing());
         let first = Board::first(network, acyclic_flows);
         Some(moves.fold(first, |board, made| board.after(network, made)))
     }

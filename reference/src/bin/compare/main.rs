@@ -119,7 +119,8 @@ fn compare_random(rng: &mut Random, tally: &mut Tally) -> Result<(), String> {
     // Lists of calls: on good boards as a rule, and on those that a damaged text leaves.
     if rng.chance(1, 16) {
         let calls = random_list(rng, &good);
-        compare_play(if rng.chance(7, 8) { &good } else { &text }, &calls, tally)?;
+        let at_every_call = rng.chance(1, 16);
+        compare_play(if rng.chance(7, 8) { &good } else { &text }, &calls, at_every_call, tally)?;
     }
     Ok(())
 }
@@ -134,15 +135,16 @@ fn compare_made(seed: u64, tally: &mut Tally) -> Result<(), String> {
         texts.extend([at_every_field(&board), every_start(&board), surplus(&board)].concat());
     }
     texts.iter().try_for_each(|text| compare_load(&mut rng, text, text.len(), tally))?;
-    // Document 01's calls on T: the refusals, the turn with amount 1 and its undo, and the empty turn.
+    // Document 01's calls on T: the refusals, the turn with amount 1 and its undo, the empty turn; and a hint before each move.
     let to_source = [EngineCall::Carry(0, 2), EngineCall::Carry(0, 0)];
     let around = EngineCall::Turn(vec![0, 2, 131, 129]);
     let lists = [
         vec![EngineCall::Carry(0, 0), EngineCall::Carry(1, 2), EngineCall::Carry(2, 0), EngineCall::Undo, EngineCall::Turn(vec![])],
         [&to_source[..], &[around.clone()]].concat(),
-        [&to_source[..], &[around, EngineCall::Undo, EngineCall::Turn(vec![])]].concat(),
+        [&to_source[..], &[around.clone(), EngineCall::Undo, EngineCall::Turn(vec![])]].concat(),
+        [EngineCall::Hint].into_iter().chain(to_source).flat_map(|call| [call, EngineCall::Hint]).chain([around, EngineCall::Hint]).collect(),
     ];
-    lists.iter().try_for_each(|calls| compare_play(T.as_bytes(), calls, tally))
+    lists.iter().try_for_each(|calls| compare_play(T.as_bytes(), calls, true, tally))
 }
 
 fn compare(seed: u64, count: u64, tally: &mut Tally) -> Result<(), String> {
