@@ -113,16 +113,16 @@ pub extern "C" fn vulprow_finish(
 {
     let through = playthrough::play_through(text, codes, steps, given, hints);
     let finish = through.finish;
-    let end = finish.board;
+    let last = finish.board;
     let answer = finish.answer;
-    let end_flows = end.flows;
-    let end_places = end.places;
-    let end_journal = end.journal;
+    let last_flows = last.flows;
+    let last_places = last.places;
+    let last_journal = last.journal;
     *count = finish.count;
-    *flows = end_flows;
-    *places = end_places;
-    *marks = end.marks;
-    *moves = end.moves;
-    calls::put_journal(end_journal, journal);
+    *flows = last_flows;
+    *places = last_places;
+    *marks = last.marks;
+    *moves = last.moves;
+    calls::put_journal(last_journal, journal);
     answer
 }

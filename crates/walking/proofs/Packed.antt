@@ -2,7 +2,7 @@
 -- search chooses is at most the number of edges; and each step of the walk uses up one of the vertices not yet seen, so that the cycle is no longer than
 -- they are many.
 use mathlib.Core.Path.{_≡_, refl, sym, ap, _∙_}
-use mathlib.Core.Bool.{false}
+use mathlib.Core.Bool.{Bool, false}
 use mathlib.Core.List.{List, [], _∷_, _++_}
 use Prim.Native.Nat.{ℕ, zero, suc, _+_, _-_, _≤_, _<_}
 use native.Mathlib.Omega.{arith}
@@ -11,12 +11,13 @@ use lib.ListN.{length, getD, take, drop, replicate, length-append, length-drop, 
 use lib.Seq.{sets, sets-eq, take-append-seam}
 use borrow.Author.Tests.{leb-true, leb-false}
 use Rattle.board.specs.Limits.{maxEdges}
+use Rattle.lists.specs.Lists.{lowest}
 use Rattle.lists.proofs.Laws.{Known, was-true, was-false, known}
 use Rattle.lists.proofs.Lowest.{lowest-least}
 use Rattle.flows.specs.Trails.{Step, down, up, edgeOf}
 use Rattle.steps.specs.Steps.{upFrom, stepOf, stepsOf}
 use Rattle.steps.proofs.Bytes.{step-up, step-down}
-use Rattle.walking.specs.Walk.{touches, another, parts, firstMet, downWalk, upWalk, cycleOf, byteOf, bytesOf, walked, packed}
+use Rattle.walking.specs.Walk.{another, parts, firstMet, downWalk, upWalk, cycleOf, byteOf, bytesOf, walked, packed}
 
 -- the byte of a byte's step
 byte-step : (b : ℕ) → byteOf (stepOf b) ≡ b
@@ -75,11 +76,13 @@ edges-drop m zero w b = b
 edges-drop m (suc k) [] b = tt
 edges-drop m (suc k) (s ∷ w) b = edges-drop m k w (b .1)
 
+-- the lowest of k numbers from 0 on is k at most
+lowest-most : (p : ℕ → Bool) (k : ℕ) → lowest p 0 k ≤ k
+lowest-most p k = let h = lowest-least p 0 k .high in omega (arith, h)
+
 pub another-most : (ends flows : List ℕ) (v x : ℕ) → another ends flows v x ≤ length flows
 unfolding another
-another-most ends flows v x =
-    let h = lowest-least (touches ends flows v x) 0 (length flows) .high in
-    omega (arith, h)
+another-most ends flows v x = lowest-most _ (length flows)
 
 module _ (tails heads flows : List ℕ) where
   -- the edges to go down and up by
