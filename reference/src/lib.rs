@@ -21,5 +21,6 @@ pub mod boards;
 pub mod calls;
 pub mod cases;
 pub mod damage;
+pub mod encoded;
 pub mod properties;
 pub mod random;

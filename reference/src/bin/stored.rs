@@ -1,7 +1,11 @@
 //! stored FOLDER: writes FOLDER/NAME/stdin and FOLDER/NAME/stdout for each program crate NAME, the outputs worked out by the reference.
 
-use reference::cases::{texts, GREATEST};
+use reference::boards::random_board;
+use reference::cases::{texts, GREATEST, S, T};
+use reference::encoded::{call_by_reference, codes_of, entries, random_list, EngineCall};
 use reference::player::Player;
+use reference::random::Random;
+use reference::text::write;
 use std::path::Path;
 
 /// The program `corpus`: for each text its length in two bytes, the high byte first, and the text; what loading it answers, and after a 0 the
@@ -23,9 +27,67 @@ fn corpus() -> (Vec<u8>, Vec<u8>) {
     (input, output)
 }
 
+/// A board text and a list of calls for the program `trials`.
+type Trial = (Vec<u8>, Vec<EngineCall>);
+
+/// Document 01's calls on T and S, a text that is refused, and random lists on random boards.
+fn made_trials() -> Vec<Trial> {
+    let to_source = [EngineCall::Carry(0, 2), EngineCall::Hint, EngineCall::Carry(0, 0), EngineCall::Hint];
+    let around = [EngineCall::Turn(vec![0, 2, 131, 129]), EngineCall::Hint];
+    let refused = [EngineCall::Carry(0, 0), EngineCall::Carry(1, 2), EngineCall::Carry(2, 0), EngineCall::Undo, EngineCall::Turn(vec![])];
+    let mut trials = vec![
+        (S.into(), vec![]),
+        (T.into(), vec![]),
+        (T.into(), refused.to_vec()),
+        (T.into(), [&to_source[..], &around].concat()),
+        (T.into(), [&to_source[..], &around, &[EngineCall::Undo, EngineCall::Undo]].concat()),
+        (b"B,2,1,1,0\nC,0,1,4\nW,1,5\n".to_vec(), vec![EngineCall::Carry(0, 0), EngineCall::Undo, EngineCall::Hint]),
+    ];
+    for index in 0..60 {
+        let mut rng = Random::of_input(6, index);
+        let text = write(&random_board(&mut rng));
+        let calls = random_list(&mut rng, &text);
+        trials.push((text, calls));
+    }
+    trials
+}
+
+/// The program `trials`: for each trial the text, the steps and the calls, each behind its length or count in two bytes; a call is its kind and
+/// two numbers of four bytes. The answers of load, calls and finish, the count of the finish, and the journal, a move a line.
+fn trials() -> (Vec<u8>, Vec<u8>) {
+    let (mut input, mut output) = (Vec::new(), String::new());
+    for (text, calls) in made_trials() {
+        let (codes, steps) = codes_of(&calls);
+        for bytes in [&text, &steps] {
+            input.extend((bytes.len() as u16).to_be_bytes());
+            input.extend(bytes);
+        }
+        input.extend((calls.len() as u16).to_be_bytes());
+        for code in codes.chunks(3) {
+            input.push(code[0] as u8);
+            input.extend([code[1].to_be_bytes(), code[2].to_be_bytes()].concat());
+        }
+        let (loading, mut player) = Player::load(&text);
+        let mut numbers = vec![loading];
+        numbers.extend(calls.iter().map(|call| call_by_reference(&mut player, call)));
+        numbers.extend(match player.finish() {
+            Ok(count) => [0, count as u32],
+            Err(refusal) => [refusal, 0],
+        });
+        let entries = entries(&player);
+        numbers.push(entries.len() as u32);
+        numbers.iter().for_each(|number| output.push_str(&format!("{number}\n")));
+        for entry in entries {
+            output.push_str(&entry.map(|number| number.to_string()).join(","));
+            output.push('\n');
+        }
+    }
+    (input, output.into_bytes())
+}
+
 fn main() -> std::io::Result<()> {
     let folder = std::env::args().nth(1).expect("usage: stored FOLDER");
-    for (name, (input, output)) in [("corpus", corpus())] {
+    for (name, (input, output)) in [("corpus", corpus()), ("trials", trials())] {
         let crate_folder = Path::new(&folder).join(name);
         std::fs::create_dir_all(&crate_folder)?;
         std::fs::write(crate_folder.join("stdin"), input)?;

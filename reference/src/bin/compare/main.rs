@@ -3,11 +3,12 @@
 
 mod play;
 
-use play::{compare_play, random_list, EngineCall};
+use play::compare_play;
 use reference::boards::random_board;
 use reference::cancelling::acyclic_flows;
 use reference::cases::{texts, T};
 use reference::damage::{at_every_field, damaged, every_start, surplus};
+use reference::encoded::{random_list, EngineCall};
 use reference::player::Player;
 use reference::random::Random;
 use reference::text::{flows, read, write};
