@@ -10,8 +10,8 @@ use Rattle.loader.specs.Load.{loadText}
 use Rattle.finishing.specs.declared.Finished.{Finished}
 use Rattle.finishing.specs.Finishes.{finishCall}
 use Rattle.calls.specs.Calls.{Call, played, answers, Told}
-use Rattle.solving.specs.Unstrayed.{Unstrayed}
-use Rattle.solving.proofs.Straying.{never-strayed}
+use Rattle.solving.specs.Faithful.{Faithful}
+use Rattle.solving.proofs.EveryList.{every-list}
 use Rattle.playthrough.specs.declared.Outcome.{Outcome}
 use Rattle.playthrough.specs.Through.{outcome, Held, Holds}
 
@@ -31,12 +31,12 @@ pub held : (text : List ℕ) (cs : List Call) (given given' hints hints' : List 
     → Holds text cs given given' hints hints' r
 held text cs given given' hints hints' r e g t loads = rw e here
   where
-    u : Unstrayed text cs (played (loadText text .board) cs)
-    u = never-strayed text cs loads
+    u : Faithful text cs (played (loadText text .board) cs)
+    u = every-list text cs loads
 
     here : Held text cs given given' hints hints' (outcome text cs)
     here = record {
-      unstrayed = u;
+      faithful = u;
       answered = g ∙ ap (λ (xs : List ℕ). sets given 0 xs) (u .answered);
       hinted = record { suggestions = t .hints; kept = u .hinted (t .hints) (t .kept); written = t .written };
       finished = u .finish;

@@ -9,7 +9,7 @@ use Rattle.finishing.specs.Finishes.{finishCall}
 use Rattle.calls.specs.Calls.{Call, played, noted}
 use Rattle.solving.specs.Player.{says, HintsKeptBy}
 use Rattle.solving.specs.Complete.{Complete}
-use Rattle.solving.specs.Unstrayed.{Unstrayed}
+use Rattle.solving.specs.Faithful.{Faithful}
 use Rattle.playthrough.specs.declared.Outcome.{Outcome}
 
 -- what is loaded, the board after the calls, and what finish makes of it
@@ -30,7 +30,7 @@ module _ (text : List ℕ) (cs : List Call) (given given' hints hints' : List �
 
   -- demand 3, of what was answered, written and given
   pub record Held : Type 0 where
-    pub unstrayed : Unstrayed text cs (r .board)
+    pub faithful : Faithful text cs (r .board)
     pub answered : given' ≡ sets given 0 (says text [] cs)
     pub hinted : HintsWritten
     pub finished : Complete (r .board) (r .finish)

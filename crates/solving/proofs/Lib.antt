@@ -7,4 +7,4 @@ pub mod Ends
 pub mod Acts
 pub mod Finish
 pub mod Stands
-pub mod Straying
+pub mod EveryList

@@ -1,4 +1,4 @@
--- The standing moves of the player who never strayed. Each was accepted on the board of those before it, so that calling it is making it, the board after
+-- The standing moves of the reference player. Each was accepted on the board of those before it, so that calling it is making it, the board after
 -- it is one of play, and undo there gives the board of before. By induction on the list its board is one of play, counts as many moves as the list
 -- holds, has the list's routes, and is the board that the standing moves give once they are called in order.
 use mathlib.Core.Path.{_≡_, refl, sym, ap, _∙_}

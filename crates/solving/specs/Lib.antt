@@ -1,3 +1,3 @@
 pub mod Player
 pub mod Complete
-pub mod Unstrayed
+pub mod Faithful

@@ -1,6 +1,6 @@
--- No list of calls strays from the player who never strayed: after every call the engine's board is the board made afresh from the standing moves. An accepted
--- move joins the list, a refused call and a hint leave board and list, and undo gives the very board that the last standing move was made on. The rest of
--- the theorem is read off from the standing moves.
+-- After every list of calls the engine stands where the reference player does: after each call its board is the board made afresh from the standing moves. An
+-- accepted move joins the list, a refused call and a hint leave board and list, and undo gives the very board that the last standing move was made on. The
+-- rest of the theorem is read off from the standing moves.
 use mathlib.Core.Path.{_≡_, refl, sym, ap, _∙_, subst}
 use mathlib.Core.Logic.{_⊎_, inl, inr, _≢_}
 use mathlib.Core.List.{List, [], _∷_, _++_}
@@ -23,7 +23,7 @@ use Rattle.hinting.specs.Hints.{hintRefusal}
 use Rattle.invariant.proofs.Standing.{Standing, standing-playing}
 use Rattle.calls.specs.Calls.{Call, carry, turn, undo, hint, made, played, answers, HintsKept}
 use Rattle.solving.specs.Player.{listedAll, afresh, saysTo, keepsAfter, keeps, says, HintsKeptBy}
-use Rattle.solving.specs.Unstrayed.{Unstrayed}
+use Rattle.solving.specs.Faithful.{Faithful}
 use Rattle.solving.proofs.Finish.{finish-completes, hint-taken}
 use Rattle.solving.proofs.Stands.{
   answered-no,
@@ -154,9 +154,9 @@ module _ (text : List ℕ) (loads : loadText text .answer ≡ 0) where
       same-hints (keepsAfter text ms undo) cs hs (q .stands) (subst (λ (b : Board). HintsKept b cs hs) (q .board) k)
 
   -- the player's board, after every list of calls
-  unstrayed : (cs : List Call) → Unstrayed text cs (afresh text (keeps text [] cs))
+  faithful : (cs : List Call) → Faithful text cs (afresh text (keeps text [] cs))
   unfolding afresh listedAll
-  unstrayed cs =
+  faithful cs =
       let f = stands-follows text loads (keeps text [] cs) (all-stand [] cs none) in
       record {
         network = afresh-network text (keeps text [] cs);
@@ -175,5 +175,5 @@ module _ (text : List ℕ) (loads : loadText text .answer ≡ 0) where
   unfolding afresh listedAll
   start = refl
 
-pub never-strayed : (text : List ℕ) (cs : List Call) → loadText text .answer ≡ 0 → Unstrayed text cs (played (loadText text .board) cs)
-never-strayed text cs loads = rw (start text loads, same-board text loads [] cs none) (unstrayed text loads cs)
+pub every-list : (text : List ℕ) (cs : List Call) → loadText text .answer ≡ 0 → Faithful text cs (played (loadText text .board) cs)
+every-list text cs loads = rw (start text loads, same-board text loads [] cs none) (faithful text loads cs)

@@ -12,8 +12,8 @@ use Rattle.calls.specs.Calls.{Call, played, answers, HintsKept}
 use Rattle.solving.specs.Player.{afresh, keeps, says, HintsKeptBy, routeOf}
 use Rattle.solving.specs.Complete.{Complete}
 
--- b is the board after the calls `cs` on the board that the text gave
-pub record Unstrayed (text : List ℕ) (cs : List Call) (b : Board) : Type 0 where
+-- b, the board after the calls cs on the board that the text gave, is the reference player's, and so were the answers; and finish completes it
+pub record Faithful (text : List ℕ) (cs : List Call) (b : Board) : Type 0 where
   -- the network and the acyclic flow are those of the load
   pub network : b .network ≡ loadText text .board .network
   pub acyclic : b .acyclic ≡ loadText text .board .acyclic
