@@ -7,6 +7,7 @@ use lib.Dec.{ltb}
 use lib.ListN.{length}
 use Rattle.lists.specs.Choice.{pick}
 use lib.Seq.{sets}
+use Rattle.board.specs.Limits.{maxEdges}
 use Rattle.board.specs.declared.Board.{Board}
 use Rattle.board.specs.declared.Played.{Played}
 use Rattle.carrying.specs.Carries.{carryCall}
@@ -73,7 +74,7 @@ abbrev pub adviceCode : Advice → List ℕ
 adviceCode a = a .kind ∷ a .terminal ∷ a .edge ∷ a .count ∷ a .steps
 
 abbrev pub adviceWidth : ℕ
-adviceWidth = 68
+adviceWidth = 4 + maxEdges
 
 -- no slice is longer than this
 abbrev pub lastPlace : ℕ
