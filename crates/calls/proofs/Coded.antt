@@ -9,9 +9,10 @@ use native.Mathlib.Omega.{arith}
 use lib.Dec.{leb, ltb}
 use borrow.Author.Tests.{leb-true, ltb-true, ltb-false}
 use lib.ListN.{length, getD, take, drop, set, length-drop, drop-of-length-le}
-use lib.Seq.{drop-cons, set-out, sets}
+use lib.Seq.{drop-cons, sets}
 use Rattle.lists.specs.Choice.{pick, both}
 use Rattle.lists.proofs.Laws.{Known, was-true, was-false, known, pick-yes, pick-no, both-left, both-right}
+use Rattle.lists.proofs.Stored.{stored-turn, stored-past}
 use Rattle.board.specs.declared.Board.{Board}
 use Rattle.board.specs.declared.Entry.{Entry}
 use Rattle.board.specs.declared.Played.{Played}
@@ -166,18 +167,15 @@ five-stored buf k (a ∷ b ∷ c ∷ []) b1 b2 b3 b4 b5 n e1 e2 e3 e4 e5 = absur
 five-stored buf k (a ∷ b ∷ c ∷ d ∷ []) b1 b2 b3 b4 b5 n e1 e2 e3 e4 e5 = absurd (omega arith)
 five-stored buf k (a ∷ b ∷ c ∷ d ∷ e ∷ f ∷ code) b1 b2 b3 b4 b5 n e1 e2 e3 e4 e5 = absurd (omega arith)
 
--- numbers stored one after the other, from place k on
-pub sets-start : (buf xs : List ℕ) (k : ℕ) → sets buf (k + 0) (drop 0 xs) ≡ sets buf k xs
-sets-start buf xs k = let same : k + 0 ≡ k = omega arith in rw same
+-- numbers stored one after the other, from place k on, i of them so far
+module _ (buf xs : List ℕ) (k : ℕ) where
+  pub sets-start : sets buf (k + 0) (drop 0 xs) ≡ sets buf k xs
+  sets-start = let same : k + 0 ≡ k = omega arith in rw same
 
-module _ (buf xs : List ℕ) (k i : ℕ) where
-  pub sets-turn : (z : ℕ) (r : List ℕ) → i < length xs → r ≡ set buf (k + i) (getD xs i z) → sets r (k + (i + 1)) (drop (i + 1) xs) ≡ sets buf (k + i) (drop i xs)
-  sets-turn z r h e =
-      let next : k + (i + 1) ≡ suc (k + i) = omega arith in
-      rw (e, next, drop-cons xs i z h, add-one i)
-
-  pub sets-end : length xs ≤ i → buf ≡ sets buf (k + i) (drop i xs)
-  sets-end h = rw (drop-of-length-le xs h)
+  pub sets-turn : (i z : ℕ) (r : List ℕ) → i < length xs → r ≡ set buf (k + i) (getD xs i z) → sets r (k + (i + 1)) (drop (i + 1) xs) ≡ sets buf (k + i) (drop i xs)
+  sets-turn i z r h e =
+      let next : k + (i + 1) ≡ k + i + 1 = omega arith in
+      rw next (stored-turn buf xs (k + i) i z r h e)
 
 -- a hint's move, stored part by part
 pub advice-stored : (buf : List ℕ) (k : ℕ) (a : Advice) (b1 b2 b3 b4 b5 : List ℕ) → b1 ≡ set buf k (a .kind) → b2 ≡ set b1 (k + 1) (a .terminal)
@@ -188,11 +186,6 @@ advice-stored buf k a b1 b2 b3 b4 b5 e1 e2 e3 e4 e5 =
     let three : k + 3 ≡ suc (suc (suc k)) = omega arith in
     let four : k + 4 ≡ suc (suc (suc (suc k))) = omega arith in
     rw (e5, e4, e3, e2, e1, one, two, three, four)
-
--- past the end nothing is stored
-sets-past : (buf xs : List ℕ) (k : ℕ) → length buf ≤ k → sets buf k xs ≡ buf
-sets-past buf [] k h = refl
-sets-past buf (x ∷ xs) k h = rw (set-out buf k x h) (sets-past buf xs (suc k) (omega arith))
 
 -- the move of a hint is noted, or there is nothing to note
 module _ (buf : List ℕ) (k : ℕ) (hinted : Bool) (a : Advice) where
@@ -206,7 +199,7 @@ module _ (buf : List ℕ) (k : ℕ) (hinted : Bool) (a : Advice) where
       go (was-true t) =
           let past : ltb k (length buf) ≡ false = rw t at h in (
             sym (pick-yes hinted _ _ t ∙ pick-no (ltb k (length buf)) _ _ past),
-            sym (pick-yes hinted _ _ t ∙ sets-past buf (adviceCode a) k (ltb-false k (length buf) past)),
+            sym (pick-yes hinted _ _ t ∙ stored-past buf (adviceCode a) k (ltb-false k (length buf) past)),
           )
 
   -- a hint, and a place for it

@@ -17,7 +17,7 @@ use Rattle.loader.specs.Load.{acyclicOf, opened, loadText}
 use Rattle.loader.proofs.Loads.{load-accepted, loaded-lawful}
 use Rattle.flows.specs.Trails.{Step}
 use Rattle.guard.specs.Guard.{playing}
-use Rattle.journal.specs.Moved.{answered}
+use Rattle.journal.proofs.Answers.{answered-yes}
 use Rattle.carrying.specs.Carries.{carryRefusal, carried}
 use Rattle.turning.specs.Turns.{turnRefusal, turned}
 use Rattle.undoing.specs.Undone.{undoRefusal, undone, undoCall}
@@ -69,9 +69,9 @@ unfolding undoRefusal
 undo-taken b st some = pick-yes (playing b) _ 20 (standing-playing b st) ∙ pick-no (eqb (b .moves) 0) 27 0 (ne-eqb (b .moves) 0 (λ z. omega (arith, z, some)))
 
 undo-accepted : (b next : Board) → Standing next → next .moves ≡ b .moves + 1 → undone next ≡ b → undoCall next ≡ record { answer = 0; board = b }
-unfolding undoCall answered
+unfolding undoCall
 undo-accepted b next st more back =
-    pick-yes _ _ _ (eq-eqb _ _ (undo-taken next st (omega (arith, more)))) ∙ (λ j. record { answer = 0; board = back j })
+    answered-yes (undoRefusal next) next (undone next) (undo-taken next st (omega (arith, more))) ∙ (λ j. record { answer = 0; board = back j })
 
 module _ (b : Board) (i e : ℕ) (st : Standing b) (h : carryRefusal b i e ≡ 0) where
   carries : Carriable b i e

@@ -14,6 +14,7 @@ use Rattle.lists.proofs.Laws.{eq-or-ne, pick-yes, pick-no}
 use Rattle.board.specs.declared.Board.{Board}
 use Rattle.board.specs.declared.Played.{Played}
 use Rattle.loader.specs.Load.{loadText}
+use Rattle.journal.proofs.Answers.{answered-no}
 use Rattle.carrying.specs.Carries.{carryRefusal, carried, carryCall}
 use Rattle.steps.specs.Steps.{stepsOf}
 use Rattle.turning.specs.Turns.{turnRefusal, turned, turnCall}
@@ -26,7 +27,6 @@ use Rattle.solving.specs.Player.{listedAll, afresh, saysTo, keepsAfter, 
 use Rattle.solving.specs.Faithful.{Faithful}
 use Rattle.solving.proofs.Finish.{finish-completes, hint-taken}
 use Rattle.solving.proofs.Stands.{
-  answered-no,
   Accepted,
   carry-accepted,
   turn-accepted,

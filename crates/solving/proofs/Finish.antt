@@ -15,7 +15,7 @@ use Rattle.board.specs.declared.Board.{Board}
 use Rattle.board.specs.declared.Network.{Network}
 use Rattle.board.specs.declared.Played.{Played}
 use Rattle.guard.specs.Guard.{playing}
-use Rattle.journal.specs.Moved.{answered}
+use Rattle.journal.proofs.Answers.{answered-yes}
 use Rattle.choosing.specs.Choosing.{allHome, judge, acted, nextAct}
 use Rattle.hinting.specs.Hints.{hintRefusal}
 use Rattle.finishing.specs.declared.Finished.{Finished}
@@ -39,8 +39,8 @@ unfolding stepped
 step-refused b all = ap (λ (p : Played). p .answer) (pick-yes (allHome b) _ _ all)
 
 step-made : (b : Board) → allHome b ≡ false → judge b (nextAct b) ≡ 0 → stepped b ≡ record { answer = 0; board = next b }
-unfolding stepped answered
-step-made b away free = pick-no (allHome b) _ _ away ∙ pick-yes _ _ _ (eq-eqb _ _ free)
+unfolding stepped
+step-made b away free = pick-no (allHome b) _ _ away ∙ answered-yes (judge b (nextAct b)) b (next b) free
 
 on-stays : (k : ℕ) (b : Board) → allHome b ≡ true → steppedOn (suc k) b ≡ b
 unfolding steppedOn

@@ -15,7 +15,7 @@ use Rattle.board.specs.declared.Board.{Board}
 use Rattle.board.specs.declared.Played.{Played}
 use Rattle.loader.specs.Load.{loadText}
 use Rattle.loader.proofs.Loads.{load-accepted}
-use Rattle.journal.specs.Moved.{answered}
+use Rattle.journal.proofs.Answers.{answered-yes}
 use Rattle.carrying.specs.Carries.{carryRefusal, carried, carryCall}
 use Rattle.steps.specs.Steps.{stepsOf}
 use Rattle.turning.specs.Turns.{turnRefusal, turned, turnCall}
@@ -27,15 +27,6 @@ use Rattle.invariant.proofs.TurnedRoutes.{route-after}
 use Rattle.invariant.proofs.Standing.{Standing, loaded-standing, never-full, carry-standing, carry-undone, turn-standing, turn-undone}
 use Rattle.calls.specs.Calls.{Call, carry, turn, undo, hint, made, played}
 use Rattle.solving.specs.Player.{listed, listedAll, afresh, goesOver, routeOf}
-
--- ---- a call by its number
-answered-yes : (n : ℕ) (b next : Board) → n ≡ 0 → answered n b next ≡ record { answer = 0; board = next }
-unfolding answered
-answered-yes n b next h = pick-yes _ _ _ (eq-eqb n 0 h)
-
-pub answered-no : (n : ℕ) (b next : Board) → n ≢ 0 → answered n b next ≡ record { answer = n; board = b }
-unfolding answered
-answered-no n b next h = pick-no _ _ _ (ne-eqb n 0 h)
 
 -- ---- one accepted move c on board b
 pub record Accepted (b : Board) (c : Call) : Type 0 where

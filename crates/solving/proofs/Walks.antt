@@ -22,6 +22,7 @@ use Rattle.flows.specs.Paths.{First, OneLeaves, Unparted}
 use Rattle.flows.specs.Trails.{Step, down, up, edgeOf, edgesOf, startOf, endOf, Trail, stay, go, Closed}
 use Rattle.flows.proofs.Change.{In, over}
 use Rattle.flows.proofs.Walk.{path-cases}
+use Rattle.walking.proofs.Loops.{starts-length}
 use Rattle.walking.specs.Walk.{parts, startsOf, firstMet, downWalk, upWalk}
 use Rattle.invariant.proofs.Single.{Leaves, leaves-inside, leaving-from, leaving-leaves, leaving-alone}
 
@@ -45,10 +46,6 @@ module _ (tails heads : List ℕ) where
   starts-joined : (w : List Step) (s : Step) → startsOf tails heads (w ++ (s ∷ [])) ≡ (startsOf tails heads w ++ (startOf tails heads s ∷ []))
   starts-joined [] s = refl
   starts-joined (t ∷ w) s = ap (λ (l : List ℕ). startOf tails heads t ∷ l) (starts-joined w s)
-
-  starts-length : (w : List Step) → length (startsOf tails heads w) ≡ length w
-  starts-length [] = refl
-  starts-length (t ∷ w) = ap suc (starts-length w)
 
   trail-joined : {a b : ℕ} {w : List Step} (s : Step) → Trail tails heads a w b → startOf tails heads s ≡ b
       → Trail tails heads a (w ++ (s ∷ [])) (endOf tails heads s)

@@ -6,10 +6,11 @@ use Prim.Native.Nat.{ℕ, zero, suc, _+_, _-_, _≤_, _<_}
 use native.Mathlib.Numerals.{add-one}
 use native.Mathlib.Omega.{arith}
 use lib.Dec.{ltb}
-use lib.ListN.{length, getD, set, take, drop, replicate, length-drop, drop-of-length-le}
-use lib.Seq.{sets, drop-cons, length-take-le, getD-take, getD-drop, take-suc-set, take-add, drop-at}
+use lib.ListN.{length, getD, set, take, drop, replicate, length-drop}
+use lib.Seq.{sets, length-take-le, getD-take, getD-drop, take-suc-set, take-add, drop-at}
 use Rattle.board.specs.Limits.{maxEdges}
 use Rattle.lists.specs.Lists.{indexOf}
+use Rattle.lists.proofs.Stored.{stored-turn, stored-end}
 use Rattle.lists.proofs.Laws.{index-hit, index-miss, index-end}
 use Rattle.lists.proofs.Lowest.{lowest-least}
 use Rattle.singular.specs.Singular.{leaves, leaving}
@@ -68,12 +69,11 @@ walked-more bytes n ups e h l =
     let b = byteOf (stride ups e) in
     rw (add-one n, take-suc-set bytes n b h, steps-more (take n bytes) b, step-byte (stride ups e) low)
 
--- the starts of the steps of bytes
+-- the starts of steps, and of the steps of bytes
 module _ (tails heads : List ℕ) where
-  starts-length : (bs : List ℕ) → length (startsOf tails heads (stepsOf bs)) ≡ length bs
-  unfolding stepsOf
+  pub starts-length : (w : List Step) → length (startsOf tails heads w) ≡ length w
   starts-length [] = refl
-  starts-length (b ∷ bs) = ap suc (starts-length bs)
+  starts-length (s ∷ w) = ap suc (starts-length w)
 
   starts-at : (bs : List ℕ) (i : ℕ) → i < length bs → getD (startsOf tails heads (stepsOf bs)) i 0 ≡ startOf tails heads (stepOf (getD bs i 0))
   unfolding stepsOf
@@ -87,7 +87,7 @@ module _ (tails heads bytes : List ℕ) (n v i total : ℕ) (fits : n ≤ length
   starts = startsOf tails heads (stepsOf (take n bytes))
 
   size : length starts ≡ n
-  size = starts-length tails heads (take n bytes) ∙ length-take-le n bytes fits
+  size = starts-length tails heads (stepsOf (take n bytes)) ∙ steps-length (take n bytes) ∙ length-take-le n bytes fits
 
   here : i < n → getD starts i 0 ≡ startOf tails heads (stepOf (getD bytes i 0))
   here h =
@@ -120,10 +120,10 @@ module _ (bytes : List ℕ) (k m : ℕ) (fits : k + m ≤ length bytes) where
   copy-turn buf i h =
       let inside : i < length last = omega (arith, last-length, h) in
       let byte : getD last i 0 ≡ getD bytes (k + i) 0 = getD-take m (drop k bytes) i 0 h ∙ getD-drop k bytes i 0 in
-      rw (drop-cons last i 0 inside, byte, add-one i)
+      stored-turn buf last i i 0 (set buf i (getD bytes (k + i) 0)) inside (rw byte)
 
   pub copy-end : (buf : List ℕ) (i : ℕ) → m ≤ i → sets buf i (drop i last) ≡ buf
-  copy-end buf i h = let past : length last ≤ i = omega (arith, last-length, h) in rw (drop-of-length-le last past)
+  copy-end buf i h = sym (stored-end buf last i i (omega (arith, last-length, h)))
 
   -- the last of the first k + m bytes
   pub last-bytes : drop k (take (k + m) bytes) ≡ last

@@ -4,7 +4,8 @@ use Prim.Native.Nat.{_+_, _-_, _≤_, _<_}
 use lib.ListN.{length, drop}
 use native.Mathlib.Omega.{arith}
 use lib.Seq.{sets}
-use Rattle.calls.proofs.Coded.{sets-start, sets-turn, sets-end}
+use Rattle.lists.proofs.Stored.{stored-end}
+use Rattle.calls.proofs.Coded.{sets-start, sets-turn}
 use borrow.Author.Needs.{needs}
 use Rattle.calls.proofs.put_steps.Statement.{statement}
 use Rattle.calls.proofs.put_steps.Tie as tie
@@ -53,7 +54,7 @@ returns c =
     let start = c .before .before .before in
     let long : length (start .args .t3) ≡ 64 = search (needs, start .good) in
     let over : length (start .args .t3) ≤ c .before .loop .i = omega (arith, c .loop-test .left) in
-    sets-end (c .before .loop .buf) (start .args .t3) (start .args .k) (c .before .loop .i) over ∙ c .before .loop .inv .2
+    stored-end (c .before .loop .buf) (start .args .t3) (start .args .k + c .before .loop .i) (c .before .loop .i) over ∙ c .before .loop .inv .2
 
 pub put-steps-spec : {M : Type 1} → statement M
 put-steps-spec =
