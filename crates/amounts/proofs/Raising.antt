@@ -1,54 +1,56 @@
 -- The laws of a turn's amount that the code cites: what is left of a run over the terminals or over the steps, before and after one turn of the loop, in the code's own shape;
 -- and that the amount, being one flow or one demand less a flow, is at most what bounds them all.
-use mathlib.Core.Path.{_≡_}
-use mathlib.Core.Bool.{Bool, true, false}
+use mathlib.Core.Path.{_≡_, refl}
+use mathlib.Core.Bool.{Bool, true, false, true≢false, false≢true}
 use mathlib.Core.List.{List, [], _∷_}
 use Prim.Native.Nat.{ℕ, zero, suc, _+_, _-_, _<_, _≤_}
 use native.Mathlib.Numerals.{add-one}
 use native.Mathlib.Omega.{arith}
-use lib.Dec.{ltb, leb, eqb}
+use lib.Dec.{ltb, eqb}
 use lib.ListN.{length, getD, drop, drop-of-length-le}
 use lib.Seq.{drop-cons}
-use borrow.Author.Tests.{le-leb, lt-leb}
 use Rattle.lists.specs.Choice.{pick}
-use Rattle.lists.proofs.Laws.{pick-yes, pick-no}
 use Rattle.board.specs.declared.Board.{Board}
-use Rattle.flows.specs.Trails.{Step, down, up}
+use Rattle.flows.specs.Trails.{Step, down, up, edgeOf}
 use Rattle.guard.specs.Parts.{flow, demand}
-use Rattle.steps.specs.Steps.{upFrom, stepOf, stepsOf}
-use Rattle.amounts.specs.Amounts.{smaller, isShort, raise, allowed, amountFrom, amount}
+use Rattle.steps.specs.Steps.{stepOf, stepsOf, isUp}
+use Rattle.amounts.specs.Amounts.{smaller, isShort, lessened, raiseIn, raise, allowedIn, allowed, amountIn, amountFrom, amount}
 
 -- a run over the terminals below n that has passed i
-module _ (b : Board) (e a i n total : ℕ) where
-  pub raise-turn : i < n → raise b e a i (n - i) ≡ total
-      → raise b e (pick (isShort b e i) (smaller a (demand b i - flow b e)) a) (i + 1) (n - (i + 1)) ≡ total
-  unfolding raise
+module _ (places demands : List ℕ) (head flow a i n total : ℕ) where
+  pub raise-turn : i < n → raiseIn places demands head flow a i (n - i) ≡ total
+      → raiseIn places demands head flow (lessened head flow (getD places i 0) (getD demands i 0) a) (i + 1) (n - (i + 1)) ≡ total
+  unfolding raiseIn
   raise-turn h inv = let s : n - i ≡ suc (n - suc i) = omega arith in rw (add-one i) (rw s at inv)
 
-  pub raise-end : n ≤ i → raise b e a i (n - i) ≡ total → a ≡ total
-  unfolding raise
+  pub raise-end : n ≤ i → raiseIn places demands head flow a i (n - i) ≡ total → a ≡ total
+  unfolding raiseIn
   raise-end h inv = let s : n - i ≡ 0 = omega arith in rw s at inv
 
--- what a step allows, by its byte
-module _ (b : Board) (a s r : ℕ) where
-  pub allowed-up : upFrom ≤ s → r ≡ raise b (s - upFrom) a 0 (b .network .terminals) → r ≡ allowed b a (stepOf s)
-  unfolding stepOf
-  allowed-up h e = rw (pick-yes (leb upFrom s) (up (s - upFrom)) (down s) (le-leb upFrom s h)) e
+module _ (heads flows places demands : List ℕ) (terminals a : ℕ) where
+  -- what a step allows, by its direction
+  pub allowed-down : (s : Step) → isUp s ≡ false → smaller a (getD flows (edgeOf s) 0) ≡ allowedIn heads flows places demands terminals a s
+  unfolding allowedIn
+  allowed-down (down e) h = refl
+  allowed-down (up e) h = absurd (true≢false h)
 
-  pub allowed-down : s < upFrom → r ≡ smaller a (flow b s) → r ≡ allowed b a (stepOf s)
-  unfolding stepOf
-  allowed-down h e = rw (pick-no (leb upFrom s) (up (s - upFrom)) (down s) (lt-leb upFrom s h)) e
+  pub allowed-up : (s : Step) → isUp s ≡ true
+      → raiseIn places demands (getD heads (edgeOf s) 0) (getD flows (edgeOf s) 0) a 0 terminals ≡ allowedIn heads flows places demands terminals a s
+  unfolding allowedIn
+  allowed-up (down e) h = absurd (false≢true h)
+  allowed-up (up e) h = refl
 
--- a run over the bytes of the steps that has passed i of them
-module _ (b : Board) (bytes : List ℕ) (a i total : ℕ) where
-  pub amount-turn : (r : ℕ) → i < length bytes → r ≡ allowed b a (stepOf (getD bytes i 0)) → amountFrom b a (stepsOf (drop i bytes)) ≡ total
-      → amountFrom b r (stepsOf (drop (i + 1) bytes)) ≡ total
-  unfolding amountFrom stepsOf
-  amount-turn r h e inv = rw (add-one i, e) (rw (drop-cons bytes i 0 h) at inv)
+  -- a run over the bytes of the steps that has passed i of them
+  module _ (bytes : List ℕ) (i total : ℕ) where
+    pub amount-turn : (r : ℕ) → i < length bytes → r ≡ allowedIn heads flows places demands terminals a (stepOf (getD bytes i 0))
+        → amountIn heads flows places demands terminals a (stepsOf (drop i bytes)) ≡ total
+        → amountIn heads flows places demands terminals r (stepsOf (drop (i + 1) bytes)) ≡ total
+    unfolding amountIn stepsOf
+    amount-turn r h e inv = rw (add-one i, e) (rw (drop-cons bytes i 0 h) at inv)
 
-  pub amount-end : length bytes ≤ i → amountFrom b a (stepsOf (drop i bytes)) ≡ total → a ≡ total
-  unfolding amountFrom stepsOf
-  amount-end h inv = rw (drop-of-length-le bytes h) at inv
+    pub amount-end : length bytes ≤ i → amountIn heads flows places demands terminals a (stepsOf (drop i bytes)) ≡ total → a ≡ total
+    unfolding amountIn stepsOf
+    amount-end h inv = rw (drop-of-length-le bytes h) at inv
 
 -- a bound of both is one of the choice
 pick-most : (t : Bool) (a x c : ℕ) → a ≤ c → x ≤ c → pick t a x ≤ c

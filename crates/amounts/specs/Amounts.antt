@@ -1,8 +1,9 @@
--- The amount of a turn: document 01, "Moves".
+-- The amount of a turn: document 01, "Moves". A name that ends in In is said of the parts of a board, as the code computes it; the name without it of the board.
 use mathlib.Core.Bool.{Bool}
 use mathlib.Core.List.{List, [], _∷_}
 use Prim.Native.Nat.{ℕ, zero, suc, _-_}
 use lib.Dec.{ltb, eqb}
+use lib.ListN.{getD}
 use Rattle.lists.specs.Choice.{pick, both}
 use Rattle.board.specs.declared.Board.{Board}
 use Rattle.flows.specs.Trails.{Step, down, up}
@@ -12,24 +13,44 @@ use Rattle.guard.specs.Parts.{flow, head, demand, place}
 unfoldable pub smaller : ℕ → ℕ → ℕ
 smaller a x = pick (eqb a 0) x (pick (ltb x a) x a)
 
--- terminal i is at the head of edge e and its need exceeds the flow
+-- a terminal is at the head of an edge and its need exceeds the flow: by its place and demand, and on a board
+abbrev pub shortAt : ℕ → ℕ → ℕ → ℕ → Bool
+shortAt head flow place demand = both (eqb place head) (ltb flow demand)
+
 unfoldable pub isShort : Board → ℕ → ℕ → Bool
-isShort b e i = both (eqb (place b i) (head b e)) (ltb (flow b e) (demand b i))
+isShort b e i = shortAt (head b e) (flow b e) (place b i) (demand b i)
+
+-- the smaller of a and "need minus flow", where the terminal is short
+unfoldable pub lessened : ℕ → ℕ → ℕ → ℕ → ℕ → ℕ
+lessened head flow place demand a = pick (shortAt head flow place demand) (smaller a (demand - flow)) a
 
 -- the smallest of a and "need minus flow" over the terminals i, i + 1, .., i + k - 1 that are short at e
+unfoldable pub raiseIn : List ℕ → List ℕ → ℕ → ℕ → ℕ → ℕ → ℕ → ℕ
+unfolding lessened
+raiseIn places demands head flow a i zero = a
+raiseIn places demands head flow a i (suc k) = raiseIn places demands head flow (lessened head flow (getD places i 0) (getD demands i 0) a) (suc i) k
+
 unfoldable pub raise : Board → ℕ → ℕ → ℕ → ℕ → ℕ
-raise b e a i zero = a
-raise b e a i (suc k) = raise b e (pick (isShort b e i) (smaller a (demand b i - flow b e)) a) (suc i) k
+unfolding isShort raiseIn
+raise b e a i k = raiseIn (b .places) (b .network .demands) (head b e) (flow b e) a i k
 
 -- the smallest of a and what a step allows: "the least flow on a down-step", "the least (need minus flow) over up-step channels and mills at their heads"
+unfoldable pub allowedIn : List ℕ → List ℕ → List ℕ → List ℕ → ℕ → ℕ → Step → ℕ
+allowedIn heads flows places demands terminals a s =
+    elim s [ down e ↦ smaller a (getD flows e 0) | up e ↦ raiseIn places demands (getD heads e 0) (getD flows e 0) a 0 terminals ]
+
 abbrev pub allowed : Board → ℕ → Step → ℕ
-allowed b a (down e) = smaller a (flow b e)
-allowed b a (up e) = raise b e a 0 (b .network .terminals)
+allowed b a s = elim s [ down e ↦ smaller a (flow b e) | up e ↦ raise b e a 0 (b .network .terminals) ]
 
 -- "The amount is the smaller of" these, over all steps
+unfoldable pub amountIn : List ℕ → List ℕ → List ℕ → List ℕ → ℕ → ℕ → List Step → ℕ
+unfolding allowedIn
+amountIn heads flows places demands terminals a [] = a
+amountIn heads flows places demands terminals a (s ∷ w) = amountIn heads flows places demands terminals (allowedIn heads flows places demands terminals a s) w
+
 unfoldable pub amountFrom : Board → ℕ → List Step → ℕ
-amountFrom b a [] = a
-amountFrom b a (s ∷ w) = amountFrom b (allowed b a s) w
+unfolding raise amountIn
+amountFrom b a w = amountIn (b .network .heads) (b .flows) (b .places) (b .network .demands) (b .network .terminals) a w
 
 -- from none on
 unfoldable pub amount : Board → List Step → ℕ

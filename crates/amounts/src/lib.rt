@@ -1,11 +1,8 @@
 // The amount of a turn.
 use board::Board;
 ghost use mathlib.Core.Path.{_≡_};
-ghost use Prim.Native.Nat.{_-_};
-ghost use Rattle.lists.specs.Choice.{pick};
-ghost use Rattle.guard.specs.Parts.{flow, demand};
 ghost use Rattle.steps.specs.Steps.{stepOf, stepsOf};
-ghost use Rattle.amounts.specs.Amounts.{smaller, isShort, raise, allowed, amount};
+ghost use Rattle.amounts.specs.Amounts.{smaller, lessened, raiseIn, allowedIn, amountIn, amount};
 
 // The smaller of two amounts, where a first one of 0 stands for none.
 fn smaller(a: u32, x: u32) -> u32
@@ -17,66 +14,95 @@ fn smaller(a: u32, x: u32) -> u32
     if x < a { x } else { a }
 }
 
-// Whether terminal i is at the head of edge e and its demand exceeds the flow.
-fn is_short(board: Board, e: u32, i: u32) -> bool
-    ensures { λ r. ⌜ r ≡ isShort board e i ⌝ }
+// The amount, made smaller by what a terminal allows that is at the head of an edge and has a demand above its flow.
+fn lessened(head: u32, flow: u32, place: u32, demand: u32, a: u32) -> u32
+    ensures { λ r. ⌜ r ≡ lessened head flow place demand a ⌝ }
 {
-    let net = board.network;
-    let place = lists::word_at(&board.places, i as usize);
-    let head = lists::word_at(&net.heads, e as usize);
-    let flow = lists::word_at(&board.flows, e as usize);
-    let demand = lists::word_at(&net.demands, i as usize);
-    lists::and(place == head, flow < demand)
-}
-
-// The amount, made smaller by what terminal i allows where it is short.
-fn lessened(board: Board, e: u32, a: u32, i: u32) -> u32
-    ensures { λ r. ⌜ r ≡ pick (isShort board e i) (smaller a (demand board i - flow board e)) a ⌝ }
-{
-    if !is_short(board, e, i) {
+    if place != head {
         return a;
     }
-    let net = board.network;
-    let flow = lists::word_at(&board.flows, e as usize);
-    let demand = lists::word_at(&net.demands, i as usize);
-    let rest = lists::minus(demand, flow);
+    if demand <= flow {
+        return a;
+    }
+    let rest = demand - flow;
     smaller(a, rest)
 }
 
-// The amount, made smaller by what the terminals at the head of edge e allow.
-fn raise(board: Board, e: u32, a: u32) -> u32
-    ensures { λ r. ⌜ r ≡ raise board e a 0 (board .network .terminals) ⌝ }
+// The amount, made smaller by what the terminals at the head of an edge allow.
+fn raise<'a>(
+    places: &'a [u32],
+    demands: &'a [u32],
+    terminals: u32,
+    head: u32,
+    flow: u32,
+    a: u32,
+) -> u32
+    ensures { λ r. ⌜ r ≡ raiseIn (now (places .entry)) (now (demands .entry)) head flow a 0 terminals ⌝ }
 {
-    let net = board.network;
     let mut least = a;
     let mut i: u32 = 0;
-    while i < net.terminals {
-        least = lessened(board, e, least, i);
+    while i < terminals {
+        let place = lists::word_at(places, i as usize);
+        let demand = lists::word_at(demands, i as usize);
+        least = lessened(head, flow, place, demand, least);
         i += 1;
     }
     least
 }
 
 // The amount, made smaller by what a step allows.
-fn allowed(board: Board, a: u32, s: u8) -> u32
-    ensures { λ r. ⌜ r ≡ allowed board a (stepOf s) ⌝ }
+fn allowed<'a>(
+    heads: &'a [u32],
+    flows: &'a [u32],
+    places: &'a [u32],
+    demands: &'a [u32],
+    terminals: u32,
+    a: u32,
+    s: u8,
+) -> u32
+    ensures { λ r. ⌜ r ≡ allowedIn (now (heads .entry)) (now (flows .entry)) (now (places .entry)) (now (demands .entry)) terminals a (stepOf s) ⌝ }
 {
-    if s >= 128 {
-        return raise(board, (s - 128) as u32, a);
+    let edge = steps::edge_of(s) as usize;
+    let flow = lists::word_at(flows, edge);
+    if !steps::is_up(s) {
+        return smaller(a, flow);
     }
-    let flow = lists::word_at(&board.flows, s as usize);
-    smaller(a, flow)
+    let head = lists::word_at(heads, edge);
+    raise(places, demands, terminals, head, flow, a)
+}
+
+// The smallest that the steps allow.
+fn least_allowed<'a>(
+    heads: &'a [u32],
+    flows: &'a [u32],
+    places: &'a [u32],
+    demands: &'a [u32],
+    terminals: u32,
+    steps: &'a [u8],
+) -> u32
+    ensures { λ r. ⌜ r ≡ amountIn (now (heads .entry)) (now (flows .entry)) (now (places .entry)) (now (demands .entry)) terminals 0
+        (stepsOf (now (steps .entry))) ⌝ }
+{
+    let mut a: u32 = 0;
+    let mut i: usize = 0;
+    while i < steps.len() {
+        a = allowed(heads, flows, places, demands, terminals, a, steps[i]);
+        i += 1;
+    }
+    a
 }
 
 // What a turn along the steps changes the flows by.
 pub fn amount(board: Board, steps: &[u8]) -> u32
     ensures { λ r. ⌜ r ≡ amount board (stepsOf (now (steps .entry))) ⌝ }
 {
-    let mut a: u32 = 0;
-    let mut i: usize = 0;
-    while i < steps.len() {
-        a = allowed(board, a, steps[i]);
-        i += 1;
-    }
-    a
+    let net = board.network;
+    least_allowed(
+        &net.heads,
+        &board.flows,
+        &board.places,
+        &net.demands,
+        net.terminals,
+        steps,
+    )
 }

@@ -1,16 +1,19 @@
 -- Why a record says its move back: a carry is told from a turn by its kind, and what stands in the record is what the move is made of. The cycle of a board
 -- in play has no more steps than the board has vertices, so that all its bytes have places, and a byte says its step back.
 use mathlib.Core.Path.{_≡_, refl, sym, ap, _∙_}
-use mathlib.Core.Bool.{true, false}
+use mathlib.Core.Bool.{Bool, true, false}
 use Prim.Native.Nat.{ℕ, _<_, _≤_}
 use native.Mathlib.Omega.{arith}
 use lib.ListN.{length, take, replicate}
 use borrow.Author.Tests.{leb-true, lt-ltb, le-ltb, eq-eqb, ne-eqb}
+use Rattle.lists.specs.Choice.{pick, both}
+use Rattle.lists.specs.Lists.{lowest}
 use Rattle.lists.proofs.Laws.{Known, was-true, was-false, known, pick-yes, pick-no, both-left, both-right}
 use Rattle.board.specs.Limits.{maxVertices, maxEdges}
 use Rattle.board.specs.declared.Board.{Board}
 use Rattle.guard.specs.Guard.{intact, playing}
-use Rattle.opening.specs.Opens.{openEdge, openTerminal, someOpen}
+use Rattle.guard.specs.Parts.{marked, demand, place}
+use Rattle.opening.specs.Opens.{flowFits, enters, isOpen, openEdge, openTerminal, someOpen}
 use Rattle.steps.specs.Steps.{stepsOf}
 use Rattle.walking.specs.Walk.{packed, walked}
 use Rattle.walking.specs.declared.Walk.{Walk}
@@ -21,6 +24,8 @@ use Rattle.choosing.specs.Choosing.{
   augment,
   carryKind,
   turnKind,
+  markedOpen,
+  markedFits,
   markedEdge,
   chosenEdge,
   nextCycle,
@@ -38,15 +43,32 @@ pub act-turn : (a : Advice) → (a .kind ≡ carryKind → ⊥) → actOf a ≡ 
 unfolding actOf
 act-turn a h = pick-no _ _ _ (ne-eqb (a .kind) carryKind h)
 
+-- over a marked edge the flow of an open carry is the demand, so the search for a marked one need not ask for more
+marked-same : (b : Board) (i e : ℕ) → markedFits (b .network .heads) (b .flows) (b .marks) (place b i) (demand b i) e ≡ markedOpen b i e
+unfolding markedOpen markedFits isOpen enters flowFits both pick
+marked-same b i e = go (known (marked b e))
+  where
+    go : Known (marked b e) → markedFits (b .network .heads) (b .flows) (b .marks) (place b i) (demand b i) e ≡ markedOpen b i e
+    go (was-true t) = rw t
+    go (was-false t) = rw t
+
+marked-found : (b : Board) (i : ℕ) → lowest (markedFits (b .network .heads) (b .flows) (b .marks) (place b i) (demand b i)) 0 (b .network .edges) ≡ markedEdge b i
+unfolding markedEdge
+marked-found b i = ap (λ (p : ℕ → Bool). lowest p 0 (b .network .edges)) (λ k e. marked-same b i e k)
+
 -- the edge of a carry, by whether a marked one is open
-module _ (b : Board) (i e : ℕ) (h : e ≡ markedEdge b i) where
+module _ (b : Board) (i v d e : ℕ) (hv : v ≡ place b i) (hd : d ≡ demand b i)
+    (h : e ≡ lowest (markedFits (b .network .heads) (b .flows) (b .marks) v d) 0 (b .network .edges)) where
+  found : e ≡ markedEdge b i
+  found = h ∙ rw (hv, hd) (marked-found b i)
+
   pub chosen-marked : e < b .network .edges → e ≡ chosenEdge b i
   unfolding chosenEdge
-  chosen-marked below = rw (← h) (sym (pick-yes _ _ _ (lt-ltb e (b .network .edges) below)))
+  chosen-marked below = rw (← found) (sym (pick-yes _ _ _ (lt-ltb e (b .network .edges) below)))
 
   pub chosen-other : b .network .edges ≤ e → openEdge b i ≡ chosenEdge b i
   unfolding chosenEdge
-  chosen-other above = rw (← h) (sym (pick-no _ _ _ (le-ltb e (b .network .edges) above)))
+  chosen-other above = rw (← found) (sym (pick-no _ _ _ (le-ltb e (b .network .edges) above)))
 
 -- the next move, by whether a carry is open
 pub next-carry : (b : Board) → someOpen b ≡ true → nextAct b ≡ relocate (openTerminal b) (chosenEdge b (openTerminal b))
@@ -57,14 +79,21 @@ pub next-turn : (b : Board) → someOpen b ≡ false → nextAct b ≡ augment (
 unfolding nextAct
 next-turn b h = pick-no _ _ _ h
 
--- the records that the code puts together, part by part
-pub makes-carry : (b : Board) (i e : ℕ) → someOpen b ≡ true → i ≡ openTerminal b → e ≡ chosenEdge b i
-    → record { kind = carryKind; terminal = i; edge = e; count = 0; steps = replicate maxEdges 0 } ≡ adviceOf (nextAct b)
-makes-carry b i e h hi he = rw (next-carry b h, he, hi)
+-- the records that the code puts together, part by part, from the search for a terminal with an open carry
+module _ (b : Board) (i : ℕ) (hi : i ≡ openTerminal b) where
+  pub makes-carry : (e : ℕ) → i < b .network .terminals → e ≡ chosenEdge b i
+      → record { kind = carryKind; terminal = i; edge = e; count = 0; steps = replicate maxEdges 0 } ≡ adviceOf (nextAct b)
+  unfolding someOpen
+  makes-carry e below he =
+      let some : someOpen b ≡ true = rw (← hi) (lt-ltb i (b .network .terminals) below) in
+      rw (next-carry b some, he, hi)
 
-pub makes-turn : (b : Board) (w : Walk) → someOpen b ≡ false → w ≡ packed (nextCycle b)
-    → record { kind = turnKind; terminal = 0; edge = 0; count = w .count; steps = w .steps } ≡ adviceOf (nextAct b)
-makes-turn b w h hw = rw (next-turn b h, hw)
+  pub makes-turn : (w : Walk) → b .network .terminals ≤ i → w ≡ packed (nextCycle b)
+      → record { kind = turnKind; terminal = 0; edge = 0; count = w .count; steps = w .steps } ≡ adviceOf (nextAct b)
+  unfolding someOpen
+  makes-turn w above hw =
+      let none : someOpen b ≡ false = rw (← hi) (le-ltb i (b .network .terminals) above) in
+      rw (next-turn b none, hw)
 
 -- a board in play has few vertices
 pub playing-vertices : (b : Board) → playing b ≡ true → b .network .vertices ≤ maxEdges

@@ -1,13 +1,15 @@
 // The move that the solver makes next.
 use board::Board;
+use board::EdgeSet;
 use walking::Walk;
 ghost use mathlib.Core.Path.{_≡_};
 ghost use mathlib.Core.Bool.{true};
 ghost use Prim.Native.Nat.{_≤_};
+ghost use Rattle.lists.specs.Lists.{lowest};
 ghost use Rattle.board.specs.Limits.{maxEdges};
 ghost use Rattle.guard.specs.Guard.{playing};
 ghost use Rattle.walking.specs.Walk.{packed};
-ghost use Rattle.choosing.specs.Choosing.{allHome, markedOpen, markedEdge, chosenEdge, judge, nextCycle, nextAct, noAdvice, adviceOf, actOf};
+ghost use Rattle.choosing.specs.Choosing.{allHome, markedFits, chosenEdge, judge, nextCycle, nextAct, noAdvice, adviceOf, actOf};
 
 // A move to make: its kind, and its parts. What a kind does not need is 0.
 pub struct Advice {
@@ -46,9 +48,10 @@ pub fn all_home(board: Board) -> bool
 {
     let net = board.network;
     let terminals = net.terminals;
+    let source = net.source;
     let mut i: u32 = 0;
     while i < terminals {
-        if !carrying::is_home(board, i) {
+        if lists::word_at(&board.places, i as usize) != source {
             return false;
         }
         i += 1;
@@ -56,24 +59,38 @@ pub fn all_home(board: Board) -> bool
     true
 }
 
-// Whether edge e is marked and its carry of terminal i is open.
-fn marked_open(board: Board, i: u32, e: u32) -> bool
-    ensures { λ r. ⌜ r ≡ markedOpen board i e ⌝ }
+// Whether edge e is marked, enters this vertex and has just this flow: a carry over a marked edge is open where its flow equals the demand.
+fn marked_fits<'a>(
+    heads: &'a [u32],
+    flows: &'a [u32],
+    marks: EdgeSet,
+    place: u32,
+    demand: u32,
+    e: usize,
+) -> bool
+    ensures { λ r. ⌜ r ≡ markedFits (now (heads .entry)) (now (flows .entry)) marks place demand e ⌝ }
 {
-    let mark = sets::has(board.marks, e as usize);
-    let fitting = opening::is_open(board, i, e);
+    let mark = sets::has(marks, e);
+    let head = lists::word_at(heads, e);
+    let flow = lists::word_at(flows, e);
+    let fitting = lists::and(head == place, flow == demand);
     lists::and(mark, fitting)
 }
 
-// The lowest marked edge of an open carry of terminal i, or the count of edges.
-fn marked_edge(board: Board, i: u32) -> u32
-    ensures { λ r. ⌜ r ≡ markedEdge board i ⌝ }
+// The lowest such edge, or the count of edges.
+fn marked_edge<'a>(
+    heads: &'a [u32],
+    flows: &'a [u32],
+    marks: EdgeSet,
+    place: u32,
+    demand: u32,
+    edges: u32,
+) -> u32
+    ensures { λ r. ⌜ r ≡ lowest (markedFits (now (heads .entry)) (now (flows .entry)) marks place demand) 0 edges ⌝ }
 {
-    let net = board.network;
-    let edges = net.edges;
     let mut e: u32 = 0;
     while e < edges {
-        if marked_open(board, i, e) {
+        if marked_fits(heads, flows, marks, place, demand, e as usize) {
             return e;
         }
         e += 1;
@@ -86,7 +103,16 @@ fn chosen_edge(board: Board, i: u32) -> u32
     ensures { λ r. ⌜ r ≡ chosenEdge board i ⌝ }
 {
     let net = board.network;
-    let edge = marked_edge(board, i);
+    let place = lists::word_at(&board.places, i as usize);
+    let demand = lists::word_at(&net.demands, i as usize);
+    let edge = marked_edge(
+        &net.heads,
+        &board.flows,
+        board.marks,
+        place,
+        demand,
+        net.edges,
+    );
     if edge < net.edges {
         return edge;
     }
@@ -113,8 +139,9 @@ pub fn next(board: Board) -> Advice
     requires { ⌜ playing board ≡ true ⌝ }
     ensures { λ r. ⌜ r ≡ adviceOf (nextAct board) ⌝ }
 {
-    if opening::some_open(board) {
-        let terminal = opening::open_terminal(board);
+    let net = board.network;
+    let terminal = opening::open_terminal(board);
+    if terminal < net.terminals {
         let edge = chosen_edge(board, terminal);
         return Advice {
             kind: Advice::CARRY,

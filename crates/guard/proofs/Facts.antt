@@ -1,4 +1,4 @@
--- What a board in play has passed: each test of `playing`, read as the fact it tests.
+-- What an intact board has passed, and so a board in play: each test, read as the fact it tests.
 use mathlib.Core.Path.{_≡_, sym, _∙_}
 use mathlib.Core.Bool.{true}
 use mathlib.Core.Logic.{_⊎_, inl, inr}
@@ -14,35 +14,37 @@ use Rattle.board.specs.Limits.{maxEdges, maxTerminals, maxMoves, maxFlow, maxTo
 use Rattle.board.specs.declared.Board.{Board}
 use Rattle.rules.specs.Rules.{countsFit}
 use Rattle.journal.specs.Moved.{lastEntry}
-use Rattle.guard.specs.declared.Part.the-variants.{Edge, Terminal}
 use Rattle.guard.specs.Parts.{flow, demand}
-use Rattle.guard.specs.Guard.{edgeIntact, terminalIntact, partIntact, moveIntact, intact, playing}
+use Rattle.guard.specs.Guard.{edgeIntact, terminalIntact, moveIntact, intact, playing}
 
-module _ (b : Board) (play : playing b ≡ true) where
+module _ (b : Board) (sound : intact b ≡ true) where
   tests : both (countsFit (b .network))
-      (both (all (partIntact Edge b) 0 maxEdges)
-      (both (all (partIntact Terminal b) 0 maxTerminals) (both (leb (b .moves) maxMoves) (moveIntact (lastEntry b .step))))) ≡ true
-  unfolding playing intact
-  tests = both-right _ _ play
+      (both (all (edgeIntact b) 0 maxEdges)
+      (both (all (terminalIntact b) 0 maxTerminals) (both (leb (b .moves) maxMoves) (moveIntact (lastEntry b .step))))) ≡ true
+  unfolding intact
+  tests = sound
 
-  pub playing-edges : b .network .edges ≤ maxEdges
-  playing-edges = leb-true _ _ (both-right _ _ (both-left _ _ (both-right _ _ (both-left _ _ tests))))
+  pub intact-edges : b .network .edges ≤ maxEdges
+  intact-edges = leb-true _ _ (both-right _ _ (both-left _ _ (both-right _ _ (both-left _ _ tests))))
 
-  pub playing-moves : b .moves ≤ maxMoves
-  playing-moves = leb-true _ _ (both-left _ _ (both-right _ _ (both-right _ _ (both-right _ _ tests))))
+  pub intact-terminals : b .network .terminals ≤ maxTerminals
+  intact-terminals = leb-true _ _ (both-right _ _ (both-left _ _ (both-right _ _ (both-right _ _ (both-left _ _ tests)))))
 
-  pub playing-last : moveIntact (lastEntry b .step) ≡ true
-  playing-last = both-right _ _ (both-right _ _ (both-right _ _ (both-right _ _ tests)))
+  pub intact-moves : b .moves ≤ maxMoves
+  intact-moves = leb-true _ _ (both-left _ _ (both-right _ _ (both-right _ _ (both-right _ _ tests))))
+
+  pub intact-last : moveIntact (lastEntry b .step) ≡ true
+  intact-last = both-right _ _ (both-right _ _ (both-right _ _ (both-right _ _ tests)))
 
   edge : (e : ℕ) → e < maxEdges → edgeIntact b e ≡ true
-  edge e h = all-from (partIntact Edge b) maxEdges e (both-left _ _ (both-right _ _ tests)) h
+  edge e h = all-from (edgeIntact b) maxEdges e (both-left _ _ (both-right _ _ tests)) h
 
   terminal : (j : ℕ) → j < maxTerminals → terminalIntact b j ≡ true
-  terminal j h = all-from (partIntact Terminal b) maxTerminals j (both-left _ _ (both-right _ _ (both-right _ _ tests))) h
+  terminal j h = all-from (terminalIntact b) maxTerminals j (both-left _ _ (both-right _ _ (both-right _ _ tests))) h
 
   -- no flow and no demand is large, whatever the index
-  pub playing-flow : length (b .flows) ≡ maxEdges → (e : ℕ) → flow b e ≤ maxTotal
-  playing-flow long e = go (lt-or-ge e maxEdges) (known (eqb (getD (b .acyclic) e 0) 0))
+  pub intact-flow : length (b .flows) ≡ maxEdges → (e : ℕ) → flow b e ≤ maxTotal
+  intact-flow long e = go (lt-or-ge e maxEdges) (known (eqb (getD (b .acyclic) e 0) 0))
     where
       go : (e < maxEdges) ⊎ (maxEdges ≤ e) → Known (eqb (getD (b .acyclic) e 0) 0) → flow b e ≤ maxTotal
       go (inl h) (was-true t) =
@@ -53,8 +55,8 @@ module _ (b : Board) (play : playing b ≡ true) where
           let z : flow b e ≡ 0 = List·getD-eq-default (b .flows) 0 (omega (arith, long)) in
           omega arith
 
-  pub playing-demand : length (b .network .demands) ≡ maxTerminals → (j : ℕ) → demand b j ≤ maxFlow
-  playing-demand long j = go (lt-or-ge j maxTerminals) (known (ltb j (b .network .terminals)))
+  pub intact-demand : length (b .network .demands) ≡ maxTerminals → (j : ℕ) → demand b j ≤ maxFlow
+  intact-demand long j = go (lt-or-ge j maxTerminals) (known (ltb j (b .network .terminals)))
     where
       go : (j < maxTerminals) ⊎ (maxTerminals ≤ j) → Known (ltb j (b .network .terminals)) → demand b j ≤ maxFlow
       go (inl h) (was-true t) = leb-true _ _ (both-right _ _ (both-right _ _ (sym (pick-yes _ _ _ t) ∙ both-left _ _ (terminal j h))))
@@ -64,3 +66,23 @@ module _ (b : Board) (play : playing b ≡ true) where
       go (inr h) t =
           let z : demand b j ≡ 0 = List·getD-eq-default (b .network .demands) 0 (omega (arith, long)) in
           omega arith
+
+module _ (b : Board) (play : playing b ≡ true) where
+  sound : intact b ≡ true
+  unfolding playing
+  sound = both-right _ _ play
+
+  pub playing-edges : b .network .edges ≤ maxEdges
+  playing-edges = intact-edges b sound
+
+  pub playing-moves : b .moves ≤ maxMoves
+  playing-moves = intact-moves b sound
+
+  pub playing-last : moveIntact (lastEntry b .step) ≡ true
+  playing-last = intact-last b sound
+
+  pub playing-flow : length (b .flows) ≡ maxEdges → (e : ℕ) → flow b e ≤ maxTotal
+  playing-flow = intact-flow b sound
+
+  pub playing-demand : length (b .network .demands) ≡ maxTerminals → (j : ℕ) → demand b j ≤ maxFlow
+  playing-demand = intact-demand b sound

@@ -1,6 +1,7 @@
 -- Which records the calls work on: counts within the limits, indices within the counts, numbers small enough that no sum wraps. A board is plain
 -- data, so a caller may hand in any; one that fails this test was never loaded.
 use mathlib.Core.Bool.{Bool, true}
+use mathlib.Core.List.{List}
 use Prim.Native.Nat.{ℕ}
 use lib.Dec.{leb, ltb, eqb}
 use lib.ListN.{getD}
@@ -9,30 +10,38 @@ use Rattle.lists.specs.Lists.{all}
 use Rattle.board.specs.Limits.{maxEdges, maxTerminals, maxMoves, maxTotal}
 use Rattle.board.specs.Record.{playStage}
 use Rattle.board.specs.declared.Board.{Board}
+use Rattle.board.specs.declared.Network.{Network}
 use Rattle.board.specs.declared.Move.{Move}
 use Rattle.board.specs.declared.Move.the-variants.{Carry, Turn}
-use Rattle.rules.specs.Rules.{countsFit, edgeFits, terminalFits}
+use Rattle.rules.specs.Rules.{edgeNumbersFit, terminalNumbersFit, countsFit}
 use Rattle.journal.specs.Moved.{lastEntry}
-use Rattle.guard.specs.declared.Part.{Part}
-use Rattle.guard.specs.declared.Part.the-variants.{Edge, Terminal}
 
 -- an edge's numbers fit; its acyclic flow is at most the text's, and where that is 0 its flow is 0
+abbrev pub edgeNumbersIntact : Bool → ℕ → ℕ → ℕ → ℕ → ℕ → ℕ → Bool
+edgeNumbersIntact isEdge tail head text first flow vertices =
+    both (edgeNumbersFit isEdge tail head text vertices) (both (leb first text) (pick (eqb first 0) (eqb flow 0) (leb flow maxTotal)))
+
+-- the same at place i of a network, the acyclic flows and the flows
+abbrev pub edgeIntactIn : Network → List ℕ → List ℕ → ℕ → Bool
+edgeIntactIn net acyclic flows i =
+    edgeNumbersIntact (ltb i (net .edges)) (getD (net .tails) i 0) (getD (net .heads) i 0) (getD (net .flows) i 0) (getD acyclic i 0) (getD flows i 0) (net .vertices)
+
+-- the same at place i of a board
 abbrev pub edgeIntact : Board → ℕ → Bool
-edgeIntact b i =
-    both (edgeFits (b .network) i)
-    (both (leb (getD (b .acyclic) i 0) (getD (b .network .flows) i 0))
-    (pick (eqb (getD (b .acyclic) i 0) 0) (eqb (getD (b .flows) i 0) 0) (leb (getD (b .flows) i 0) maxTotal)))
+edgeIntact b i = edgeIntactIn (b .network) (b .acyclic) (b .flows) i
 
--- a terminal's numbers fit, and it is at a vertex; a place past the terminals holds 0
+-- a terminal's numbers fit, and it is at a vertex; the numbers of a place past the terminals are 0
+abbrev pub terminalNumbersIntact : Bool → ℕ → ℕ → ℕ → ℕ → Bool
+terminalNumbersIntact isTerminal home demand place vertices =
+    both (terminalNumbersFit isTerminal home demand vertices) (pick isTerminal (ltb place vertices) (eqb place 0))
+
+-- the same at place j of a network and the places
+abbrev pub terminalIntactIn : Network → List ℕ → ℕ → Bool
+terminalIntactIn net places j = terminalNumbersIntact (ltb j (net .terminals)) (getD (net .homes) j 0) (getD (net .demands) j 0) (getD places j 0) (net .vertices)
+
+-- the same at place j of a board
 abbrev pub terminalIntact : Board → ℕ → Bool
-terminalIntact b j =
-    both (terminalFits (b .network) j)
-    (pick (ltb j (b .network .terminals)) (ltb (getD (b .places) j 0) (b .network .vertices)) (eqb (getD (b .places) j 0) 0))
-
--- each of them
-abbrev pub partIntact : Part → Board → ℕ → Bool
-partIntact Edge b i = edgeIntact b i
-partIntact Terminal b j = terminalIntact b j
+terminalIntact b j = terminalIntactIn (b .network) (b .places) j
 
 -- a turn's amount is one that can be taken back
 abbrev pub moveIntact : Move → Bool
@@ -43,8 +52,8 @@ moveIntact (Turn a) = leb (a .amount) maxTotal
 unfoldable pub intact : Board → Bool
 intact b =
     both (countsFit (b .network))
-    (both (all (partIntact Edge b) 0 maxEdges)
-    (both (all (partIntact Terminal b) 0 maxTerminals) (both (leb (b .moves) maxMoves) (moveIntact (lastEntry b .step)))))
+    (both (all (edgeIntact b) 0 maxEdges)
+    (both (all (terminalIntact b) 0 maxTerminals) (both (leb (b .moves) maxMoves) (moveIntact (lastEntry b .step)))))
 
 -- 20: "play is over (a finish was accepted), or no board was loaded"
 unfoldable pub playing : Board → Bool

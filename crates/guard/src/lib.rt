@@ -1,19 +1,13 @@
 // Which boards the calls work on.
 use board::Board;
 use board::Move;
-use rules::Rule;
+use board::Network;
 ghost use mathlib.Core.Path.{_≡_};
 ghost use lib.Dec.{leb, ltb, eqb};
 ghost use Rattle.lists.specs.Choice.{pick};
 ghost use Rattle.lists.specs.Lists.{all};
-ghost use Rattle.board.specs.Limits.{maxTotal};
-ghost use Rattle.guard.specs.Guard.{edgeIntact, terminalIntact, partIntact, moveIntact, intact, playing};
-
-// The parts of a board that there are many of.
-pub enum Part {
-    Edge,
-    Terminal,
-}
+ghost use Rattle.board.specs.Limits.{maxEdges, maxTerminals, maxTotal};
+ghost use Rattle.guard.specs.Guard.{edgeNumbersIntact, edgeIntactIn, terminalNumbersIntact, terminalIntactIn, moveIntact, intact, playing};
 
 // Whether an edge's flow is small, and 0 where its acyclic flow is.
 fn small_flow(first: u32, flow: u32) -> bool
@@ -26,16 +20,48 @@ fn small_flow(first: u32, flow: u32) -> bool
     }
 }
 
-fn edge_intact(board: Board, i: u32) -> bool
-    ensures { λ r. ⌜ r ≡ edgeIntact board i ⌝ }
+// Whether the numbers of an edge are intact, or those of a place past the edges.
+fn edge_intact(
+    is_edge: bool,
+    tail: u32,
+    head: u32,
+    text: u32,
+    first: u32,
+    flow: u32,
+    vertices: u32,
+) -> bool
+    ensures { λ r. ⌜ r ≡ edgeNumbersIntact «is_edge» tail head text first flow vertices ⌝ }
 {
-    let net = board.network;
-    let text = lists::word_at(&net.flows, i as usize);
-    let first = lists::word_at(&board.acyclic, i as usize);
-    let flow = lists::word_at(&board.flows, i as usize);
-    let fits = rules::keeps(Rule::EdgeFits, net, i);
+    let fits = rules::edge_numbers_fit(is_edge, tail, head, text, vertices);
     let small = small_flow(first, flow);
     lists::and(fits, lists::and(first <= text, small))
+}
+
+// Whether every edge is intact.
+fn edges_intact(
+    net: Network,
+    acyclic: [u32; Board::MAX_EDGES],
+    flows: [u32; Board::MAX_EDGES],
+) -> bool
+    ensures { λ r. ⌜ r ≡ all (edgeIntactIn net acyclic flows) 0 maxEdges ⌝ }
+{
+    let mut i: usize = 0;
+    while i < Board::MAX_EDGES {
+        let is_edge = i < net.edges as usize;
+        if !edge_intact(
+            is_edge,
+            net.tails[i],
+            net.heads[i],
+            net.flows[i],
+            acyclic[i],
+            flows[i],
+            net.vertices,
+        ) {
+            return false;
+        }
+        i += 1;
+    }
+    true
 }
 
 // Whether a terminal is at a vertex, and a place past the terminals holds 0.
@@ -49,35 +75,32 @@ fn placed(is_terminal: bool, place: u32, vertices: u32) -> bool
     }
 }
 
-fn terminal_intact(board: Board, j: u32) -> bool
-    ensures { λ r. ⌜ r ≡ terminalIntact board j ⌝ }
+// Whether the numbers of a terminal are intact, or those of a place past the terminals.
+fn terminal_intact(is_terminal: bool, home: u32, demand: u32, place: u32, vertices: u32) -> bool
+    ensures { λ r. ⌜ r ≡ terminalNumbersIntact «is_terminal» home demand place vertices ⌝ }
 {
-    let net = board.network;
-    let place = lists::word_at(&board.places, j as usize);
-    let fits = rules::keeps(Rule::TerminalFits, net, j);
-    let there = placed(j < net.terminals, place, net.vertices);
+    let fits = rules::terminal_numbers_fit(is_terminal, home, demand, vertices);
+    let there = placed(is_terminal, place, vertices);
     lists::and(fits, there)
 }
 
-fn part_intact(part: Part, board: Board, i: u32) -> bool
-    ensures { λ r. ⌜ r ≡ partIntact part board i ⌝ }
+// Whether every terminal is intact.
+fn terminals_intact(net: Network, places: [u32; Board::MAX_TERMINALS]) -> bool
+    ensures { λ r. ⌜ r ≡ all (terminalIntactIn net places) 0 maxTerminals ⌝ }
 {
-    match part {
-        Part::Edge => edge_intact(board, i),
-        Part::Terminal => terminal_intact(board, i),
-    }
-}
-
-// Whether the first n parts are intact.
-fn all_intact(part: Part, board: Board, n: u32) -> bool
-    ensures { λ r. ⌜ r ≡ all (partIntact part board) 0 n ⌝ }
-{
-    let mut i: u32 = 0;
-    while i < n {
-        if !part_intact(part, board, i) {
+    let mut j: usize = 0;
+    while j < Board::MAX_TERMINALS {
+        let is_terminal = j < net.terminals as usize;
+        if !terminal_intact(
+            is_terminal,
+            net.homes[j],
+            net.demands[j],
+            places[j],
+            net.vertices,
+        ) {
             return false;
         }
-        i += 1;
+        j += 1;
     }
     true
 }
@@ -98,8 +121,11 @@ pub fn intact(board: Board) -> bool
 {
     let net = board.network;
     let counts = judging::counts_fit(net);
-    let edges = all_intact(Part::Edge, board, Board::MAX_EDGES as u32);
-    let terminals = all_intact(Part::Terminal, board, Board::MAX_TERMINALS as u32);
+    let acyclic = board.acyclic;
+    let flows = board.flows;
+    let edges = edges_intact(net, acyclic, flows);
+    let places = board.places;
+    let terminals = terminals_intact(net, places);
     let last = journal::last_entry(board);
     let step = last.step;
     let small = move_intact(step);

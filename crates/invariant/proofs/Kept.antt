@@ -13,7 +13,6 @@ use Rattle.lists.specs.Lists.{all}
 use Rattle.lists.proofs.Laws.{Known, was-true, was-false, known, lt-or-ge, pick-yes, pick-no, both-left, both-right, both-true, all-from, all-zero}
 use Rattle.board.specs.Limits.{maxEdges, maxTerminals, maxMoves, maxFlow, maxTotal}
 use Rattle.board.specs.declared.Board.{Board}
-use Rattle.guard.specs.declared.Part.the-variants.{Edge, Terminal}
 use Rattle.rules.specs.Rules.{edgeFits, terminalFits, countsFit, judged, lawful, Lawful}
 use Rattle.rules.proofs.Meaning.{lawful-tested}
 use Rattle.flows.specs.Paths.{Positive, rank}
@@ -21,7 +20,7 @@ use Rattle.flows.proofs.Rank.{rank-rises}
 use Rattle.flows.proofs.Cut.{flow-most}
 use Rattle.loader.specs.Load.{acyclicOf}
 use Rattle.guard.specs.Parts.{flow, first, place}
-use Rattle.guard.specs.Guard.{edgeIntact, terminalIntact, partIntact, intact}
+use Rattle.guard.specs.Guard.{edgeIntact, terminalIntact, intact}
 use Rattle.invariant.specs.Invariant.{Invariant}
 use Rattle.invariant.proofs.Network.{within, within-first, long-tails, long-heads, long-first, first-below, first-acyclic, source-rank}
 
@@ -99,6 +98,6 @@ module _ (b : Board) (inv : Invariant b) where
   unfolding intact
   kept-intact h =
       both-true _ _ (both-left _ _ fits)
-      (both-true _ _ (all-zero (partIntact Edge b) maxEdges edge-intact)
-      (both-true _ _ (all-zero (partIntact Terminal b) maxTerminals terminal-intact)
+      (both-true _ _ (all-zero (edgeIntact b) maxEdges edge-intact)
+      (both-true _ _ (all-zero (terminalIntact b) maxTerminals terminal-intact)
       (both-true _ _ (le-leb _ _ h) (inv .amounts (b .moves - 1)))))

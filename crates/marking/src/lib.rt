@@ -2,37 +2,91 @@
 use board::Board;
 use board::EdgeSet;
 ghost use mathlib.Core.Path.{_≡_};
-ghost use Rattle.marking.specs.Marking.{singular, isFresh, fresh};
+ghost use Prim.Native.Nat.{_≤_};
+ghost use lib.ListN.{length};
+ghost use Rattle.sets.specs.Sets.{setWidth, collect};
+ghost use Rattle.marking.specs.Marking.{singularIn, singular, isFreshIn, fresh};
 
 // Whether the head of edge e, and every vertex reached from it, has at most one positive edge leaving.
+pub fn singular_in<'a>(
+    tails: &'a [u32],
+    heads: &'a [u32],
+    flows: &'a [u32],
+    vertices: u32,
+    e: usize,
+) -> bool
+    ensures { λ r. ⌜ r ≡ singularIn (now (tails .entry)) (now (heads .entry)) (now (flows .entry)) vertices e ⌝ }
+{
+    let head = lists::word_at(heads, e);
+    singular::straight(tails, heads, flows, vertices, head)
+}
+
+// The same on a board.
 pub fn singular(board: Board, e: u32) -> bool
     ensures { λ r. ⌜ r ≡ singular board e ⌝ }
 {
     let net = board.network;
-    let head = lists::word_at(&net.heads, e as usize);
-    singular::straight(&net.tails, &net.heads, &board.flows, net.vertices, head)
+    singular_in(
+        &net.tails,
+        &net.heads,
+        &board.flows,
+        net.vertices,
+        e as usize,
+    )
 }
 
-// Whether edge e is not marked, positive and singular.
-fn is_fresh(board: Board, e: u32) -> bool
-    ensures { λ r. ⌜ r ≡ isFresh board e ⌝ }
+// Whether edge e is not marked, positive and singular. The way on from its head is followed last.
+fn is_fresh<'a>(
+    tails: &'a [u32],
+    heads: &'a [u32],
+    flows: &'a [u32],
+    vertices: u32,
+    marks: EdgeSet,
+    e: usize,
+) -> bool
+    ensures { λ r. ⌜ r ≡ isFreshIn (now (tails .entry)) (now (heads .entry)) (now (flows .entry)) vertices marks e ⌝ }
 {
-    let mark = sets::has(board.marks, e as usize);
-    let flow = lists::word_at(&board.flows, e as usize);
-    let single = singular(board, e);
-    lists::and(!mark, lists::and(0 < flow, single))
+    if sets::has(marks, e) {
+        return false;
+    }
+    if lists::word_at(flows, e) == 0 {
+        return false;
+    }
+    singular_in(tails, heads, flows, vertices, e)
+}
+
+// The set of such edges.
+fn fresh_among<'a>(
+    tails: &'a [u32],
+    heads: &'a [u32],
+    flows: &'a [u32],
+    vertices: u32,
+    marks: EdgeSet,
+) -> EdgeSet
+    requires { ⌜ length (now flows) ≤ setWidth ⌝ }
+    ensures { λ r. ⌜ r ≡ collect (isFreshIn (now (tails .entry)) (now (heads .entry)) (now (flows .entry)) vertices marks) 0 0
+        (length (now (flows .entry))) ⌝ }
+{
+    let mut m: EdgeSet = 0;
+    let mut e: usize = 0;
+    while e < flows.len() {
+        let joins = is_fresh(tails, heads, flows, vertices, marks, e);
+        m = sets::with(m, joins, e);
+        e += 1;
+    }
+    m
 }
 
 // The edges that a turn marks newly.
 pub fn fresh(board: Board) -> EdgeSet
     ensures { λ r. ⌜ r ≡ fresh board ⌝ }
 {
-    let mut m: EdgeSet = 0;
-    let mut e: u32 = 0;
-    while e < Board::MAX_EDGES as u32 {
-        let joins = is_fresh(board, e);
-        m = sets::with(m, joins, e as usize);
-        e += 1;
-    }
-    m
+    let net = board.network;
+    fresh_among(
+        &net.tails,
+        &net.heads,
+        &board.flows,
+        net.vertices,
+        board.marks,
+    )
 }

@@ -1,10 +1,14 @@
 -- Which carries are open: document 01, "Moves".
 use mathlib.Core.Bool.{Bool}
+use mathlib.Core.List.{List}
 use Prim.Native.Nat.{ℕ}
 use lib.Dec.{leb, ltb, eqb}
+use lib.ListN.{getD}
 use Rattle.lists.specs.Choice.{pick, both}
 use Rattle.lists.specs.Lists.{lowest}
+use Rattle.sets.specs.Sets.{hasBit}
 use Rattle.board.specs.declared.Board.{Board}
+use Rattle.board.specs.declared.Network.{Network}
 use Rattle.guard.specs.Parts.{flow, head, marked, demand, place}
 
 -- "the channel is unmarked with flow at or above the need, or marked with flow equal to the need"
@@ -32,3 +36,12 @@ openTerminal b = lowest (hasOpen b) 0 (b .network .terminals)
 -- some carry is open
 unfoldable pub someOpen : Board → Bool
 someOpen b = ltb (openTerminal b) (b .network .terminals)
+
+-- `isOpen` over the lists of a board: the carry over edge e is open for a terminal with that place and demand
+unfoldable pub isOpenAt : List ℕ → List ℕ → ℕ → ℕ → ℕ → ℕ → Bool
+isOpenAt heads flows marks place demand e = both (eqb (getD heads e 0) place) (flowFits (hasBit marks e) (getD flows e 0) demand)
+
+-- `hasOpen` over the parts of a board: terminal i of a network with these flows, marks and places has an open carry
+unfoldable pub hasOpenIn : Network → List ℕ → ℕ → List ℕ → ℕ → Bool
+hasOpenIn net flows marks places i =
+    ltb (lowest (isOpenAt (net .heads) flows marks (getD places i 0) (getD (net .demands) i 0)) 0 (net .edges)) (net .edges)

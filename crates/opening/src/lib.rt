@@ -1,8 +1,11 @@
 // Which carries are open.
 use board::Board;
+use board::EdgeSet;
+use board::Network;
 ghost use mathlib.Core.Path.{_≡_};
+ghost use Rattle.lists.specs.Lists.{lowest};
 ghost use Rattle.guard.specs.Parts.{flow, demand, marked};
-ghost use Rattle.opening.specs.Opens.{flowFits, enters, isOpen, openEdge, hasOpen, openTerminal, someOpen};
+ghost use Rattle.opening.specs.Opens.{flowFits, enters, isOpen, openEdge, openTerminal, someOpen, isOpenAt, hasOpenIn};
 
 fn flow_fits(mark: bool, flow: u32, demand: u32) -> bool
     ensures { λ r. ⌜ r ≡ flowFits mark flow demand ⌝ }
@@ -31,24 +34,38 @@ pub fn enters(board: Board, i: u32, e: u32) -> bool
     head == place
 }
 
-// Whether the carry of terminal i over edge e is open.
-pub fn is_open(board: Board, i: u32, e: u32) -> bool
-    ensures { λ r. ⌜ r ≡ isOpen board i e ⌝ }
+// Whether the carry over edge e is open for a terminal with that place and demand.
+pub fn is_open_at<'a>(
+    heads: &'a [u32],
+    flows: &'a [u32],
+    marks: EdgeSet,
+    place: u32,
+    demand: u32,
+    e: u32,
+) -> bool
+    ensures { λ r. ⌜ r ≡ isOpenAt (now (heads .entry)) (now (flows .entry)) marks place demand e ⌝ }
 {
-    let entering = enters(board, i, e);
-    let fitting = fits(board, i, e);
-    lists::and(entering, fitting)
+    let head = lists::word_at(heads, e as usize);
+    let flow = lists::word_at(flows, e as usize);
+    let mark = sets::has(marks, e as usize);
+    let fitting = flow_fits(mark, flow, demand);
+    lists::and(head == place, fitting)
 }
 
-// The lowest edge of an open carry of terminal i, or the count of edges.
-pub fn open_edge(board: Board, i: u32) -> u32
-    ensures { λ r. ⌜ r ≡ openEdge board i ⌝ }
+// The lowest such edge, or the count of edges.
+fn lowest_open<'a>(
+    heads: &'a [u32],
+    flows: &'a [u32],
+    marks: EdgeSet,
+    place: u32,
+    demand: u32,
+    edges: u32,
+) -> u32
+    ensures { λ r. ⌜ r ≡ lowest (isOpenAt (now (heads .entry)) (now (flows .entry)) marks place demand) 0 edges ⌝ }
 {
-    let net = board.network;
-    let edges = net.edges;
     let mut e: u32 = 0;
     while e < edges {
-        if is_open(board, i, e) {
+        if is_open_at(heads, flows, marks, place, demand, e) {
             return e;
         }
         e += 1;
@@ -56,23 +73,50 @@ pub fn open_edge(board: Board, i: u32) -> u32
     e
 }
 
-// Whether terminal i has an open carry.
-fn has_open(board: Board, i: u32) -> bool
-    ensures { λ r. ⌜ r ≡ hasOpen board i ⌝ }
+// Whether the carry of terminal i over edge e is open.
+pub fn is_open(board: Board, i: u32, e: u32) -> bool
+    ensures { λ r. ⌜ r ≡ isOpen board i e ⌝ }
 {
     let net = board.network;
-    open_edge(board, i) < net.edges
+    let place = lists::word_at(&board.places, i as usize);
+    let demand = lists::word_at(&net.demands, i as usize);
+    is_open_at(&net.heads, &board.flows, board.marks, place, demand, e)
 }
 
-// The lowest terminal with an open carry, or the count of terminals.
-pub fn open_terminal(board: Board) -> u32
-    ensures { λ r. ⌜ r ≡ openTerminal board ⌝ }
+// The lowest edge of an open carry of terminal i, or the count of edges.
+pub fn open_edge(board: Board, i: u32) -> u32
+    ensures { λ r. ⌜ r ≡ openEdge board i ⌝ }
 {
     let net = board.network;
+    let place = lists::word_at(&board.places, i as usize);
+    let demand = lists::word_at(&net.demands, i as usize);
+    lowest_open(
+        &net.heads,
+        &board.flows,
+        board.marks,
+        place,
+        demand,
+        net.edges,
+    )
+}
+
+// Whether terminal i has an open carry.
+fn has_open<'a>(net: Network, flows: &'a [u32], marks: EdgeSet, places: &'a [u32], i: u32) -> bool
+    ensures { λ r. ⌜ r ≡ hasOpenIn net (now (flows .entry)) marks (now (places .entry)) i ⌝ }
+{
+    let place = lists::word_at(places, i as usize);
+    let demand = lists::word_at(&net.demands, i as usize);
+    lowest_open(&net.heads, flows, marks, place, demand, net.edges) < net.edges
+}
+
+// The lowest such terminal, or the count of terminals.
+fn lowest_terminal<'a>(net: Network, flows: &'a [u32], marks: EdgeSet, places: &'a [u32]) -> u32
+    ensures { λ r. ⌜ r ≡ lowest (hasOpenIn net (now (flows .entry)) marks (now (places .entry))) 0 (net .terminals) ⌝ }
+{
     let terminals = net.terminals;
     let mut i: u32 = 0;
     while i < terminals {
-        if has_open(board, i) {
+        if has_open(net, flows, marks, places, i) {
             return i;
         }
         i += 1;
@@ -80,10 +124,18 @@ pub fn open_terminal(board: Board) -> u32
     i
 }
 
+// The lowest terminal with an open carry, or the count of terminals.
+pub fn open_terminal(board: Board) -> u32
+    ensures { λ r. ⌜ r ≡ openTerminal board ⌝ }
+{
+    let net = board.network;
+    lowest_terminal(net, &board.flows, board.marks, &board.places)
+}
+
 // Whether some carry is open.
 pub fn some_open(board: Board) -> bool
     ensures { λ r. ⌜ r ≡ someOpen board ⌝ }
 {
     let net = board.network;
-    open_terminal(board) < net.terminals
+    lowest_terminal(net, &board.flows, board.marks, &board.places) < net.terminals
 }

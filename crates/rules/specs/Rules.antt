@@ -34,21 +34,23 @@ unfoldable pub balanced : Network → ℕ → Bool
 unfolding sumAt
 balanced net v = pick (eqb v (net .source)) true (eqb (inflow net v) (outflow net v + demandAt net v))
 
--- 2: the numbers of an edge are in their ranges; a place past the edges holds 0
-abbrev pub edgeFits : Network → ℕ → Bool
-edgeFits net i =
-    pick (ltb i (net .edges))
-    (both (ltb (getD (net .tails) i 0) (net .vertices))
-    (both (ltb (getD (net .heads) i 0) (net .vertices)) (leb (getD (net .flows) i 0) maxFlow)))
-    (both (eqb (getD (net .tails) i 0) 0) (both (eqb (getD (net .heads) i 0) 0) (eqb (getD (net .flows) i 0) 0)))
+-- 2: the numbers of an edge are in their ranges; those of a place past the edges are 0
+abbrev pub edgeNumbersFit : Bool → ℕ → ℕ → ℕ → ℕ → Bool
+edgeNumbersFit isEdge tail head flow vertices =
+    pick isEdge (both (ltb tail vertices) (both (ltb head vertices) (leb flow maxFlow))) (both (eqb tail 0) (both (eqb head 0) (eqb flow 0)))
 
--- 2: the numbers of a terminal are in their ranges; a place past the terminals holds 0
+-- the same at place i of a network
+abbrev pub edgeFits : Network → ℕ → Bool
+edgeFits net i = edgeNumbersFit (ltb i (net .edges)) (getD (net .tails) i 0) (getD (net .heads) i 0) (getD (net .flows) i 0) (net .vertices)
+
+-- 2: the numbers of a terminal are in their ranges; those of a place past the terminals are 0
+abbrev pub terminalNumbersFit : Bool → ℕ → ℕ → ℕ → Bool
+terminalNumbersFit isTerminal home demand vertices =
+    pick isTerminal (both (ltb home vertices) (both (leb 1 demand) (leb demand maxFlow))) (both (eqb home 0) (eqb demand 0))
+
+-- the same at place j of a network
 abbrev pub terminalFits : Network → ℕ → Bool
-terminalFits net j =
-    pick (ltb j (net .terminals))
-    (both (ltb (getD (net .homes) j 0) (net .vertices))
-    (both (leb 1 (getD (net .demands) j 0)) (leb (getD (net .demands) j 0) maxFlow)))
-    (both (eqb (getD (net .homes) j 0) 0) (eqb (getD (net .demands) j 0) 0))
+terminalFits net j = terminalNumbersFit (ltb j (net .terminals)) (getD (net .homes) j 0) (getD (net .demands) j 0) (net .vertices)
 
 -- each rule, at one place
 abbrev pub keeps : Rule → Network → ℕ → Bool

@@ -3,13 +3,13 @@ use mathlib.Core.Bool.{Bool, true, false}
 use mathlib.Core.List.{List}
 use Prim.Native.Nat.{ℕ}
 use lib.Dec.{ltb}
+use lib.ListN.{getD}
 use Rattle.lists.specs.Choice.{pick}
 use Rattle.sets.specs.Sets.{joined}
 use Rattle.board.specs.declared.Board.{Board}
 use Rattle.board.specs.declared.Played.{Played}
 use Rattle.board.specs.declared.Move.the-variants.{Turn}
 use Rattle.flows.specs.Trails.{Step, edgeOf}
-use Rattle.guard.specs.Parts.{flow}
 use Rattle.guard.specs.Guard.{playing}
 use Rattle.journal.specs.Moved.{moved, answered}
 use Rattle.opening.specs.Opens.{someOpen}
@@ -20,11 +20,15 @@ use Rattle.marking.specs.Marking.{singular, fresh}
 use Rattle.amounts.specs.Amounts.{amount}
 use Rattle.shifting.specs.Shifts.{shifted}
 
--- 6, 25 and 26, of one step: a channel that the board has; a wet one; "up-steps use single channels"
+-- 6, 25 and 26, of one step: a channel that the board has; a wet one; "up-steps use single channels". By the count of edges, the
+-- flows and the test for a single channel; and on a board
+abbrev pub meetsIn : StepRule → ℕ → List ℕ → (ℕ → Bool) → Step → Bool
+meetsIn OnBoard edges flows single s = ltb (edgeOf s) edges
+meetsIn Positive edges flows single s = ltb 0 (getD flows (edgeOf s) 0)
+meetsIn UpSingular edges flows single s = pick (isUp s) (single (edgeOf s)) true
+
 abbrev pub meets : StepRule → Board → Step → Bool
-meets OnBoard b s = ltb (edgeOf s) (b .network .edges)
-meets Positive b s = ltb 0 (flow b (edgeOf s))
-meets UpSingular b s = pick (isUp s) (singular b (edgeOf s)) true
+meets rule b s = meetsIn rule (b .network .edges) (b .flows) (singular b) s
 
 -- "Turn: 20, 6, 7, 24, 25, 26"
 unfoldable pub turnRefusal : Board → List Step → ℕ

@@ -3,13 +3,19 @@ use board::Augmentation;
 use board::Board;
 use board::Entry;
 use board::Move;
+use board::Network;
 use board::Played;
 ghost use mathlib.Core.Path.{_≡_};
 ghost use mathlib.Core.Bool.{true};
-ghost use Rattle.steps.specs.Steps.{stepOf, stepsOf, every};
+ghost use lib.Dec.{ltb};
+ghost use lib.ListN.{getD};
+ghost use Rattle.lists.specs.Choice.{pick};
+ghost use Rattle.flows.specs.Trails.{edgeOf};
+ghost use Rattle.steps.specs.Steps.{stepOf, stepsOf, isUp, every};
 ghost use Rattle.guard.specs.Guard.{playing};
-ghost use Rattle.turning.specs.declared.StepRule.the-variants.{OnBoard, Positive, UpSingular};
-ghost use Rattle.turning.specs.Turns.{meets, turnRefusal, turned, turnCall};
+ghost use Rattle.marking.specs.Marking.{singularIn};
+ghost use Rattle.turning.specs.declared.StepRule.the-variants.{OnBoard};
+ghost use Rattle.turning.specs.Turns.{meetsIn, meets, turnRefusal, turned, turnCall};
 
 // The rules that each step of a turn keeps.
 pub enum StepRule {
@@ -19,53 +25,92 @@ pub enum StepRule {
 }
 
 // The board has the edge.
-fn on_board(board: Board, s: u8) -> bool
-    ensures { λ r. ⌜ r ≡ meets OnBoard board (stepOf s) ⌝ }
+fn on_board(edges: u32, s: u8) -> bool
+    ensures { λ r. ⌜ r ≡ ltb (edgeOf (stepOf s)) edges ⌝ }
 {
-    let net = board.network;
-    steps::edge_of(s) < net.edges
+    steps::edge_of(s) < edges
 }
 
 // The edge has a flow.
-fn positive(board: Board, s: u8) -> bool
-    ensures { λ r. ⌜ r ≡ meets Positive board (stepOf s) ⌝ }
+fn positive(flows: &[u32], s: u8) -> bool
+    ensures { λ r. ⌜ r ≡ ltb 0 (getD (now (flows .entry)) (edgeOf (stepOf s)) 0) ⌝ }
 {
     let e = steps::edge_of(s) as usize;
-    0 < lists::word_at(&board.flows, e)
+    0 < lists::word_at(flows, e)
 }
 
 // An up-step's edge is singular.
-fn up_singular(board: Board, s: u8) -> bool
-    ensures { λ r. ⌜ r ≡ meets UpSingular board (stepOf s) ⌝ }
+fn up_singular<'a>(
+    tails: &'a [u32],
+    heads: &'a [u32],
+    flows: &'a [u32],
+    vertices: u32,
+    s: u8,
+) -> bool
+    ensures { λ r. ⌜ r ≡ pick (isUp (stepOf s)) (singularIn (now (tails .entry)) (now (heads .entry)) (now (flows .entry)) vertices (edgeOf (stepOf s))) true ⌝ }
 {
     if !steps::is_up(s) {
         return true;
     }
-    marking::singular(board, steps::edge_of(s))
+    let e = steps::edge_of(s) as usize;
+    marking::singular_in(tails, heads, flows, vertices, e)
 }
 
-fn meets(rule: StepRule, board: Board, s: u8) -> bool
-    ensures { λ r. ⌜ r ≡ meets rule board (stepOf s) ⌝ }
+fn meets<'a>(
+    rule: StepRule,
+    edges: u32,
+    tails: &'a [u32],
+    heads: &'a [u32],
+    flows: &'a [u32],
+    vertices: u32,
+    s: u8,
+) -> bool
+    ensures { λ r. ⌜ r ≡ meetsIn rule edges (now (flows .entry))
+        (singularIn (now (tails .entry)) (now (heads .entry)) (now (flows .entry)) vertices) (stepOf s) ⌝ }
 {
     match rule {
-        StepRule::OnBoard => on_board(board, s),
-        StepRule::Positive => positive(board, s),
-        StepRule::UpSingular => up_singular(board, s),
+        StepRule::OnBoard => on_board(edges, s),
+        StepRule::Positive => positive(flows, s),
+        StepRule::UpSingular => up_singular(tails, heads, flows, vertices, s),
     }
 }
 
 // Whether every step keeps a rule.
-fn all_meet(rule: StepRule, board: Board, steps: &[u8]) -> bool
-    ensures { λ r. ⌜ r ≡ every (meets rule board) (stepsOf (now (steps .entry))) ⌝ }
+fn all_meet_in<'a>(
+    rule: StepRule,
+    edges: u32,
+    tails: &'a [u32],
+    heads: &'a [u32],
+    flows: &'a [u32],
+    vertices: u32,
+    steps: &'a [u8],
+) -> bool
+    ensures { λ r. ⌜ r ≡ every (meetsIn rule edges (now (flows .entry))
+        (singularIn (now (tails .entry)) (now (heads .entry)) (now (flows .entry)) vertices)) (stepsOf (now (steps .entry))) ⌝ }
 {
     let mut i: usize = 0;
     while i < steps.len() {
-        if !meets(rule, board, steps[i]) {
+        if !meets(rule, edges, tails, heads, flows, vertices, steps[i]) {
             return false;
         }
         i += 1;
     }
     true
+}
+
+// The same on a network with these flows.
+fn all_meet(rule: StepRule, net: Network, flows: [u32; Board::MAX_EDGES], steps: &[u8]) -> bool
+    ensures { λ r. ⌜ r ≡ every (meetsIn rule (net .edges) flows (singularIn (net .tails) (net .heads) flows (net .vertices))) (stepsOf (now (steps .entry))) ⌝ }
+{
+    all_meet_in(
+        rule,
+        net.edges,
+        &net.tails,
+        &net.heads,
+        &flows,
+        net.vertices,
+        steps,
+    )
 }
 
 // 20, 6, 7, 24, 25 or 26, in this order; 0 where the turn is accepted.
@@ -75,20 +120,21 @@ pub fn turn_refusal(board: Board, steps: &[u8]) -> u32
     if !guard::playing(board) {
         return 20;
     }
-    if !all_meet(StepRule::OnBoard, board, steps) {
+    let net = board.network;
+    let flows = board.flows;
+    if !all_meet(StepRule::OnBoard, net, flows, steps) {
         return 6;
     }
-    let net = board.network;
     if !steps::is_cycle(&net.tails, &net.heads, steps) {
         return 7;
     }
     if opening::some_open(board) {
         return 24;
     }
-    if !all_meet(StepRule::Positive, board, steps) {
+    if !all_meet(StepRule::Positive, net, flows, steps) {
         return 25;
     }
-    if !all_meet(StepRule::UpSingular, board, steps) {
+    if !all_meet(StepRule::UpSingular, net, flows, steps) {
         return 26;
     }
     0

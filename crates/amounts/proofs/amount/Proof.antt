@@ -1,56 +1,14 @@
--- What is left of the run over the steps, from the amount so far, is the whole run.
-use mathlib.Core.Path.{_≡_, refl}
-use Prim.Native.Nat.{_-_}
-use lib.ListN.{length, drop}
-use Rattle.steps.specs.Steps.{stepsOf}
 use Rattle.amounts.specs.Amounts.{amountFrom, amount}
-use Rattle.amounts.proofs.Raising.{amount-turn, amount-end}
 use borrow.Author.Needs.{needs}
-use native.Mathlib.Omega.{arith}
 use Rattle.amounts.proofs.amount.Statement.{statement}
 use Rattle.amounts.proofs.amount.Tie as tie
 
-abbrev Inv-loop : tie.InvT-loop
-Inv-loop board steps a₀ i₀ a i = amountFrom board a (stepsOf (drop i steps)) ≡ amount board (stepsOf steps)
+least-allowed-requires : tie.Need-least-allowed-requires
+least-allowed-requires c κs = search needs
 
-abbrev μ-loop : tie.MeasureT-loop
-μ-loop board steps a₀ i₀ a i = length steps - i
-
-loop-holds : tie.Need-loop-holds Inv-loop μ-loop
-unfolding amount
-loop-holds c = refl
-
-shared-slice-read-allowed : tie.Need-shared-slice-read-allowed Inv-loop μ-loop
-shared-slice-read-allowed c = omega arith
-
-allowed-requires : tie.Need-allowed-requires Inv-loop μ-loop
-allowed-requires c κs = search needs
-
-add-i : tie.Need-add-i Inv-loop μ-loop
-add-i c = omega arith
-
-loop-less : tie.Need-loop-less Inv-loop μ-loop
-loop-less c = omega arith
-
-loop-again : tie.Need-loop-again Inv-loop μ-loop
-loop-again c =
-    let at-loop-test = c .before .before .loop-test in
-    let at-loop = c .before .before .before .loop in
-    amount-turn _ _ _ _ _ _ (at-loop-test .taken) (c .allowed .ensures) (at-loop .inv)
-
-returns : tie.Need-returns Inv-loop μ-loop
-returns c = amount-end _ _ _ _ _ (c .loop-test .left) (c .before .loop .inv)
+returns : tie.Need-returns
+unfolding amount amountFrom
+returns c = c .least-allowed .ensures
 
 pub amount-spec : {M : Type 1} → statement M
-amount-spec =
-    tie.close
-    (tie.spec
-    Inv-loop
-    μ-loop
-    loop-holds
-    shared-slice-read-allowed
-    allowed-requires
-    add-i
-    loop-less
-    loop-again
-    returns)
+amount-spec = tie.close (tie.spec least-allowed-requires returns)

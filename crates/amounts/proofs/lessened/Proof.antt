@@ -1,48 +1,28 @@
-use mathlib.Core.Path.{sym, ap, ap₂, _∙_}
-use Prim.Native.Nat.{_-_}
-use Rattle.amounts.specs.Amounts.{smaller}
-use borrow.Author.Tests.{not-true, not-false}
-use Rattle.lists.proofs.Laws.{pick-yes, pick-no}
+-- A terminal elsewhere and a demand that the flow meets leave the amount; any other terminal is short.
+use Rattle.lists.specs.Choice.{pick, both}
+use Rattle.amounts.specs.Amounts.{lessened}
+use borrow.Author.Tests.{eq-eqb, ne-eqb, lt-ltb, le-ltb}
 use borrow.Author.Needs.{needs}
 use Rattle.amounts.proofs.lessened.Statement.{statement}
 use Rattle.amounts.proofs.lessened.Tie as tie
 
-is-short-requires : tie.Need-is-short-requires
-is-short-requires c κs = search needs
-
 returns : tie.Need-returns
-returns c =
-    sym (pick-no _ _ _ (sym (c .before .is-short .ensures) ∙ not-true _ (c .if1 .taken)))
+unfolding lessened pick both
+returns c = rw (ne-eqb _ _ (c .if1 .taken))
 
-word-at-requires : tie.Need-word-at-requires
-word-at-requires c κs = search needs
+returns-2 : tie.Need-returns-2
+unfolding lessened pick both
+returns-2 c = rw (eq-eqb _ _ (c .before .if1 .left), le-ltb _ _ (c .if2 .taken))
 
-word-at-requires-2 : tie.Need-word-at-requires-2
-word-at-requires-2 c κs = search needs
-
-minus-requires : tie.Need-minus-requires
-minus-requires c κs = search needs
+sub-rest : tie.Need-sub-rest
+sub-rest c = search needs
 
 smaller-requires : tie.Need-smaller-requires
 smaller-requires c κs = search needs
 
-returns-2 : tie.Need-returns-2
-returns-2 c =
-    let at-if1 = c .before .before .before .before .before .before .before .before .before .before .before .if1 in
-    let at-is-short = c .before .before .before .before .before .before .before .before .before .before .before .before .is-short in
-    let at-word-at = c .before .before .before .before .before .before .word-at in
-    c .smaller .ensures
-    ∙ ap (smaller _) (c .before .minus .ensures ∙ ap₂ _-_ (c .before .before .word-at2 .ensures) (at-word-at .ensures))
-    ∙ sym (pick-yes _ _ _ (sym (at-is-short .ensures) ∙ not-false _ (at-if1 .left)))
+returns-3 : tie.Need-returns-3
+unfolding lessened pick both
+returns-3 c = rw (eq-eqb _ _ (c .before .before .if1 .left), lt-ltb _ _ (c .before .if2 .left)) (c .smaller .ensures)
 
 pub lessened-spec : {M : Type 1} → statement M
-lessened-spec =
-    tie.close
-    (tie.spec
-    is-short-requires
-    returns
-    word-at-requires
-    word-at-requires-2
-    minus-requires
-    smaller-requires
-    returns-2)
+lessened-spec = tie.close (tie.spec returns returns-2 sub-rest smaller-requires returns-3)

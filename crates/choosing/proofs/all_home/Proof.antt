@@ -2,34 +2,37 @@
 use mathlib.Core.Path.{_≡_, sym, _∙_}
 use Prim.Native.Nat.{_-_}
 use native.Mathlib.Nat.{sub-zero}
-use borrow.Author.Tests.{not-true, not-false}
+use borrow.Author.Tests.{eq-eqb, ne-eqb}
 use Rattle.lists.specs.Lists.{all}
 use Rattle.lists.proofs.Laws.{all-hit, all-miss, all-end}
 use Rattle.choosing.specs.Choosing.{isHome, allHome}
+use borrow.Author.Needs.{needs}
 use native.Mathlib.Omega.{arith}
 use Rattle.choosing.proofs.all_home.Statement.{statement}
 use Rattle.choosing.proofs.all_home.Tie as tie
 
 abbrev Inv-loop : tie.InvT-loop
-Inv-loop board terminals i₀ i = all (isHome board) i (terminals - i) ≡ allHome board
+Inv-loop board terminals source i₀ i = all (isHome board) i (terminals - i) ≡ allHome board
 
 abbrev μ-loop : tie.MeasureT-loop
-μ-loop board terminals i₀ i = terminals - i
+μ-loop board terminals source i₀ i = terminals - i
 
 loop-holds : tie.Need-loop-holds Inv-loop μ-loop
 unfolding allHome
 loop-holds c = rw sub-zero
 
-is-home-requires : tie.Need-is-home-requires Inv-loop μ-loop
-is-home-requires c κs = tt
+cast-word-at : tie.Need-cast-word-at Inv-loop μ-loop
+cast-word-at c = search needs
+
+word-at-requires : tie.Need-word-at-requires Inv-loop μ-loop
+word-at-requires c κs = tt
 
 returns : tie.Need-returns Inv-loop μ-loop
 unfolding isHome
 returns c =
-    let at-is-home = c .before .is-home in
-    let at-loop-test = c .before .before .loop-test in
-    let at-loop = c .before .before .before .loop in
-    all-miss _ _ _ (at-loop-test .taken) (sym (at-is-home .ensures) ∙ not-true _ (c .if1 .taken)) ∙ at-loop .inv
+    let at-loop-test = c .before .before .before .before .before in
+    let away = ne-eqb _ _ (λ q. c .if1 .taken (c .before .word-at .ensures ∙ q)) in
+    all-miss _ _ _ (at-loop-test .loop-test .taken) away ∙ at-loop-test .before .loop .inv
 
 add-i : tie.Need-add-i Inv-loop μ-loop
 add-i c = omega arith
@@ -40,10 +43,9 @@ loop-less c = omega arith
 loop-again : tie.Need-loop-again Inv-loop μ-loop
 unfolding isHome
 loop-again c =
-    let at-is-home = c .before .is-home in
-    let at-loop-test = c .before .before .loop-test in
-    let at-loop = c .before .before .before .loop in
-    all-hit _ _ _ (at-loop-test .taken) (sym (at-is-home .ensures) ∙ not-false _ (c .if1 .left)) ∙ at-loop .inv
+    let at-loop-test = c .before .before .before .before .before in
+    let home = eq-eqb _ _ (sym (c .before .word-at .ensures) ∙ c .if1 .left) in
+    all-hit _ _ _ (at-loop-test .loop-test .taken) home ∙ at-loop-test .before .loop .inv
 
 returns-2 : tie.Need-returns-2 Inv-loop μ-loop
 returns-2 c = all-end _ _ _ (c .loop-test .left) ∙ c .before .loop .inv
@@ -55,7 +57,8 @@ all-home-spec =
     Inv-loop
     μ-loop
     loop-holds
-    is-home-requires
+    cast-word-at
+    word-at-requires
     returns
     add-i
     loop-less

@@ -4,28 +4,32 @@ use Prim.Native.Nat.{_-_}
 use native.Mathlib.Nat.{sub-zero}
 use Rattle.lists.specs.Lists.{lowest}
 use Rattle.lists.proofs.Laws.{lowest-hit, lowest-miss, lowest-end}
-use Rattle.choosing.specs.Choosing.{markedOpen, markedEdge}
+use Rattle.choosing.specs.Choosing.{markedFits}
+use borrow.Author.Needs.{needs}
 use native.Mathlib.Omega.{arith}
 use Rattle.choosing.proofs.marked_edge.Statement.{statement}
 use Rattle.choosing.proofs.marked_edge.Tie as tie
 
 abbrev Inv-loop : tie.InvT-loop
-Inv-loop board i edges e₀ e = lowest (markedOpen board i) e (edges - e) ≡ markedEdge board i
+Inv-loop heads flows marks place demand edges e₀ e =
+    lowest (markedFits heads flows marks place demand) e (edges - e) ≡ lowest (markedFits heads flows marks place demand) 0 edges
 
 abbrev μ-loop : tie.MeasureT-loop
-μ-loop board i edges e₀ e = edges - e
+μ-loop heads flows marks place demand edges e₀ e = edges - e
 
 loop-holds : tie.Need-loop-holds Inv-loop μ-loop
-unfolding markedEdge
 loop-holds c = rw sub-zero
 
-marked-open-requires : tie.Need-marked-open-requires Inv-loop μ-loop
-marked-open-requires c κs = tt
+cast-marked-fits : tie.Need-cast-marked-fits Inv-loop μ-loop
+cast-marked-fits c = search needs
+
+marked-fits-requires : tie.Need-marked-fits-requires Inv-loop μ-loop
+marked-fits-requires c κs = search needs
 
 returns : tie.Need-returns Inv-loop μ-loop
 returns c =
     let at-loop-test = c .before .before in
-    sym (lowest-hit _ _ _ (at-loop-test .loop-test .taken) (sym (c .before .marked-open .ensures) ∙ c .if1 .taken)) ∙ at-loop-test .before .loop .inv
+    sym (lowest-hit _ _ _ (at-loop-test .loop-test .taken) (rw (c .before .marked-fits .ensures) at (c .if1 .taken))) ∙ at-loop-test .before .loop .inv
 
 add-e : tie.Need-add-e Inv-loop μ-loop
 add-e c = omega arith
@@ -36,7 +40,7 @@ loop-less c = omega arith
 loop-again : tie.Need-loop-again Inv-loop μ-loop
 loop-again c =
     let at-loop-test = c .before .before in
-    lowest-miss _ _ _ (at-loop-test .loop-test .taken) (sym (c .before .marked-open .ensures) ∙ c .if1 .left) ∙ at-loop-test .before .loop .inv
+    lowest-miss _ _ _ (at-loop-test .loop-test .taken) (rw (c .before .marked-fits .ensures) at (c .if1 .left)) ∙ at-loop-test .before .loop .inv
 
 returns-2 : tie.Need-returns-2 Inv-loop μ-loop
 returns-2 c = sym (lowest-end _ _ _ (c .loop-test .left)) ∙ c .before .loop .inv
@@ -48,7 +52,8 @@ marked-edge-spec =
     Inv-loop
     μ-loop
     loop-holds
-    marked-open-requires
+    cast-marked-fits
+    marked-fits-requires
     returns
     add-e
     loop-less

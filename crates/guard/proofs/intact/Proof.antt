@@ -6,17 +6,11 @@ use Rattle.guard.proofs.intact.Tie as tie
 counts-fit-requires : tie.Need-counts-fit-requires
 counts-fit-requires c κs = search needs
 
-cast-all-intact : tie.Need-cast-all-intact
-cast-all-intact c = search needs
+edges-intact-requires : tie.Need-edges-intact-requires
+edges-intact-requires c κs = search needs
 
-all-intact-requires : tie.Need-all-intact-requires
-all-intact-requires c κs = search needs
-
-cast-all-intact-2 : tie.Need-cast-all-intact-2
-cast-all-intact-2 c = search needs
-
-all-intact-requires-2 : tie.Need-all-intact-requires-2
-all-intact-requires-2 c κs = search needs
+terminals-intact-requires : tie.Need-terminals-intact-requires
+terminals-intact-requires c κs = search needs
 
 last-entry-requires : tie.Need-last-entry-requires
 last-entry-requires c κs = search needs
@@ -48,10 +42,8 @@ intact-spec =
     tie.close
     (tie.spec
     counts-fit-requires
-    cast-all-intact
-    all-intact-requires
-    cast-all-intact-2
-    all-intact-requires-2
+    edges-intact-requires
+    terminals-intact-requires
     last-entry-requires
     move-intact-requires
     cast-and

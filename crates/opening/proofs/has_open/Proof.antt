@@ -1,14 +1,23 @@
-use Rattle.opening.specs.Opens.{hasOpen}
+-- An edge was found where the search ends below the count of edges.
+use mathlib.Core.Path.{ap, _∙_}
+use lib.Dec.{ltb}
+use Rattle.opening.proofs.Same.{has-same}
 use borrow.Author.Needs.{needs}
 use Rattle.opening.proofs.has_open.Statement.{statement}
 use Rattle.opening.proofs.has_open.Tie as tie
 
-open-edge-requires : tie.Need-open-edge-requires
-open-edge-requires c κs = search needs
+word-at-requires : tie.Need-word-at-requires
+word-at-requires c κs = search needs
+
+word-at-requires-2 : tie.Need-word-at-requires-2
+word-at-requires-2 c κs = search needs
+
+lowest-open-requires : tie.Need-lowest-open-requires
+lowest-open-requires c κs = search needs
 
 returns : tie.Need-returns
-unfolding hasOpen
-returns c = cc
+returns c = ap (λ e. ltb e (c .before .before .before .before .before .before .before .before .before .before .before .args .t1 .edges)) (c .lowest-open .ensures) ∙ has-same _ _ _ _ _ _ _ (c .before .before .before .before .before .before .before .before .word-at .ensures) (c .before .before .before .before .word-at2 .ensures)
 
 pub has-open-spec : {M : Type 1} → statement M
-has-open-spec = tie.close (tie.spec open-edge-requires returns)
+has-open-spec =
+    tie.close (tie.spec word-at-requires word-at-requires-2 lowest-open-requires returns)

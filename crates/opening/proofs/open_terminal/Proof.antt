@@ -1,52 +1,15 @@
--- What is left of the search is the whole search, as long as no terminal has passed.
-use mathlib.Core.Path.{_≡_, sym, _∙_}
-use Prim.Native.Nat.{_-_}
-use native.Mathlib.Nat.{sub-zero}
-use Rattle.lists.specs.Lists.{lowest}
-use Rattle.lists.proofs.Laws.{lowest-hit, lowest-miss, lowest-end}
-use Rattle.opening.specs.Opens.{hasOpen, openTerminal}
-use native.Mathlib.Omega.{arith}
+-- The search over the parts of a board is the search of the board.
+use mathlib.Core.Path.{_∙_}
+use Rattle.opening.proofs.Same.{terminal-same}
+use borrow.Author.Needs.{needs}
 use Rattle.opening.proofs.open_terminal.Statement.{statement}
 use Rattle.opening.proofs.open_terminal.Tie as tie
 
-abbrev Inv-loop : tie.InvT-loop
-Inv-loop board terminals i₀ i = lowest (hasOpen board) i (terminals - i) ≡ openTerminal board
+lowest-terminal-requires : tie.Need-lowest-terminal-requires
+lowest-terminal-requires c κs = search needs
 
-abbrev μ-loop : tie.MeasureT-loop
-μ-loop board terminals i₀ i = terminals - i
-
-loop-holds : tie.Need-loop-holds Inv-loop μ-loop
-unfolding openTerminal
-loop-holds c = rw sub-zero
-
-has-open-requires : tie.Need-has-open-requires Inv-loop μ-loop
-has-open-requires c κs = tt
-
-returns : tie.Need-returns Inv-loop μ-loop
-returns c = sym (lowest-hit _ _ _ (c .before .before .loop-test .taken) (sym (c .before .has-open .ensures) ∙ c .if1 .taken)) ∙ c .before .before .before .loop .inv
-
-add-i : tie.Need-add-i Inv-loop μ-loop
-add-i c = omega arith
-
-loop-less : tie.Need-loop-less Inv-loop μ-loop
-loop-less c = omega arith
-
-loop-again : tie.Need-loop-again Inv-loop μ-loop
-loop-again c = lowest-miss _ _ _ (c .before .before .loop-test .taken) (sym (c .before .has-open .ensures) ∙ c .if1 .left) ∙ c .before .before .before .loop .inv
-
-returns-2 : tie.Need-returns-2 Inv-loop μ-loop
-returns-2 c = sym (lowest-end _ _ _ (c .loop-test .left)) ∙ c .before .loop .inv
+returns : tie.Need-returns
+returns c = c .lowest-terminal .ensures ∙ terminal-same _
 
 pub open-terminal-spec : {M : Type 1} → statement M
-open-terminal-spec =
-    tie.close
-    (tie.spec
-    Inv-loop
-    μ-loop
-    loop-holds
-    has-open-requires
-    returns
-    add-i
-    loop-less
-    loop-again
-    returns-2)
+open-terminal-spec = tie.close (tie.spec lowest-terminal-requires returns)

@@ -1,7 +1,3 @@
-use mathlib.Core.Path.{sym, ap, _∙_}
-use Rattle.steps.specs.Steps.{stepOf}
-use Rattle.turning.specs.declared.StepRule.{StepRule}
-use Rattle.turning.specs.Turns.{meets}
 use borrow.Author.Needs.{needs}
 use Rattle.turning.proofs.meets.Statement.{statement}
 use Rattle.turning.proofs.meets.Tie as tie
@@ -25,19 +21,13 @@ up-singular-requires : tie.Need-up-singular-requires
 up-singular-requires c κs = search needs
 
 returns : tie.Need-returns
-returns c =
-    let at-args = c .before .before .before .args in
-    c .on-board .ensures ∙ ap (λ (rule : StepRule). meets rule (at-args .board) (stepOf (at-args .s))) (sym (c .before .enum-told .given .1))
+returns c = rw (c .before .enum-told .given .1) (c .on-board .ensures)
 
 returns-2 : tie.Need-returns-2
-returns-2 c =
-    let at-args = c .before .before .before .args in
-    c .positive .ensures ∙ ap (λ (rule : StepRule). meets rule (at-args .board) (stepOf (at-args .s))) (sym (c .before .enum-told2 .given .1))
+returns-2 c = rw (c .before .enum-told2 .given .1) (c .positive .ensures)
 
 returns-3 : tie.Need-returns-3
-returns-3 c =
-    let at-args = c .before .before .before .args in
-    c .up-singular .ensures ∙ ap (λ (rule : StepRule). meets rule (at-args .board) (stepOf (at-args .s))) (sym (c .before .enum-told3 .given .1))
+returns-3 c = rw (c .before .enum-told3 .given .1) (c .up-singular .ensures)
 
 pub meets-spec : {M : Type 1} → statement M
 meets-spec =

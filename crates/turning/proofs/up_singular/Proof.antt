@@ -1,7 +1,6 @@
-use mathlib.Core.Path.{sym, ap, _∙_}
+use mathlib.Core.Path.{sym, _∙_}
 use borrow.Author.Tests.{not-true, not-false}
-use Rattle.marking.specs.Marking.{singular}
-use Rattle.lists.proofs.Laws.{pick-yes, pick-no}
+use Rattle.lists.specs.Choice.{pick}
 use borrow.Author.Needs.{needs}
 use Rattle.turning.proofs.up_singular.Statement.{statement}
 use Rattle.turning.proofs.up_singular.Tie as tie
@@ -10,21 +9,26 @@ is-up-requires : tie.Need-is-up-requires
 is-up-requires c κs = search needs
 
 returns : tie.Need-returns
-returns c = sym (pick-no _ _ _ (sym (c .before .is-up .ensures) ∙ not-true _ (c .if1 .taken)))
+unfolding pick
+returns c = rw (sym (c .before .is-up .ensures) ∙ not-true _ (c .if1 .taken))
 
 edge-of-requires : tie.Need-edge-of-requires
 edge-of-requires c κs = search needs
 
-singular-requires : tie.Need-singular-requires
-singular-requires c κs = search needs
+cast-e : tie.Need-cast-e
+cast-e c = search needs
+
+singular-in-requires : tie.Need-singular-in-requires
+singular-in-requires c κs = search needs
 
 returns-2 : tie.Need-returns-2
+unfolding pick
 returns-2 c =
-    let at-if1 = c .before .before .if1 in
-    let at-is-up = c .before .before .before .is-up in
-    let at-args = c .before .before .before .before .args in
-    (c .singular .ensures ∙ ap (singular (at-args .board)) (c .before .edge-of .ensures)) ∙ sym (pick-yes _ _ _ (sym (at-is-up .ensures) ∙ not-false _ (at-if1 .left)))
+    let at-if1 = c .before .before in
+    let rises = sym (at-if1 .before .is-up .ensures) ∙ not-false _ (at-if1 .if1 .left) in
+    rw (c .singular-in .ensures, c .before .edge-of .ensures, rises)
 
 pub up-singular-spec : {M : Type 1} → statement M
 up-singular-spec =
-    tie.close (tie.spec is-up-requires returns edge-of-requires singular-requires returns-2)
+    tie.close
+    (tie.spec is-up-requires returns edge-of-requires cast-e singular-in-requires returns-2)

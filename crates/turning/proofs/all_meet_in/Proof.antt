@@ -1,21 +1,24 @@
 -- What is left of the test of every step is the whole test, as long as no step has failed.
-use mathlib.Core.Path.{_≡_, refl, sym, _∙_}
+use mathlib.Core.Path.{_≡_, refl, _∙_}
 use Prim.Native.Nat.{_-_}
 use lib.ListN.{length, drop}
 use borrow.Author.Tests.{not-true, not-false}
 use Rattle.steps.specs.Steps.{stepsOf, every}
-use Rattle.turning.specs.Turns.{meets}
+use Rattle.marking.specs.Marking.{singularIn}
+use Rattle.turning.specs.Turns.{meetsIn}
 use Rattle.turning.proofs.Passing.{every-hit, every-miss, every-end}
 use borrow.Author.Needs.{needs}
 use native.Mathlib.Omega.{arith}
-use Rattle.turning.proofs.all_meet.Statement.{statement}
-use Rattle.turning.proofs.all_meet.Tie as tie
+use Rattle.turning.proofs.all_meet_in.Statement.{statement}
+use Rattle.turning.proofs.all_meet_in.Tie as tie
 
 abbrev Inv-loop : tie.InvT-loop
-Inv-loop rule board steps i₀ i = every (meets rule board) (stepsOf (drop i steps)) ≡ every (meets rule board) (stepsOf steps)
+Inv-loop rule edges tails heads flows vertices steps i₀ i =
+    every (meetsIn rule edges flows (singularIn tails heads flows vertices)) (stepsOf (drop i steps))
+    ≡ every (meetsIn rule edges flows (singularIn tails heads flows vertices)) (stepsOf steps)
 
 abbrev μ-loop : tie.MeasureT-loop
-μ-loop rule board steps i₀ i = length steps - i
+μ-loop rule edges tails heads flows vertices steps i₀ i = length steps - i
 
 loop-holds : tie.Need-loop-holds Inv-loop μ-loop
 loop-holds c = refl
@@ -30,7 +33,7 @@ returns : tie.Need-returns Inv-loop μ-loop
 returns c =
     let at-loop-test = c .before .before .before .loop-test in
     let at-loop = c .before .before .before .before .loop in
-    every-miss _ _ _ (at-loop-test .taken) (sym (c .before .meets .ensures) ∙ not-true _ (c .if1 .taken)) ∙ at-loop .inv
+    every-miss _ _ _ (at-loop-test .taken) (rw (c .before .meets .ensures) at (not-true (c .before .meets .result) (c .if1 .taken))) ∙ at-loop .inv
 
 add-i : tie.Need-add-i Inv-loop μ-loop
 add-i c = omega arith
@@ -42,13 +45,13 @@ loop-again : tie.Need-loop-again Inv-loop μ-loop
 loop-again c =
     let at-loop-test = c .before .before .before .loop-test in
     let at-loop = c .before .before .before .before .loop in
-    every-hit _ _ _ (at-loop-test .taken) (sym (c .before .meets .ensures) ∙ not-false _ (c .if1 .left)) ∙ at-loop .inv
+    every-hit _ _ _ (at-loop-test .taken) (rw (c .before .meets .ensures) at (not-false (c .before .meets .result) (c .if1 .left))) ∙ at-loop .inv
 
 returns-2 : tie.Need-returns-2 Inv-loop μ-loop
 returns-2 c = every-end _ _ _ (c .loop-test .left) ∙ c .before .loop .inv
 
-pub all-meet-spec : {M : Type 1} → statement M
-all-meet-spec =
+pub all-meet-in-spec : {M : Type 1} → statement M
+all-meet-in-spec =
     tie.close
     (tie.spec
     Inv-loop

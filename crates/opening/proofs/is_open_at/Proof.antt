@@ -1,0 +1,34 @@
+use Rattle.opening.specs.Opens.{isOpenAt}
+use borrow.Author.Needs.{needs}
+use Rattle.opening.proofs.is_open_at.Statement.{statement}
+use Rattle.opening.proofs.is_open_at.Tie as tie
+
+word-at-requires : tie.Need-word-at-requires
+word-at-requires c κs = search needs
+
+word-at-requires-2 : tie.Need-word-at-requires-2
+word-at-requires-2 c κs = search needs
+
+has-requires : tie.Need-has-requires
+has-requires c κs = search needs
+
+flow-fits-requires : tie.Need-flow-fits-requires
+flow-fits-requires c κs = search needs
+
+and-requires : tie.Need-and-requires
+and-requires c κs = search needs
+
+returns : tie.Need-returns
+unfolding isOpenAt
+returns c = cc
+
+pub is-open-at-spec : {M : Type 1} → statement M
+is-open-at-spec =
+    tie.close
+    (tie.spec
+    word-at-requires
+    word-at-requires-2
+    has-requires
+    flow-fits-requires
+    and-requires
+    returns)
