@@ -1,6 +1,8 @@
 -- The board that a text gives once calls are made on it, and what a finish makes of that board.
 use mathlib.Core.List.{List}
 use Prim.Native.Nat.{ℕ}
+use lib.Dec.{eqb}
+use Rattle.lists.specs.Choice.{pick}
 use Rattle.board.specs.declared.Board.{Board}
 use Rattle.loader.specs.Load.{loadText}
 use Rattle.finishing.specs.declared.Finished.{Finished}
@@ -13,3 +15,7 @@ after text steps codes = played (loadText text .board) (callsOf steps codes)
 
 abbrev pub finished : List ℕ → List ℕ → List ℕ → Finished
 finished text steps codes = finishCall (after text steps codes)
+
+-- the board as it is, or where the number is not 0 finished
+abbrev pub lastBoard : ℕ → Board → Board
+lastBoard n b = pick (eqb n 0) b (finishCall b .board)

@@ -7,7 +7,8 @@ ghost use Rattle.loader.specs.Load.{loadText};
 ghost use Rattle.calls.specs.Calls.{answers, Told};
 ghost use Rattle.calls.specs.Codes.{callsOf, listed};
 ghost use lib.Seq.{sets};
-ghost use Rattle.boundary.specs.Ends.{after, finished};
+ghost use Rattle.reporting.specs.Reports.{sheetCall, sheeted};
+ghost use Rattle.boundary.specs.Ends.{after, finished, lastBoard};
 
 // Loads a text, and writes the board that it gave into the buffer. Answers what the load answered; `writing` and `used` get what the
 // writer answered: its number and the length of the text.
@@ -125,4 +126,41 @@ pub extern "C" fn vulprow_finish(
     *moves = last.moves;
     calls::put_journal(last_journal, journal);
     answer
+}
+
+// The board, or where `finishes` is not 0 the board that a finish gives.
+fn last_board(board: Board, finishes: u32) -> Board
+    ensures { λ r. ⌜ r ≡ lastBoard finishes board ⌝ }
+{
+    if finishes == 0 {
+        return board;
+    }
+    let finish = finishing::finish(board);
+    finish.board
+}
+
+// Loads a text, makes calls on the board that it gave, finishes it where `finishes` is not 0, and writes its report into the buffer. Answers what the report
+// answered; `used` gets the length of the text.
+#[no_mangle]
+pub extern "C" fn vulprow_sheet(
+    text: &[u8],
+    codes: &[u32],
+    steps: &[u8],
+    finishes: u32,
+    buf: &mut [u8],
+    used: &mut usize,
+) -> u32
+    ensures { λ r. ⌜ r ≡ sheetCall (lastBoard finishes (after (now (text .entry)) (now (steps .entry)) (now (codes .entry)))) (length (now (buf .entry))) .answer ⌝ }
+    ensures { λ _. ⌜ now (used .exit) ≡ sheetCall (lastBoard finishes (after (now (text .entry)) (now (steps .entry)) (now (codes .entry)))) (length (now (buf .entry))) .used ⌝ }
+    ensures { λ _. ⌜ now (buf .exit) ≡ sheeted (lastBoard finishes (after (now (text .entry)) (now (steps .entry)) (now (codes .entry)))) (now (buf .entry)) ⌝ }
+{
+    let loaded = loader::load(text);
+    let start = loaded.board;
+    let mut given = [0u32; 1];
+    let mut hints = [0u32; 1];
+    let board = calls::run(start, codes, steps, &mut given, &mut hints);
+    let last = last_board(board, finishes);
+    let written = reporting::sheet(last, buf);
+    *used = written.used;
+    written.answer
 }

@@ -39,7 +39,7 @@ use Rattle.choosing.specs.Choosing.{isHome, allHome, markedOpen, markedEdge, ch
 use Rattle.finishing.specs.declared.Finished.{Finished}
 use Rattle.finishing.specs.Finishes.{stepped, steppedOn, playedOut, finishRefusal, finishCall}
 use Rattle.calls.specs.Calls.{Call, carry, turn, undo, played, answers}
-use Rattle.invariant.specs.Routes.{routeBy, route, load}
+use Rattle.routing.specs.Routes.{routeBy, route, load}
 
 -- a text in ASCII
 pub bytes : String → List ℕ

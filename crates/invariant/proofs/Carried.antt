@@ -23,7 +23,7 @@ use Rattle.flows.proofs.Sums.{keyed-add, sum-set, sum-key}
 use Rattle.guard.specs.Parts.{flow, first, tail, head, marked, demand, place}
 use Rattle.guard.specs.Guard.{moveIntact}
 use Rattle.carrying.specs.Carries.{carried}
-use Rattle.invariant.specs.Routes.{route, load, largest}
+use Rattle.routing.specs.Routes.{route, load, largest}
 use Rattle.invariant.specs.Invariant.{Marked, At, Invariant}
 use Rattle.invariant.proofs.Carriable.{Carriable}
 use Rattle.invariant.proofs.CarriedRoutes.{route-moved, route-kept, load-kept, largest-kept, load-moved, largest-moved}

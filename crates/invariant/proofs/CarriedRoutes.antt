@@ -21,7 +21,7 @@ use Rattle.board.specs.declared.Entry.{Entry}
 use Rattle.board.specs.declared.Move.the-variants.{Carry}
 use Rattle.guard.specs.Parts.{demand}
 use Rattle.carrying.specs.Carries.{carried}
-use Rattle.invariant.specs.Routes.{carriedOver, routeBy, route, share, load, largest}
+use Rattle.routing.specs.Routes.{carriedOver, routeBy, route, share, load, largest}
 
 -- one more move at the end of the list
 route-more : (i : ℕ) (ms : List Entry) (m : Entry) → routeBy i (ms ++ (m ∷ [])) ≡ carriedOver i (m .step) ++ routeBy i ms

@@ -22,7 +22,7 @@ use Rattle.flows.specs.Trails.{stay}
 use Rattle.guard.specs.Parts.{marked}
 use Rattle.guard.specs.Guard.{moveIntact}
 use Rattle.loader.specs.Load.{acyclicOf, opened}
-use Rattle.invariant.specs.Routes.{routeBy, route, share, load}
+use Rattle.routing.specs.Routes.{routeBy, route, share, load}
 use Rattle.invariant.specs.Invariant.{Invariant}
 use Rattle.invariant.proofs.Network.{long-first, first-balance}
 

@@ -19,7 +19,7 @@ use Rattle.flows.proofs.Reach.{path-first}
 use Rattle.guard.specs.Parts.{flow, first, tail, head, marked, demand}
 use Rattle.opening.specs.Opens.{someOpen}
 use Rattle.marking.specs.Marking.{singular, isFresh, fresh}
-use Rattle.invariant.specs.Routes.{load, largest}
+use Rattle.routing.specs.Routes.{load, largest}
 use Rattle.invariant.specs.Invariant.{Invariant, Marked, At}
 use Rattle.invariant.proofs.Network.{within, first-below}
 use Rattle.invariant.proofs.Single.{straight-unparted, unparted-straight}

@@ -12,7 +12,7 @@ use Rattle.board.specs.declared.Entry.{Entry}
 use Rattle.flows.specs.Trails.{Step}
 use Rattle.guard.specs.Parts.{demand}
 use Rattle.turning.specs.Turns.{turned}
-use Rattle.invariant.specs.Routes.{carriedOver, routeBy, route, share, load, largest}
+use Rattle.routing.specs.Routes.{carriedOver, routeBy, route, share, load, largest}
 
 -- one more entry, which carries nobody
 route-same : (i n : ℕ) (l : List Entry) (a : Entry) → carriedOver i (a .step) ≡ [] → routeBy i (take (suc n) (set l n a)) ≡ routeBy i (take n l)

@@ -14,7 +14,7 @@ use Rattle.cancelling.specs.Cancelling.{acyclicFlows}
 use Rattle.flows.specs.Trails.{Trail, downs}
 use Rattle.guard.specs.Parts.{flow, first, tail, head, marked, demand, place}
 use Rattle.guard.specs.Guard.{moveIntact}
-use Rattle.invariant.specs.Routes.{route, load, largest}
+use Rattle.routing.specs.Routes.{route, load, largest}
 
 module _ (b : Board) where
   -- e is positive and marked

@@ -8,8 +8,8 @@ use native.Mathlib.Numerals.{add-one, towards-suc}
 use native.Mathlib.Nat.{add-zero, zero-add}
 use native.Mathlib.Omega.{arith}
 use lib.Dec.{ltb}
-use lib.ListN.{length, getD, set, take, drop, length-append, length-take, drop-of-length-le}
-use lib.Seq.{sets, sets-eq, drop-cons, length-take-le, getD-take}
+use lib.ListN.{length, getD, set, drop, length-append, drop-of-length-le}
+use lib.Seq.{sets, sets-eq, drop-cons}
 use Rattle.lists.specs.Choice.{pick}
 use Rattle.decimal.specs.Decimal.{decimal}
 use Rattle.text.specs.Text.{numbersText, lineText, linesText, headRow, edgeRow, terminalRow, textOf}
@@ -44,13 +44,10 @@ pub left-none : {buf total : List ℕ} {to end : ℕ} → Left buf total to end 
 left-none l = (omega (arith, l .size), l .gives)
 
 -- one number of a line, with its end
-module _ (values : List ℕ) (count i : ℕ) (hi : i < count) (hc : count ≤ length values) where
-  pub numbers-cut : numbersText (drop i (take count values))
-      ≡ decimal (getD values i 0) ++ (pick (ltb 0 (count - i - 1)) 44 10 ∷ numbersText (drop (suc i) (take count values)))
-  unfolding numbersText
-  numbers-cut =
-      let size = length-take-le count values hc in
-      rw (drop-cons (take count values) i 0 (omega arith), getD-take count values i 0 hi, end-after (take count values) count i size hi)
+pub numbers-cut : (values : List ℕ) (i : ℕ) → i < length values
+    → numbersText (drop i values) ≡ decimal (getD values i 0) ++ (pick (ltb 0 (length values - i - 1)) 44 10 ∷ numbersText (drop (suc i) values))
+unfolding numbersText
+numbers-cut values i h = rw (drop-cons values i 0 h, end-after values (length values) i refl h)
 
 -- one line of a run
 pub lines-cut : (x : ℕ) (row : ℕ → List ℕ) (n i : ℕ) → i < n → linesText x row i (n - i) ≡ lineText x (row i) ++ linesText x row (i + 1) (n - (i + 1))
@@ -71,22 +68,18 @@ unfolding lineText
 line-length x at vs = omega arith
 
 -- one turn of the line's loop, from what the code knows
-pub line-turned : (values : List ℕ) (count i : ℕ) → i < count → count ≤ length values → {buf total : List ℕ} {to end : ℕ}
-    → Left buf total to end (numbersText (drop i (take count values))) → (b1 b2 : List ℕ) (p e : ℕ) → b1 ≡ sets buf to (decimal (getD values i 0))
-    → p ≡ to + length (decimal (getD values i 0)) → e ≡ pick (ltb 0 (count - i - 1)) 44 10 → b2 ≡ set b1 p e
-    → Left b2 total (p + 1) end (numbersText (drop (i + 1) (take count values)))
-line-turned values count i hi hc {buf} {total} {to} {end} l b1 b2 p e e1 e0 en e2 =
-    let whole : Left buf total to end (decimal (getD values i 0) ++ (e ∷ numbersText (drop (suc i) (take count values)))) =
-    rw (en, ← numbers-cut values count i hi hc) l in
-    let digits = left-part (decimal (getD values i 0)) (e ∷ numbersText (drop (suc i) (take count values))) b1 p whole e1 e0 in
-    rw (add-one i) (left-part (e ∷ []) (numbersText (drop (suc i) (take count values))) b2 (p + 1) digits e2 refl)
+pub line-turned : (values : List ℕ) (i : ℕ) → i < length values → {buf total : List ℕ} {to end : ℕ} → Left buf total to end (numbersText (drop i values))
+    → (b1 b2 : List ℕ) (p e : ℕ) → b1 ≡ sets buf to (decimal (getD values i 0)) → p ≡ to + length (decimal (getD values i 0))
+    → e ≡ pick (ltb 0 (length values - i - 1)) 44 10 → b2 ≡ set b1 p e → Left b2 total (p + 1) end (numbersText (drop (i + 1) values))
+line-turned values i h {buf} {total} {to} {end} l b1 b2 p e e1 e0 en e2 =
+    let whole : Left buf total to end (decimal (getD values i 0) ++ (e ∷ numbersText (drop (suc i) values))) = rw (en, ← numbers-cut values i h) l in
+    let digits = left-part (decimal (getD values i 0)) (e ∷ numbersText (drop (suc i) values)) b1 p whole e1 e0 in
+    rw (add-one i) (left-part (e ∷ []) (numbersText (drop (suc i) values)) b2 (p + 1) digits e2 refl)
 
-pub line-done : (values : List ℕ) (count i : ℕ) → count ≤ i → {buf total : List ℕ} {to end : ℕ}
-    → Left buf total to end (numbersText (drop i (take count values))) → (to ≡ end) × (buf ≡ total)
+pub line-done : (values : List ℕ) (i : ℕ) → length values ≤ i → {buf total : List ℕ} {to end : ℕ} → Left buf total to end (numbersText (drop i values))
+    → (to ≡ end) × (buf ≡ total)
 unfolding numbersText
-line-done values count i h l =
-    let none : length (take count values) ≤ i = let e = length-take count values in omega arith in
-    left-none (rw (drop-of-length-le (take count values) none) at l)
+line-done values i h l = left-none (rw (drop-of-length-le values h) at l)
 
 -- one turn of a loop over lines: vs are the numbers of its row
 pub lines-turned : (x : ℕ) (row : ℕ → List ℕ) (n i : ℕ) → i < n → {buf total : List ℕ} {to end : ℕ} → Left buf total to end (linesText x row i (n - i))

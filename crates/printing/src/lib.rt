@@ -1,22 +1,22 @@
 // The text of a network, written into a buffer. A byte past the end of the buffer is dropped, so writing into a short buffer measures the text.
 use board::Network;
 ghost use mathlib.Core.Path.{_≡_};
-ghost use mathlib.Core.List.{[], _∷_, _++_};
 ghost use Prim.Native.Nat.{_+_, _*_, _≤_};
-ghost use lib.ListN.{length, take};
+ghost use lib.ListN.{length};
 ghost use lib.Seq.{sets};
 ghost use Rattle.board.specs.Limits.{maxEdges, maxTerminals};
 ghost use Rattle.text.specs.Text.{lineText, linesText, edgeRow, terminalRow, textOf};
 
-// Writes a line at a place of the buffer, and answers the place behind it.
-fn put_line(buf: &mut [u8], at: usize, letter: u8, values: [u32; 4], count: usize) -> usize
-    requires { ⌜ (at ≤ 65536) × (count ≤ 4) ⌝ }
-    ensures { λ r. ⌜ r ≡ at + length (lineText letter (take count values)) ⌝ }
-    ensures { λ r. ⌜ r ≤ at + 50 ⌝ }
-    ensures { λ r. ⌜ now (buf .exit) ≡ sets (now (buf .entry)) at (lineText letter (take count values)) ⌝ }
+// Writes a line, as `C,0,1,3` and a line feed, at a place of the buffer, and answers the place behind it.
+pub fn put_line(buf: &mut [u8], at: usize, letter: u8, values: &[u32]) -> usize
+    requires { ⌜ (at ≤ 131072) × (length (now values) ≤ 64) ⌝ }
+    ensures { λ r. ⌜ r ≡ at + length (lineText letter (now (values .entry))) ⌝ }
+    ensures { λ r. ⌜ r ≤ at + (2 + 11 * length (now (values .entry))) ⌝ }
+    ensures { λ r. ⌜ now (buf .exit) ≡ sets (now (buf .entry)) at (lineText letter (now (values .entry))) ⌝ }
 {
     lists::put_byte(buf, at, letter);
     lists::put_byte(buf, at + 1, b',');
+    let count = values.len();
     let mut to = at + 2;
     let mut i: usize = 0;
     while i < count {
@@ -28,13 +28,13 @@ fn put_line(buf: &mut [u8], at: usize, letter: u8, values: [u32; 4], count: usiz
     to
 }
 
-fn edge_row(net: Network, i: usize) -> [u32; 4]
-    ensures { λ r. ⌜ r ≡ edgeRow net i ++ (0 ∷ []) ⌝ }
+fn edge_row(net: Network, i: usize) -> [u32; 3]
+    ensures { λ r. ⌜ r ≡ edgeRow net i ⌝ }
 {
     let tail = lists::word_at(&net.tails, i);
     let head = lists::word_at(&net.heads, i);
     let flow = lists::word_at(&net.flows, i);
-    [tail, head, flow, 0]
+    [tail, head, flow]
 }
 
 // Writes the edge lines.
@@ -48,18 +48,19 @@ fn put_edges(buf: &mut [u8], at: usize, net: Network) -> usize
     let mut to = at;
     let mut i: usize = 0;
     while i < edges {
-        to = put_line(buf, to, b'C', edge_row(net, i), 3);
+        let row = edge_row(net, i);
+        to = put_line(buf, to, b'C', &row);
         i += 1;
     }
     to
 }
 
-fn terminal_row(net: Network, j: usize) -> [u32; 4]
-    ensures { λ r. ⌜ r ≡ terminalRow net j ++ (0 ∷ 0 ∷ []) ⌝ }
+fn terminal_row(net: Network, j: usize) -> [u32; 2]
+    ensures { λ r. ⌜ r ≡ terminalRow net j ⌝ }
 {
     let home = lists::word_at(&net.homes, j);
     let demand = lists::word_at(&net.demands, j);
-    [home, demand, 0, 0]
+    [home, demand]
 }
 
 // Writes the terminal lines.
@@ -72,7 +73,8 @@ fn put_terminals(buf: &mut [u8], at: usize, net: Network) -> usize
     let mut to = at;
     let mut j: usize = 0;
     while j < terminals {
-        to = put_line(buf, to, b'W', terminal_row(net, j), 2);
+        let row = terminal_row(net, j);
+        to = put_line(buf, to, b'W', &row);
         j += 1;
     }
     to
@@ -85,7 +87,7 @@ pub fn put_text(buf: &mut [u8], net: Network) -> usize
     ensures { λ r. ⌜ now (buf .exit) ≡ sets (now (buf .entry)) 0 (textOf net) ⌝ }
 {
     let row = [net.vertices, net.edges, net.terminals, net.source];
-    let head = put_line(buf, 0, b'B', row, 4);
+    let head = put_line(buf, 0, b'B', &row);
     let edges = put_edges(buf, head, net);
     put_terminals(buf, edges, net)
 }

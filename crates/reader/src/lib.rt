@@ -53,7 +53,7 @@ fn headed(values: [u32; 4]) -> Network
 }
 
 // The first line, at the start of s.
-fn header(s: &[u8]) -> Part
+pub fn header(s: &[u8]) -> Part
     ensures { λ r. ⌜ partRead r (now (s .entry)) ≡ headerPart (now (s .entry)) ⌝ }
     ensures { λ r. ⌜ r .used ≤ length (now (s .entry)) ⌝ }
 {

@@ -18,7 +18,7 @@ use Rattle.flows.specs.Trails.{Trail, go, downs}
 use Rattle.guard.specs.Parts.{flow, first, marked, demand, place}
 use Rattle.choosing.specs.Choosing.{isHome, allHome}
 use Rattle.finishing.specs.Finishes.{ended}
-use Rattle.invariant.specs.Routes.{route, share, load, largest}
+use Rattle.routing.specs.Routes.{route, share, load, largest}
 use Rattle.invariant.specs.Invariant.{Invariant}
 use Rattle.invariant.proofs.Potential.{level, first-rises}
 use Rattle.solving.specs.Complete.{passes, Simple, InUse}
@@ -36,7 +36,7 @@ module _ (tails heads : List ℕ) (level : ℕ → ℕ) where
       both-missed x v (passes heads (getD heads e 0) es) (λ q. omega (arith, l, ap level q))
       (below-missed es t (λ g h. rises g (has-later g e es h)) x (omega (arith, l, ap level p, rises e (has-here e e es refl))))
 
-  rising-once : {v c : ℕ} (es : List ℕ) → Trail tails heads v (downs es) c → Rising es → Distinct (passes heads v es)
+  pub rising-once : {v c : ℕ} (es : List ℕ) → Trail tails heads v (downs es) c → Rising es → Distinct (passes heads v es)
   unfolding has
   rising-once [] t rises = (refl, tt)
   rising-once {v} (e ∷ es) (go s p t) rises =

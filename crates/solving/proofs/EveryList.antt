@@ -122,7 +122,7 @@ module _ (text : List ℕ) (loads : loadText text .answer ≡ 0) where
   same ms hint s = same-hint text ms s (hint-taken (afresh text ms) (stands-follows text loads ms s .standing))
 
   -- a list of calls, from standing moves on
-  all-stand : (ms cs : List Call) → Stands text ms → Stands text (keeps text ms cs)
+  pub all-stand : (ms cs : List Call) → Stands text ms → Stands text (keeps text ms cs)
   unfolding keeps
   all-stand ms [] s = s
   all-stand ms (c ∷ cs) s = all-stand (keepsAfter text ms c) cs (same ms c s .stands)

@@ -89,7 +89,7 @@ out (suc k) b st = go (known (allHome b)) (λ s. out k (next b) s)
         at (inr l) = inr (omega (arith, l, act-falls b (nextAct b) st free))
 
 module _ (b : Board) (st : Standing b) where
-  over : Out maxMoves b (playedOut b)
+  pub over : Out maxMoves b (playedOut b)
   unfolding playedOut
   over = out maxMoves b st
 
@@ -115,7 +115,7 @@ module _ (b : Board) (st : Standing b) where
   abbrev result : Finished
   result = record { answer = 0; count = playedOut b .moves - b .moves; board = ended (b .moves) (playedOut b) }
 
-  finish-result : finishCall b ≡ result
+  pub finish-result : finishCall b ≡ result
   unfolding finishCall
   finish-result = pick-yes _ _ _ (eq-eqb _ _ finish-taken)
 

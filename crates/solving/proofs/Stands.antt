@@ -20,7 +20,7 @@ use Rattle.carrying.specs.Carries.{carryRefusal, carried, carryCall}
 use Rattle.steps.specs.Steps.{stepsOf}
 use Rattle.turning.specs.Turns.{turnRefusal, turned, turnCall}
 use Rattle.undoing.specs.Undone.{undoCall}
-use Rattle.invariant.specs.Routes.{route, routeBy}
+use Rattle.routing.specs.Routes.{route, routeBy}
 use Rattle.invariant.proofs.Potential.{bound-fits}
 use Rattle.invariant.proofs.CarriedRoutes.{route-moved, route-kept}
 use Rattle.invariant.proofs.TurnedRoutes.{route-after}

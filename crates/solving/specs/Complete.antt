@@ -10,7 +10,7 @@ use Rattle.board.specs.declared.Board.{Board}
 use Rattle.guard.specs.Parts.{first, place}
 use Rattle.flows.specs.Trails.{Trail, downs}
 use Rattle.finishing.specs.declared.Finished.{Finished}
-use Rattle.invariant.specs.Routes.{route, load, largest}
+use Rattle.routing.specs.Routes.{route, load, largest}
 use Rattle.invariant.specs.Bound.{movesBound}
 
 -- the vertices that edges lead over, from v on

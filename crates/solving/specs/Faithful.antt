@@ -7,7 +7,7 @@ use Rattle.board.specs.declared.Board.{Board}
 use Rattle.loader.specs.Load.{loadText}
 use Rattle.finishing.specs.Finishes.{finishCall}
 use Rattle.hinting.specs.declared.Suggestion.{Suggestion}
-use Rattle.invariant.specs.Routes.{route}
+use Rattle.routing.specs.Routes.{route}
 use Rattle.calls.specs.Calls.{Call, played, answers, HintsKept}
 use Rattle.solving.specs.Player.{afresh, keeps, says, HintsKeptBy, routeOf}
 use Rattle.solving.specs.Complete.{Complete}

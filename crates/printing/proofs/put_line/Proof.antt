@@ -2,8 +2,7 @@
 use mathlib.Core.Path.{refl, ap, _∙_}
 use Prim.Native.Nat.{_+_, _-_, _*_, _≤_}
 use native.Mathlib.Omega.{arith}
-use borrow.Author.Needs.{needs}
-use lib.ListN.{length, take, drop}
+use lib.ListN.{length, drop}
 use lib.Seq.{sets, length-sets}
 use Rattle.text.specs.Text.{numbersText}
 use Rattle.printing.proofs.Writing.{Left, line-begun, line-length, line-turned, line-done}
@@ -11,13 +10,12 @@ use Rattle.printing.proofs.put_line.Statement.{statement}
 use Rattle.printing.proofs.put_line.Tie as tie
 
 abbrev Inv-loop : tie.InvT-loop
-Inv-loop buf₀ at letter count values to₀ i₀ buf to i =
-    (i ≤ count) × (to ≤ at + 2 + 11 * i)
-    × Left buf (sets buf₀ (at + 2) (numbersText (take count values))) to (at + 2 + length (numbersText (take count values)))
-    (numbersText (drop i (take count values)))
+Inv-loop buf₀ at letter values count to₀ i₀ buf to i =
+    (i ≤ length values) × (to ≤ at + 2 + 11 * i)
+    × Left buf (sets buf₀ (at + 2) (numbersText values)) to (at + 2 + length (numbersText values)) (numbersText (drop i values))
 
 abbrev μ-loop : tie.MeasureT-loop
-μ-loop buf₀ at letter count values to₀ i₀ buf to i = count - i
+μ-loop buf₀ at letter values count to₀ i₀ buf to i = length values - i
 
 put-byte-requires : tie.Need-put-byte-requires Inv-loop μ-loop
 put-byte-requires c κs = tt
@@ -37,8 +35,8 @@ loop-holds c = (omega arith, omega arith, record { size = refl; gives = refl })
 mul-write-number : tie.Need-mul-write-number Inv-loop μ-loop
 mul-write-number c = omega arith
 
-array-read-write-number : tie.Need-array-read-write-number Inv-loop μ-loop
-array-read-write-number c = omega arith
+shared-slice-read-write-number : tie.Need-shared-slice-read-write-number Inv-loop μ-loop
+shared-slice-read-write-number c = omega arith
 
 write-number-requires : tie.Need-write-number-requires Inv-loop μ-loop
 write-number-requires c κs = omega arith
@@ -69,36 +67,35 @@ loop-again c =
     let at-put-byte3 = c .before .before .put-byte3 in
     let at-end-of = c .before .before .before .end-of in
     let at-write-number = c .before .before .before .before .before .before .before .write-number in
-    let at-loop-test = c .before .before .before .before .before .before .before .before .before .loop-test in
-    let at-loop = c .before .before .before .before .before .before .before .before .before .before .loop in (
+    let at-loop-test = c .before .before .before .before .before .before .before .before .before .before .loop-test in
+    let at-loop = c .before .before .before .before .before .before .before .before .before .before .before .loop in (
       omega arith,
       omega arith,
-      line-turned _ _ _ (at-loop-test .taken) (search needs) (at-loop .inv .2) _ _ _ _ (at-write-number .ensures .1 .0) (at-write-number .ensures .0)
+      line-turned _ _ (at-loop-test .taken) (at-loop .inv .2) _ _ _ _ (at-write-number .ensures .1 .0) (at-write-number .ensures .0)
           (at-end-of .ensures) (at-put-byte3 .ensures),
     )
 
 same-length : tie.Need-same-length Inv-loop μ-loop
 same-length c =
-    let at-loop = c .before .loop in
     let at-put-byte2 = c .before .before .before .before .put-byte2 in
     let at-put-byte = c .before .before .before .before .before .before .before .before .put-byte in
-    let at-args = c .before .before .before .before .before .before .before .before .before .before .before .args in
+    let at-args = c .before .before .before .before .before .before .before .before .before .before .before .before .args in
     ap length
-    (line-done (at-args .t4) _ _ (c .loop-test .left) (at-loop .inv .2) .1 ∙ line-begun (at-args .letter) (at-args .at) (take (at-args .count) (at-args .t4)) (at-args .buf .now) _ _ (at-put-byte .ensures) (at-put-byte2 .ensures))
+    (line-done (at-args .values .now) _ (c .loop-test .left) (c .before .loop .inv .2) .1
+    ∙ line-begun (at-args .letter) (at-args .at) (at-args .values .now) (at-args .buf .now) _ _ (at-put-byte .ensures) (at-put-byte2 .ensures))
     ∙ simp length-sets
 
 returns : tie.Need-returns Inv-loop μ-loop
 returns c =
-    let at-loop = c .before .loop in
     let at-put-byte2 = c .before .before .before .before .put-byte2 in
     let at-put-byte = c .before .before .before .before .before .before .before .before .put-byte in
-    let at-args = c .before .before .before .before .before .before .before .before .before .before .before .args in
-    let d = line-done (at-args .t4) _ _ (c .loop-test .left) (at-loop .inv .2) in (
+    let at-args = c .before .before .before .before .before .before .before .before .before .before .before .before .args in
+    let d = line-done (at-args .values .now) _ (c .loop-test .left) (c .before .loop .inv .2) in (
       d .0 ∙ line-length _ _ _,
       (
         omega arith,
         d .1
-            ∙ line-begun (at-args .letter) (at-args .at) (take (at-args .count) (at-args .t4)) (at-args .buf .now) _ _ (at-put-byte .ensures)
+            ∙ line-begun (at-args .letter) (at-args .at) (at-args .values .now) (at-args .buf .now) _ _ (at-put-byte .ensures)
             (at-put-byte2 .ensures),
       ),
     )
@@ -115,7 +112,7 @@ put-line-spec =
     add-to
     loop-holds
     mul-write-number
-    array-read-write-number
+    shared-slice-read-write-number
     write-number-requires
     sub-end-of
     sub-end-of-2

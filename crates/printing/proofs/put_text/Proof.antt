@@ -3,6 +3,9 @@ use borrow.Author.Needs.{needs}
 use Rattle.printing.proofs.put_text.Statement.{statement}
 use Rattle.printing.proofs.put_text.Tie as tie
 
+slice-aggregate-put-line : tie.Need-slice-aggregate-put-line
+slice-aggregate-put-line c = search needs
+
 put-line-requires : tie.Need-put-line-requires
 put-line-requires c κs = search needs
 
@@ -26,4 +29,4 @@ returns c =
 pub put-text-spec : {M : Type 1} → statement M
 put-text-spec =
     tie.close
-    (tie.spec put-line-requires put-edges-requires put-terminals-requires same-length returns)
+    (tie.spec slice-aggregate-put-line put-line-requires put-edges-requires put-terminals-requires same-length returns)

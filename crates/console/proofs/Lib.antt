@@ -1,0 +1,4 @@
+pub mod FirstLines
+pub mod Near
+pub mod Prefix
+pub mod Prints

@@ -1,0 +1,31 @@
+-- What the programs read as the board: document 01, "Route sheet".
+use mathlib.Core.List.{List, [], _++_}
+use Prim.Native.Nat.{ℕ, zero, suc, _+_}
+use lib.ListN.{length, getD, take, drop}
+use Rattle.lists.specs.Lists.{indexOf}
+use Rattle.text.specs.Text.{Read, refused, got, header}
+
+-- no board text is longer, so that a text's first bytes, so many, decide what loading it gives: see the theorem about long texts
+abbrev pub textSpace : ℕ
+textSpace = 2048
+
+-- the first k lines, with their line feeds; all there is, where there are fewer
+unfoldable pub firstLines : ℕ → List ℕ → List ℕ
+firstLines zero s = []
+firstLines (suc k) s = take (suc (indexOf 10 s)) s ++ firstLines k (drop (suc (indexOf 10 s)) s)
+
+-- "as many lines as its first line's counts say": the first, one for each edge and one for each terminal. A first line that is refused is all
+unfoldable pub linesOf : Read (List ℕ) → ℕ
+linesOf (refused n) = 1
+linesOf (got ns s) = 1 + getD ns 1 0 + getD ns 2 0
+
+unfoldable pub linesWanted : List ℕ → ℕ
+unfolding header linesOf
+linesWanted s = linesOf (header s)
+
+-- the part of an input that is the board, and the part behind it
+unfoldable pub boardPart : List ℕ → List ℕ
+boardPart s = firstLines (linesWanted (firstLines 1 s)) s
+
+unfoldable pub movesPart : List ℕ → List ℕ
+movesPart s = drop (length (boardPart s)) s

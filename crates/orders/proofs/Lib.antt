@@ -1,0 +1,6 @@
+pub mod Turns
+pub mod Pieces
+pub mod Shapes
+pub mod Grown
+pub mod Follows
+pub mod Exact

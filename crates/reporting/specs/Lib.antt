@@ -1,0 +1,2 @@
+pub mod Reports
+pub mod Rows

@@ -1,0 +1,4 @@
+pub mod Walks
+pub mod Listing
+pub mod Filling
+pub mod Read

@@ -1,0 +1,70 @@
+-- What the counts and the rows of a board's journal say: how long each route is, the route itself where it has room in its row, and so the load of every edge.
+use mathlib.Core.Path.{_≡_, refl, ap}
+use mathlib.Core.Bool.{Bool, true}
+use mathlib.Core.List.{List, []}
+use Prim.Native.Nat.{ℕ, zero, suc, _+_, _<_, _≤_}
+use native.Mathlib.Omega.{arith}
+use lib.Dec.{leb}
+use lib.ListN.{length, getD, take, drop, replicate, length-replicate}
+use lib.Seq.{sets-eq, take-append-seam}
+use borrow.Author.Tests.{leb-true}
+use Rattle.lists.specs.Choice.{pick}
+use Rattle.lists.specs.Lists.{all}
+use Rattle.lists.specs.Members.{has}
+use Rattle.lists.proofs.Laws.{Known, was-true, was-false, known, all-from}
+use Rattle.lists.proofs.Totals.{total-same}
+use Rattle.board.specs.Limits.{maxVertices, maxTerminals}
+use Rattle.board.specs.declared.Board.{Board}
+use Rattle.routing.specs.Routes.{route, share, load}
+use Rattle.routing.specs.Tables.{rowOf, countsOf, rowsOf, rowAt, routesFit, tableLoad}
+use Rattle.routing.proofs.Walks.{part}
+use Rattle.routing.proofs.Filling.{counts-at, rows-at}
+
+-- tests that agree below the bound
+all-same : (p q : ℕ → Bool) (i k : ℕ) → ((j : ℕ) → j < i + k → p j ≡ q j) → all p i k ≡ all q i k
+unfolding all
+all-same p q i zero e = refl
+all-same p q i (suc k) e = go (known (q i)) (e i (omega arith)) (all-same p q (suc i) k (λ j h. e j (omega arith)))
+  where
+    go : Known (q i) → p i ≡ q i → all p (suc i) k ≡ all q (suc i) k → all p i (suc k) ≡ all q i (suc k)
+    go (was-true t) first rest = rw (first, t, rest, all)
+    go (was-false t) first rest = rw (first, t, all)
+
+-- a row that has room for the edges begins with them
+row-begins : (es : List ℕ) → length es ≤ maxVertices → take (length es) (rowOf es) ≡ es
+unfolding rowOf
+row-begins es h =
+    let zeros : List ℕ = replicate maxVertices 0 in
+    let long : length zeros ≡ maxVertices = length-replicate {A = ℕ} maxVertices 0 in
+    rw (sets-eq es zeros 0 (omega (arith, long))) (take-append-seam es (drop (0 + length es) zeros))
+
+pub counts-route : (b : Board) (i : ℕ) → i < maxTerminals → getD (countsOf (take (b .moves) (b .journal))) i 0 ≡ length (route b i)
+unfolding route
+counts-route b i h = counts-at (take (b .moves) (b .journal)) i h
+
+pub fits-route : (b : Board) → b .network .terminals ≤ maxTerminals
+    → all (λ i. leb (getD (countsOf (take (b .moves) (b .journal))) i 0) maxVertices) 0 (b .network .terminals) ≡ routesFit b
+unfolding routesFit
+fits-route b h = all-same _ _ 0 (b .network .terminals) (λ j l. ap (λ (n : ℕ). leb n maxVertices) (counts-route b j (omega arith)))
+
+pub fits-at : (b : Board) (i : ℕ) → routesFit b ≡ true → i < b .network .terminals → length (route b i) ≤ maxVertices
+unfolding routesFit
+fits-at b i h l = leb-true _ _ (all-from (λ j. leb (length (route b j)) maxVertices) (b .network .terminals) i h l)
+
+pub row-route : (b : Board) (i : ℕ) → i < maxTerminals → length (route b i) ≤ maxVertices → rowAt (countsOf (take (b .moves) (b .journal))) (rowsOf (take (b .moves) (b .journal))) i ≡ route b i
+unfolding route
+row-route b i h l = rw (counts-route b i h, rows-at (take (b .moves) (b .journal)) i [] h) (row-begins (route b i) l)
+
+pub table-load : (b : Board) (e : ℕ) → b .network .terminals ≤ maxTerminals → routesFit b ≡ true
+    → tableLoad (countsOf (take (b .moves) (b .journal))) (rowsOf (take (b .moves) (b .journal))) (b .network .demands) e (b .network .terminals) ≡ load b e
+unfolding tableLoad load
+table-load b e h fit =
+    total-same
+    (part (countsOf (take (b .moves) (b .journal))) (rowsOf (take (b .moves) (b .journal))) (b .network .demands) e)
+    (share b e)
+    0
+    (b .network .terminals)
+    (λ j a l.
+    let inside : j < b .network .terminals = omega arith in
+    let same = row-route b j (omega arith) (fits-at b j fit inside) in
+    ap (λ (es : List ℕ). pick (has e es) (getD (b .network .demands) j 0) 0) same)
