@@ -10,6 +10,9 @@ use crate::text::{write, Edge, Network, Terminal};
 pub const S: &str = "B,2,1,1,0\nC,0,1,5\nW,1,5\n";
 pub const T: &str = "B,4,4,2,0\nC,0,1,3\nC,0,2,3\nC,1,3,3\nC,2,3,3\nW,3,2\nW,3,4\n";
 
+/// The board with a misfit: a terminal that needs less than a marked edge into its vertex has.
+pub const MISFIT: &str = "B,4,6,2,2 C,2,0,4 C,1,0,1 C,2,1,7 C,2,0,0 C,1,3,8 C,2,1,2 W,0,5 W,3,8 ";
+
 /// The longest text that can be accepted, and the longest that the program takes.
 pub const LONGEST: usize = 1_246;
 pub const GREATEST: usize = 65_535;
@@ -100,7 +103,7 @@ const BY_HAND: [&str; 79] = [
     "B,3,4,1,0 C,0,2,0 C,2,1,0 C,0,1,1 C,1,0,0 W,1,1 ",
     "B,2,4,1,1 C,1,0,1 C,1,0,2 C,1,0,1 C,1,0,1 W,0,5 ",
     "B,2,1,3,0 C,0,1,6 W,1,1 W,1,2 W,1,3 ",
-    "B,4,6,2,2 C,2,0,4 C,1,0,1 C,2,1,7 C,2,0,0 C,1,3,8 C,2,1,2 W,0,5 W,3,8 ",
+    MISFIT,
     // Cycles: two at one vertex; one through the source; a walk that closes behind its start; two that share an edge.
     "B,4,5,1,0 C,0,1,2 C,1,2,3 C,2,1,3 C,1,3,4 C,3,1,4 W,1,2 ",
     "B,3,3,1,0 C,0,1,5 C,1,2,3 C,2,0,3 W,1,2 ",
@@ -112,7 +115,7 @@ const BY_HAND: [&str; 79] = [
 ];
 
 /// A board as long as a text can be: each of 16 terminals with four edges of its own in a row, every number with the most digits.
-fn longest_board() -> Network {
+pub fn longest_board() -> Network {
     let source = 31;
     let mut edges = Vec::new();
     let mut terminals = Vec::new();
@@ -125,6 +128,19 @@ fn longest_board() -> Network {
     Network { vertices: 32, edges, terminals, source }
 }
 
+/// The fewest of everything: two vertices, one edge and one terminal.
+pub fn smallest_board() -> Network {
+    Network { vertices: 2, edges: vec![Edge { tail: 1, head: 0, flow: 1 }], terminals: vec![Terminal { home: 0, demand: 1 }], source: 1 }
+}
+
+/// The most of everything: 32 vertices in a row behind the source, 64 edges, two of them without flow, and 16 terminals at the last vertex.
+pub fn greatest_board() -> Network {
+    let edge = |(tail, head, flow)| Edge { tail, head, flow };
+    let pairs = (0..31).flat_map(|at| [(at, at + 1, 500_000), (at, at + 1, 300_000)]);
+    let edges = pairs.chain([(0, 1, 0), (0, 31, 0)]).map(edge).collect();
+    Network { vertices: 32, edges, terminals: vec![Terminal { home: 31, demand: 50_000 }; 16], source: 0 }
+}
+
 /// The greatest sums at one vertex: 40 edges enter it, 24 leave it, 16 terminals stand there.
 fn greatest_sums() -> Network {
     let edge = |(tail, head)| Edge { tail, head, flow: 1_000_000 };
@@ -133,7 +149,7 @@ fn greatest_sums() -> Network {
 }
 
 /// 32 vertices, each but the source with an edge from it, and each but the last with one back: one more on any edge is out of balance.
-fn star() -> Network {
+pub fn star() -> Network {
     let out = (1..32).map(|head| Edge { tail: 0, head, flow: 7 });
     let back = (1..31).map(|tail| Edge { tail, head: 0, flow: 7 });
     let terminals = vec![Terminal { home: 31, demand: 7 }];

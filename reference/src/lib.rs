@@ -24,3 +24,4 @@ pub mod damage;
 pub mod encoded;
 pub mod properties;
 pub mod random;
+pub mod scripts;

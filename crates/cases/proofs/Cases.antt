@@ -42,7 +42,7 @@ use Rattle.calls.specs.Calls.{Call, carry, turn, undo, played, answers}
 use Rattle.routing.specs.Routes.{routeBy, route, load}
 
 -- a text in ASCII
-pub bytes : String → List ℕ
+unfoldable pub bytes : String → List ℕ
 bytes String.[] = []
 bytes (String._∷_ c s) = code c ∷ bytes s
 
@@ -75,7 +75,7 @@ finishing text flows routes loads = record { text = text; answer = 0; calls = []
 withCycle : String
 withCycle = "B,3,3,1,0\nC,0,1,4\nC,1,2,3\nC,2,1,3\nW,1,4\n"
 
-boardT : String
+unfoldable pub boardT : String
 boardT = "B,4,4,2,0\nC,0,1,3\nC,0,2,3\nC,1,3,3\nC,2,3,3\nW,3,2\nW,3,4\n"
 
 -- down 0, down 2, up 3, up 1
@@ -103,7 +103,7 @@ cases =
     ∷ finishing boardT (3 ∷ 3 ∷ 3 ∷ 3 ∷ []) ((0 ∷ 2 ∷ []) ∷ (1 ∷ 3 ∷ []) ∷ []) (2 ∷ 4 ∷ 2 ∷ 4 ∷ [])
     ∷ []
 
-same : List ℕ → List ℕ → Bool
+unfoldable pub same : List ℕ → List ℕ → Bool
 same [] [] = true
 same [] (y ∷ ys) = false
 same (x ∷ xs) [] = false

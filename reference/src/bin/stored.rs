@@ -1,10 +1,13 @@
 //! stored FOLDER: writes FOLDER/NAME/stdin and FOLDER/NAME/stdout for each program crate NAME, the outputs worked out by the reference.
 
 use reference::boards::random_board;
+use reference::calls::random_input;
 use reference::cases::{texts, GREATEST, S, T};
 use reference::encoded::{call_by_reference, codes_of, entries, random_list, EngineCall};
 use reference::player::Player;
+use reference::programs::{play, sheet};
 use reference::random::Random;
+use reference::scripts;
 use reference::text::write;
 use std::path::Path;
 
@@ -85,9 +88,29 @@ fn trials() -> (Vec<u8>, Vec<u8>) {
     (input, output.into_bytes())
 }
 
+/// The program `play`: a long run on a great board, lines of another form among the calls; a finish, lines after it, and one without its line feed.
+fn long_run() -> Vec<u8> {
+    let mut rng = Random::new(7);
+    let mut network = random_board(&mut rng);
+    while network.terminals.len() < 12 {
+        network = random_board(&mut rng);
+    }
+    let mut input = random_input(&mut rng, &write(&network), 400);
+    input.extend(b"\nF\nU\nF\nH");
+    input
+}
+
 fn main() -> std::io::Result<()> {
     let folder = std::env::args().nth(1).expect("usage: stored FOLDER");
-    for (name, (input, output)) in [("corpus", corpus()), ("trials", trials())] {
+    let run = long_run();
+    let programs = [
+        ("corpus", corpus()),
+        ("trials", trials()),
+        ("scripts", scripts::stored()),
+        ("sheet", (T.into(), sheet(T.as_bytes()))),
+        ("play", (run.clone(), play(&run))),
+    ];
+    for (name, (input, output)) in programs {
         let crate_folder = Path::new(&folder).join(name);
         std::fs::create_dir_all(&crate_folder)?;
         std::fs::write(crate_folder.join("stdin"), input)?;

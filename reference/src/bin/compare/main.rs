@@ -2,6 +2,7 @@
 //! one and then a fresh one, which is printed. The first difference is printed with its input, and the exit status is 1.
 
 mod play;
+mod report;
 
 use play::compare_play;
 use reference::boards::random_board;
@@ -12,12 +13,15 @@ use reference::encoded::{random_list, EngineCall};
 use reference::player::Player;
 use reference::random::Random;
 use reference::text::{flows, read, write};
+use report::{compare_long_lines, compare_programs};
 use std::collections::BTreeMap;
 use std::fmt::Debug;
 use std::time::{Instant, SystemTime};
 
 const FIXED_SEED: u64 = 1;
 const INPUTS: u64 = 60_000;
+/// For each so many inputs, one through the programs.
+const PROGRAMS: u64 = 150;
 /// The places that the engine's record has for edges; those past a board's edges hold 0.
 const EDGES: usize = 64;
 
@@ -145,13 +149,18 @@ fn compare_made(seed: u64, tally: &mut Tally) -> Result<(), String> {
         [&to_source[..], &[around.clone(), EngineCall::Undo, EngineCall::Turn(vec![])]].concat(),
         [EngineCall::Hint].into_iter().chain(to_source).flat_map(|call| [call, EngineCall::Hint]).chain([around, EngineCall::Hint]).collect(),
     ];
-    lists.iter().try_for_each(|calls| compare_play(T.as_bytes(), calls, true, tally))
+    lists.iter().try_for_each(|calls| compare_play(T.as_bytes(), calls, true, tally))?;
+    compare_long_lines(T, tally)
 }
 
 fn compare(seed: u64, count: u64, tally: &mut Tally) -> Result<(), String> {
     compare_made(seed, tally)?;
     for index in 0..count {
-        let compared = compare_random(&mut Random::of_input(seed, index), tally);
+        let mut rng = Random::of_input(seed, index);
+        let mut compared = compare_random(&mut rng, tally);
+        if index % PROGRAMS == 0 {
+            compared = compared.and_then(|()| compare_programs(&mut rng, tally));
+        }
         compared.map_err(|difference| format!("input {index} of seed {seed}: {difference}"))?;
     }
     Ok(())

@@ -1,6 +1,7 @@
 //! Lists of carries, turns, undos and hints through engine and reference: the answers, the rule that each hint keeps, the whole board at the end,
-//! journal included, and the board that a finish makes of it.
+//! journal included, the board that a finish makes of it, and its report.
 
+use crate::report::compare_report;
 use crate::{same, Tally, EDGES};
 use reference::encoded::{call_by_reference, codes_of, entries, number, set_of, EngineCall, ENTRY};
 use reference::player::Player;
@@ -247,7 +248,7 @@ fn compare_finish(text: &[u8], calls: &[EngineCall], tally: &mut Tally) -> Resul
     check_hints(text, calls, &hints, tally)?;
     *tally.entry(format!("finish {}", finished.answer)).or_default() += 1;
     *tally.entry("moves of finishes".into()).or_default() += u64::from(finished.count);
-    Ok(())
+    compare_report(text, calls, tally)
 }
 
 /// A text loaded, a list of calls made by both, and a finish after them; with `at_every_call`, a finish from every board on the way, too.

@@ -1,0 +1,46 @@
+-- `play::all_pieces` is safe and ends. The measure is the number of turns that are left.
+use Prim.Native.Nat.{_≤_}
+use borrow.Author.Needs.{needs}
+use Rattle.play.proofs.all_pieces.Statement.{statement}
+use Rattle.play.proofs.all_pieces.Tie as tie
+
+abbrev Inv-loop : tie.InvT-loop
+Inv-loop current₀ turns₀ current turns = turns ≤ turns₀
+
+abbrev μ-loop : tie.MeasureT-loop
+μ-loop current₀ turns₀ current turns = turns
+
+loop-holds : tie.Need-loop-holds Inv-loop μ-loop
+loop-holds c = search needs
+
+next-piece-requires : tie.Need-next-piece-requires Inv-loop μ-loop
+next-piece-requires c κs = search needs
+
+returns : tie.Need-returns Inv-loop μ-loop
+returns c = search needs
+
+sub-turns : tie.Need-sub-turns Inv-loop μ-loop
+sub-turns c = search needs
+
+loop-less : tie.Need-loop-less Inv-loop μ-loop
+loop-less c = search needs
+
+loop-again : tie.Need-loop-again Inv-loop μ-loop
+loop-again c = search needs
+
+returns-2 : tie.Need-returns-2 Inv-loop μ-loop
+returns-2 c = search needs
+
+pub all-pieces-spec : {M : Type 1} → statement M
+all-pieces-spec =
+    tie.close
+    (tie.spec
+    Inv-loop
+    μ-loop
+    loop-holds
+    next-piece-requires
+    returns
+    sub-turns
+    loop-less
+    loop-again
+    returns-2)

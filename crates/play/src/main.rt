@@ -1,0 +1,40 @@
+// Reads a board on standard input and then lines, and prints what each is answered with.
+use libc::STDIN_FILENO;
+use serving::Served;
+use session::Session;
+
+// Reads a piece of the input, as much as there is, and serves it. At the end of the input the session goes on no more.
+fn next_piece(session: Session) -> Served {
+    let mut space = io::buffer();
+    let got = io::count(libc::read(STDIN_FILENO, &mut space), &space);
+    if got == 0 {
+        return Served {
+            session: session,
+            going: false,
+        };
+    }
+    serving::serve(session, &space[..got])
+}
+
+// A proved loop has to end, and nothing says that the input does. So the loop counts its turns down, from a number that no run
+// uses up.
+fn all_pieces(session: Session) -> Session {
+    let mut current = session;
+    let mut turns = u64::MAX;
+    while 0 < turns {
+        let served = next_piece(current);
+        let going = served.going;
+        current = served.session;
+        if !going {
+            return current;
+        }
+        turns -= 1;
+    }
+    current
+}
+
+fn main() {
+    let session = Session::start();
+    let last = all_pieces(session);
+    serving::close(last);
+}

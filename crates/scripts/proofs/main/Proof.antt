@@ -1,0 +1,46 @@
+-- `scripts::main` is safe and ends. The measure is the number of turns that are left.
+use Prim.Native.Nat.{_≤_}
+use borrow.Author.Needs.{needs}
+use Rattle.scripts.proofs.main.Statement.{statement}
+use Rattle.scripts.proofs.main.Tie as tie
+
+abbrev Inv-loop : tie.InvT-loop
+Inv-loop turns₀ turns = turns ≤ turns₀
+
+abbrev μ-loop : tie.MeasureT-loop
+μ-loop turns₀ turns = turns
+
+loop-holds : tie.Need-loop-holds Inv-loop μ-loop
+loop-holds c = search needs
+
+next-script-requires : tie.Need-next-script-requires Inv-loop μ-loop
+next-script-requires c κs = search needs
+
+sub-turns : tie.Need-sub-turns Inv-loop μ-loop
+sub-turns c = search needs
+
+loop-less : tie.Need-loop-less Inv-loop μ-loop
+loop-less c = search needs
+
+loop-again : tie.Need-loop-again Inv-loop μ-loop
+loop-again c = search needs
+
+returns : tie.Need-returns Inv-loop μ-loop
+returns c = search needs
+
+returns-2 : tie.Need-returns-2 Inv-loop μ-loop
+returns-2 c = search needs
+
+pub main-spec : {M : Type 1} → statement M
+main-spec =
+    tie.close
+    (tie.spec
+    Inv-loop
+    μ-loop
+    loop-holds
+    next-script-requires
+    sub-turns
+    loop-less
+    loop-again
+    returns
+    returns-2)

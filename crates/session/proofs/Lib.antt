@@ -1,0 +1,10 @@
+pub mod Lines
+pub mod Stages
+pub mod KeptText
+pub mod Pieces
+pub mod PlayedLines
+pub mod BoardParts
+pub mod Prints
+pub mod Replying
+pub mod Keeping
+pub mod Feeding

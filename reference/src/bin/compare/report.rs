@@ -1,0 +1,135 @@
+//! The route report of a board that a list of calls leads to, before a finish and after it, through engine and reference; and inputs through the programs
+//! `sheet` and `play` themselves.
+
+use crate::{same, Tally};
+use reference::boards::random_board;
+use reference::calls::random_input;
+use reference::damage::damaged;
+use reference::encoded::{call_by_reference, codes_of, EngineCall};
+use reference::player::Player;
+use reference::programs::{play, sheet};
+use reference::random::Random;
+use reference::text::write;
+use std::io::Write;
+use std::process::{Command, Stdio};
+
+// The engine's exported function: crates/boundary.
+extern "C" {
+    #[allow(clippy::too_many_arguments)]
+    fn vulprow_sheet(
+        text: *const u8,
+        text_length: usize,
+        codes: *const u32,
+        codes_length: usize,
+        steps: *const u8,
+        steps_length: usize,
+        finishes: u32,
+        buffer: *mut u8,
+        buffer_length: usize,
+        used: *mut usize,
+    ) -> u32;
+}
+
+/// What the call `sheet` answered, and the buffer then.
+#[derive(Debug, PartialEq, Eq)]
+struct Reported {
+    answer: u32,
+    used: usize,
+    buffer: Vec<u8>,
+}
+
+fn reported_by_engine(text: &[u8], calls: &[EngineCall], finishes: bool, mut buffer: Vec<u8>) -> Reported {
+    let (codes, steps) = codes_of(calls);
+    let mut used = usize::MAX;
+    // The engine gets each slice as its address and its length, and nothing else holds them meanwhile.
+    let answer = unsafe {
+        vulprow_sheet(
+            text.as_ptr(),
+            text.len(),
+            codes.as_ptr(),
+            codes.len(),
+            steps.as_ptr(),
+            steps.len(),
+            u32::from(finishes),
+            buffer.as_mut_ptr(),
+            buffer.len(),
+            &mut used,
+        )
+    };
+    Reported { answer, used, buffer }
+}
+
+fn reported_by_reference(player: &Player, mut buffer: Vec<u8>) -> Reported {
+    let (answer, used) = match player.sheet(&mut buffer) {
+        Ok(used) => (0, used),
+        Err(refusal) => (refusal, 0),
+    };
+    Reported { answer, used, buffer }
+}
+
+/// The report before a finish and after it; after it into a buffer that is too short by a byte, one that fits, and one with bytes behind the text.
+pub fn compare_report(text: &[u8], calls: &[EngineCall], tally: &mut Tally) -> Result<(), String> {
+    let (_, mut player) = Player::load(text);
+    for call in calls {
+        call_by_reference(&mut player, call);
+    }
+    let mut compare = |player: &Player, finishes: bool, length: usize| {
+        let buffer: Vec<u8> = (0..length).map(|at| at as u8 ^ 0xa5).collect();
+        let by_reference = reported_by_reference(player, buffer.clone());
+        let reported = same(text, by_reference, reported_by_engine(text, calls, finishes, buffer))?;
+        *tally.entry(format!("sheet {}", reported.answer)).or_default() += 1;
+        Ok::<(), String>(())
+    };
+    compare(&player, false, 9_000)?;
+    let _ = player.finish();
+    let length = player.sheet_text().map_or(1, |report| report.len());
+    [length - 1, length, length + 7].into_iter().try_for_each(|length| compare(&player, true, length))
+}
+
+/// What a program prints for an input, in a stack of one mebibyte.
+fn printed(program: &str, input: &[u8]) -> Result<Vec<u8>, String> {
+    let command = format!("ulimit -s 1024; exec target/bin/{program}");
+    let spawned = Command::new("sh").args(["-c", &command]).stdin(Stdio::piped()).stdout(Stdio::piped()).spawn();
+    let mut child = spawned.map_err(|error| format!("{program} does not start: {error}"))?;
+    let mut pipe = child.stdin.take().expect("the input is a pipe");
+    let bytes = input.to_vec();
+    // A program that has refused its board reads no further, and what is left has no reader.
+    let feeding = std::thread::spawn(move || drop(pipe.write_all(&bytes)));
+    let output = child.wait_with_output().map_err(|error| format!("{program} does not end: {error}"))?;
+    feeding.join().expect("the input is written");
+    match output.status.success() {
+        true => Ok(output.stdout),
+        false => Err(format!("{program} ends with {}", output.status)),
+    }
+}
+
+fn compare_program(program: &str, input: &[u8], wanted: Vec<u8>, tally: &mut Tally) -> Result<(), String> {
+    let told = |text: Vec<u8>| String::from_utf8_lossy(&text).into_owned();
+    same(input, told(wanted), told(printed(program, input)?)).map_err(|difference| format!("{program}: {difference}"))?;
+    *tally.entry(format!("runs of {program}")).or_default() += 1;
+    Ok(())
+}
+
+/// A random board, good or damaged, through `sheet`, and lines on it through `play`.
+pub fn compare_programs(rng: &mut Random, tally: &mut Tally) -> Result<(), String> {
+    let network = random_board(rng);
+    let good = write(&network);
+    let text = if rng.chance(2, 3) { good.clone() } else { damaged(rng, &network) };
+    compare_program("sheet", &text, sheet(&text), tally)?;
+    let count = rng.pick(&[0, 3, 20, 60]);
+    let mut input = random_input(rng, &good, count);
+    if rng.chance(1, 8) {
+        input.splice(..good.len().min(input.len()), text);
+    }
+    compare_program("play", &input, play(&input), tally)
+}
+
+/// Lines of 400,000 bytes, and nothing.
+pub fn compare_long_lines(board: &str, tally: &mut Tally) -> Result<(), String> {
+    let turn = |last: &str| format!("{board}T{}{last}\nF\n", ",0,D".repeat(100_000)).into_bytes();
+    let inputs = [turn(",9,U"), turn(",3,U"), turn(","), vec![b'7'; 400_000], Vec::new()];
+    inputs.iter().try_for_each(|input| {
+        compare_program("play", input, play(input), tally)?;
+        compare_program("sheet", input, sheet(input), tally)
+    })
+}
