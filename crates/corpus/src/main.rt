@@ -4,20 +4,6 @@ use board::Network;
 use libc::STDIN_FILENO;
 use libc::STDOUT_FILENO;
 
-// The number that two bytes make.
-fn two_bytes(high: u8, low: u8) -> usize {
-    (high as usize) * 256 + (low as usize)
-}
-
-// A number alone on a line.
-fn print_line(n: u32) -> bool {
-    let is_printed = io::print_decimal(STDOUT_FILENO, n as u64);
-    if !is_printed {
-        return false;
-    }
-    io::write_all(STDOUT_FILENO, b"\n")
-}
-
 // The text of the network, or on a line the number that writing it is refused with.
 fn print_text(network: Network) -> bool {
     let mut b = board::Board::closed();
@@ -26,7 +12,7 @@ fn print_text(network: Network) -> bool {
     let mut space = [0u8; 1500];
     let written = writer::write(b, &mut space);
     if written.answer != 0 {
-        return print_line(written.answer);
+        return framing::print_line(written.answer);
     }
     let used = written.used;
     if used <= space.len() {
@@ -39,7 +25,7 @@ fn print_text(network: Network) -> bool {
 // What reading the text answers, and after a 0 the text of what was read.
 fn answer(text: &[u8]) -> bool {
     let reading = reader::read(text);
-    let is_printed = print_line(reading.answer);
+    let is_printed = framing::print_line(reading.answer);
     if !is_printed {
         return false;
     }
@@ -57,7 +43,7 @@ fn next_text(space: &mut [u8]) -> bool {
     if got < 2 {
         return false;
     }
-    let n = two_bytes(before[0], before[1]);
+    let n = framing::two_bytes(before[0], before[1]);
     if space.len() < n {
         return false;
     }

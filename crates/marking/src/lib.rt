@@ -21,20 +21,6 @@ pub fn singular_in<'a>(
     singular::straight(tails, heads, flows, vertices, head)
 }
 
-// The same on a board.
-pub fn singular(board: Board, e: u32) -> bool
-    ensures { λ r. ⌜ r ≡ singular board e ⌝ }
-{
-    let net = board.network;
-    singular_in(
-        &net.tails,
-        &net.heads,
-        &board.flows,
-        net.vertices,
-        e as usize,
-    )
-}
-
 // Whether edge e is not marked, positive and singular. The way on from its head is followed last.
 fn is_fresh<'a>(
     tails: &'a [u32],

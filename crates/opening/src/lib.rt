@@ -5,7 +5,7 @@ use board::Network;
 ghost use mathlib.Core.Path.{_≡_};
 ghost use Rattle.lists.specs.Lists.{lowest};
 ghost use Rattle.guard.specs.Parts.{flow, demand, marked};
-ghost use Rattle.opening.specs.Opens.{flowFits, enters, isOpen, openEdge, openTerminal, someOpen, isOpenAt, hasOpenIn};
+ghost use Rattle.opening.specs.Opens.{flowFits, enters, openEdge, openTerminal, someOpen, isOpenAt, hasOpenIn};
 
 fn flow_fits(mark: bool, flow: u32, demand: u32) -> bool
     ensures { λ r. ⌜ r ≡ flowFits mark flow demand ⌝ }
@@ -35,7 +35,7 @@ pub fn enters(board: Board, i: u32, e: u32) -> bool
 }
 
 // Whether the carry over edge e is open for a terminal with that place and demand.
-pub fn is_open_at<'a>(
+fn is_open_at<'a>(
     heads: &'a [u32],
     flows: &'a [u32],
     marks: EdgeSet,
@@ -71,16 +71,6 @@ fn lowest_open<'a>(
         e += 1;
     }
     e
-}
-
-// Whether the carry of terminal i over edge e is open.
-pub fn is_open(board: Board, i: u32, e: u32) -> bool
-    ensures { λ r. ⌜ r ≡ isOpen board i e ⌝ }
-{
-    let net = board.network;
-    let place = lists::word_at(&board.places, i as usize);
-    let demand = lists::word_at(&net.demands, i as usize);
-    is_open_at(&net.heads, &board.flows, board.marks, place, demand, e)
 }
 
 // The lowest edge of an open carry of terminal i, or the count of edges.

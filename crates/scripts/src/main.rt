@@ -7,26 +7,12 @@ use session::Session;
 ghost use Prim.Native.Nat.{_≤_};
 ghost use lib.ListN.{length};
 
-// The number that four bytes make, the first the highest.
-fn four_bytes(a: u8, b: u8, c: u8, d: u8) -> u32 {
-    (a as u32) * 16777216 + (b as u32) * 65536 + (c as u32) * 256 + (d as u32)
-}
-
 // The smaller of two lengths.
 fn least(a: u32, b: u32) -> u32
     ensures { λ r. ⌜ r ≤ a ⌝ }
     ensures { λ r. ⌜ r ≤ b ⌝ }
 {
     if a < b { a } else { b }
-}
-
-// A number alone on a line.
-fn print_line(n: u32) -> bool {
-    let is_printed = io::print_decimal(STDOUT_FILENO, n as u64);
-    if !is_printed {
-        return false;
-    }
-    io::write_all(STDOUT_FILENO, b"\n")
 }
 
 // Reads the next bytes: as many as a piece has, no more than are left and no more than there is room for. Answers how many, 0 where the input ends before.
@@ -98,7 +84,7 @@ fn skip(length: u32) -> bool {
 // What the call `sheet` answers on a board, with this room, and its text.
 fn report_into(board: Board, room: &mut [u8]) -> bool {
     let written = reporting::sheet(board, room);
-    let answered = print_line(written.answer);
+    let answered = framing::print_line(written.answer);
     let printed = serving::print_part(room, written.used);
     answered && printed
 }
@@ -116,10 +102,10 @@ fn report(board: Board, length: usize) -> bool {
 fn call_script(text: &[u8]) -> bool {
     let loaded = loader::load(text);
     let board = loaded.board;
-    let loading = print_line(loaded.answer);
+    let loading = framing::print_line(loaded.answer);
     let before = report(board, 9000);
     let finished = finishing::finish(board);
-    let finishing = print_line(finished.answer);
+    let finishing = framing::print_line(finished.answer);
     let mut last = board;
     if finished.answer == 0 {
         last = finished.board;
@@ -168,7 +154,7 @@ fn next_script() -> bool {
     if got < 6 {
         return false;
     }
-    let length = four_bytes(before[2], before[3], before[4], before[5]);
+    let length = framing::four_bytes(before[2], before[3], before[4], before[5]);
     let done = if before[0] == b'P' {
         play_script(before[1], length)
     } else {

@@ -8,16 +8,6 @@ use libc::STDOUT_FILENO;
 ghost use Prim.Native.Nat.{_+_, _≤_};
 ghost use lib.ListN.{length};
 
-// The number that two bytes make.
-fn two_bytes(high: u8, low: u8) -> usize {
-    (high as usize) * 256 + (low as usize)
-}
-
-// The number that four bytes make, the first the highest.
-fn four_bytes(a: u8, b: u8, c: u8, d: u8) -> u32 {
-    (a as u32) * 16777216 + (b as u32) * 65536 + (c as u32) * 256 + (d as u32)
-}
-
 // The length that the next two bytes give; 65536 where the input ends before.
 fn read_length() -> usize {
     let mut before = [0u8; 2];
@@ -25,7 +15,7 @@ fn read_length() -> usize {
     if got < 2 {
         return 65536;
     }
-    two_bytes(before[0], before[1])
+    framing::two_bytes(before[0], before[1])
 }
 
 // Reads a length and so many bytes, into the front of the space, and answers the length; 65536 where the part is cut short or has no room.
@@ -50,9 +40,9 @@ fn read_call(codes: &mut [u32], i: usize) -> bool
     if got < 9 {
         return false;
     }
-    let kind = four_bytes(0, 0, 0, bytes[0]);
-    let first = four_bytes(bytes[1], bytes[2], bytes[3], bytes[4]);
-    let second = four_bytes(bytes[5], bytes[6], bytes[7], bytes[8]);
+    let kind = framing::four_bytes(0, 0, 0, bytes[0]);
+    let first = framing::four_bytes(bytes[1], bytes[2], bytes[3], bytes[4]);
+    let second = framing::four_bytes(bytes[5], bytes[6], bytes[7], bytes[8]);
     lists::put_word(codes, i, kind);
     lists::put_word(codes, i + 1, first);
     lists::put_word(codes, i + 2, second);
@@ -97,16 +87,11 @@ fn print_number(n: u64, mark: &[u8]) -> bool {
     io::write_all(STDOUT_FILENO, mark)
 }
 
-// A number alone on a line.
-fn print_line(n: u32) -> bool {
-    print_number(n as u64, b"\n")
-}
-
 // Numbers, each alone on a line.
 fn print_numbers(numbers: &[u32]) -> bool {
     let mut i: usize = 0;
     while i < numbers.len() {
-        let is_printed = print_line(numbers[i]);
+        let is_printed = framing::print_line(numbers[i]);
         if !is_printed {
             return false;
         }
@@ -160,9 +145,9 @@ fn print_journal(journal: [Entry; Board::JOURNAL], moves: u32) -> bool {
 fn print_finish(finish: Finished) -> bool {
     let last = finish.board;
     let moves = last.moves;
-    let answered = print_line(finish.answer);
-    let counted = print_line(finish.count);
-    let listed = print_line(moves);
+    let answered = framing::print_line(finish.answer);
+    let counted = framing::print_line(finish.count);
+    let listed = framing::print_line(moves);
     if !(answered && counted && listed) {
         return false;
     }
@@ -179,7 +164,7 @@ fn run_trial(text: &[u8], codes: &[u32], steps: &[u8]) -> bool {
     if given.len() < count {
         return false;
     }
-    let loaded = print_line(outcome.loading);
+    let loaded = framing::print_line(outcome.loading);
     let answered = print_numbers(&given[..count]);
     if !(loaded && answered) {
         return false;

@@ -3,8 +3,6 @@ use Rattle.guard.specs.Guard.{moveIntact}
 use borrow.Author.Needs.{needs}
 use Rattle.guard.proofs.move_intact.Statement.{statement}
 use Rattle.guard.proofs.move_intact.Tie as tie
-use Rattle.guard.proofs.move_intact.Reads as reads
-use Rattle.guard.proofs.move_intact.Lts as lts
 
 -- src/lib.rt:86:27
 enum-told : tie.Need-enum-told
