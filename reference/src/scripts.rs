@@ -39,7 +39,7 @@ const BOARDS: [&str; 12] = [
 
 /// Boards with lines, in the same way: each refusal of the lines, document 01's cases, lines of another form, lines after a finish, a last line without
 /// its line feed, and boards that are refused though lines follow.
-const PLAYS: [(&str, &str); 14] = [
+const PLAYS: [(&str, &str); 16] = [
     (T, "K,0,0 K,1,2 K,2,0 K,0,4 U T F U"),
     (T, "K,0,2 K,0,0 K,0,1 T,0,D,2,D,3,U,1,U U H F K,0,0 T,200,D H U F "),
     (T, "T,0,D,2,D,3,U,1,U T,0,D T,0,D,0,U T,4,D T,128,D T,9999999,U,0,D K,256,0 K,0,256 K,9999999,9999999 "),
@@ -49,6 +49,8 @@ const PLAYS: [(&str, &str); 14] = [
     (MISFIT, "H K,0,0 H T,0,D,1,U U F "),
     (T, "X  T, T,0 T,0,D, T,0,d T,00,D T,,D T,12345678,D K K,0 K,0, K,0,0,0 K,00,2 H, HH F, u F"),
     (T, "\r K,0,2\r F\t F\0 \u{7f} F F"),
+    ("B,2,1,1,0 C,1,1,5 W,1,5 ", "F "),
+    ("B,2,1,1,0 C,0,1,5 W,0,5 ", "F "),
     ("B,2,1,1,0 C,0,1,4 W,1,5 ", "K,0,0 F "),
     ("B,99 ", "K,0,0 "),
     ("B,2,1,1,2 ", "C,0,1,5 "),

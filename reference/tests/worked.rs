@@ -5,6 +5,7 @@ use reference::cases::{S, T};
 use reference::moves::{amount, Step};
 use reference::player::Player;
 use reference::programs::{play, sheet};
+use reference::scripts::{scripts, Use};
 use reference::text::read;
 
 fn text(lines: &str) -> Vec<u8> {
@@ -127,4 +128,14 @@ fn closed_and_finished_boards() {
     assert_eq!(buffer, [7; 100]);
     assert_eq!((player.sheet(&mut buffer), buffer[22]), (Ok(22), 7));
     assert_eq!(player.write(&mut buffer), Ok(S.len()));
+}
+
+#[test]
+fn every_refusal_is_played() {
+    let plays = scripts().into_iter().filter(|(made_for, _)| matches!(made_for, Use::Play(_)));
+    let printed: Vec<u8> = plays.flat_map(|(_, input)| play(&input)).collect();
+    let lines: Vec<String> = String::from_utf8(printed).unwrap().lines().map(str::to_string).collect();
+    for number in (0..=7).chain(20..=27) {
+        assert!(lines.contains(&number.to_string()), "{number}");
+    }
 }
