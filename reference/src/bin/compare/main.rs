@@ -124,7 +124,7 @@ fn compare_random(rng: &mut Random, tally: &mut Tally) -> Result<(), String> {
     // Lists of calls: on good boards as a rule, and on those that a damaged text leaves.
     if rng.chance(1, 16) {
         let calls = random_list(rng, &good);
-        let at_every_call = rng.chance(1, 16);
+        let at_every_call = rng.chance(1, 8);
         compare_play(if rng.chance(7, 8) { &good } else { &text }, &calls, at_every_call, tally)?;
     }
     Ok(())
