@@ -9,6 +9,7 @@
 
 // The rules, in document 01's order.
 pub mod cancelling;
+pub mod catalog;
 pub mod moves;
 pub mod player;
 pub mod programs;

@@ -38,7 +38,7 @@ struct Loaded {
 pub type Written = Result<usize, Refusal>;
 
 /// "8 the buffer is too short for the text; bytes past a written text are kept."
-fn put(text: &[u8], buffer: &mut [u8]) -> Written {
+pub(crate) fn put(text: &[u8], buffer: &mut [u8]) -> Written {
     if buffer.len() < text.len() {
         return Err(8);
     }
