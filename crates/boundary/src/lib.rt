@@ -8,6 +8,7 @@ ghost use Rattle.calls.specs.Calls.{answers, Told};
 ghost use Rattle.calls.specs.Codes.{callsOf, listed};
 ghost use lib.Seq.{sets};
 ghost use Rattle.reporting.specs.Reports.{sheetCall, sheeted};
+ghost use Rattle.catalog.specs.Catalog.{catalogCall, catalogued};
 ghost use Rattle.boundary.specs.Ends.{after, finished, lastBoard};
 
 // Loads a text, and writes the board that it gave into the buffer. Answers what the load answered; `writing` and `used` get what the
@@ -163,4 +164,16 @@ pub extern "C" fn vulprow_sheet(
     let written = reporting::sheet(last, buf);
     *used = written.used;
     written.answer
+}
+
+// Writes the text of a board of the catalog. Answers what `catalog::write` answered; `used` gets the length of the text.
+#[no_mangle]
+pub extern "C" fn vulprow_catalog(number: u32, buf: &mut [u8], used: &mut usize) -> u32
+    ensures { λ r. ⌜ r ≡ catalogCall number (length (now (buf .entry))) .answer ⌝ }
+    ensures { λ _. ⌜ now (used .exit) ≡ catalogCall number (length (now (buf .entry))) .used ⌝ }
+    ensures { λ _. ⌜ now (buf .exit) ≡ catalogued number (now (buf .entry)) ⌝ }
+{
+    let w = catalog::write(number, buf);
+    *used = w.used;
+    w.answer
 }

@@ -1,8 +1,10 @@
-//! stored FOLDER: writes FOLDER/NAME/stdin and FOLDER/NAME/stdout for each program crate NAME, the outputs worked out by the reference.
+//! stored FOLDER: writes FOLDER/NAME/stdin and FOLDER/NAME/stdout for each program crate NAME, the outputs worked out by the reference; and the table
+//! of the crate `catalog`, in both its forms.
 
 use reference::boards::random_board;
 use reference::calls::random_input;
 use reference::cases::{texts, GREATEST, S, T};
+use reference::catalog::{definition_table, listing, source_table};
 use reference::encoded::{call_by_reference, codes_of, entries, random_list, EngineCall};
 use reference::player::Player;
 use reference::programs::{play, sheet};
@@ -107,14 +109,20 @@ fn main() -> std::io::Result<()> {
         ("corpus", corpus()),
         ("trials", trials()),
         ("scripts", scripts::stored()),
+        ("listing", (Vec::new(), listing())),
         ("sheet", (T.into(), sheet(T.as_bytes()))),
         ("play", (run.clone(), play(&run))),
     ];
+    let mut files =
+        vec![("catalog/src/table.rt".into(), source_table().into_bytes()), ("catalog/specs/Table.antt".into(), definition_table().into_bytes())];
     for (name, (input, output)) in programs {
-        let crate_folder = Path::new(&folder).join(name);
-        std::fs::create_dir_all(&crate_folder)?;
-        std::fs::write(crate_folder.join("stdin"), input)?;
-        std::fs::write(crate_folder.join("stdout"), output)?;
+        files.push((format!("{name}/stdin"), input));
+        files.push((format!("{name}/stdout"), output));
+    }
+    for (file, bytes) in files {
+        let path = Path::new(&folder).join(file);
+        std::fs::create_dir_all(path.parent().expect("a file in a folder"))?;
+        std::fs::write(path, bytes)?;
     }
     Ok(())
 }

@@ -1,9 +1,11 @@
 //! compare [SEED COUNT]: random inputs through the engine and through the reference, whose answers must be the same. Without a seed, a fixed
 //! one and then a fresh one, which is printed. The first difference is printed with its input, and the exit status is 1.
 
+mod catalog;
 mod play;
 mod report;
 
+use catalog::compare_catalog;
 use play::compare_play;
 use reference::boards::random_board;
 use reference::cancelling::acyclic_flows;
@@ -150,6 +152,7 @@ fn compare_made(seed: u64, tally: &mut Tally) -> Result<(), String> {
         [EngineCall::Hint].into_iter().chain(to_source).flat_map(|call| [call, EngineCall::Hint]).chain([around, EngineCall::Hint]).collect(),
     ];
     lists.iter().try_for_each(|calls| compare_play(T.as_bytes(), calls, true, tally))?;
+    compare_catalog(&mut rng, tally)?;
     compare_long_lines(T, tally)
 }
 
