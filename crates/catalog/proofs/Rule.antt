@@ -24,11 +24,11 @@ unfolding allAccepted table numbersText decimal indexOf numberOf keyed
 all-accepted = refl
 
 -- each board of a list whose boards are accepted
-carried : (n k : ℕ) (t : List ℕ) → allAccepted n t ≡ true → k < n → accepted (boardsFrom k t) ≡ true
+each-accepted : (n k : ℕ) (t : List ℕ) → allAccepted n t ≡ true → k < n → accepted (boardsFrom k t) ≡ true
 unfolding allAccepted boardsFrom
-carried zero k t h l = absurd (omega arith)
-carried (suc n) zero t h l = both-left (accepted t) (allAccepted n (drop (span t) t)) h
-carried (suc n) (suc k) t h l = carried n k (drop (span t) t) (both-right (accepted t) (allAccepted n (drop (span t) t)) h) (omega arith)
+each-accepted zero k t h l = absurd (omega arith)
+each-accepted (suc n) zero t h l = both-left (accepted t) (allAccepted n (drop (span t) t)) h
+each-accepted (suc n) (suc k) t h l = each-accepted n k (drop (span t) t) (both-right (accepted t) (allAccepted n (drop (span t) t)) h) (omega arith)
 
 -- what the test of a board says
 accepted-board : (t : List ℕ) → accepted t ≡ true → (span t ≤ length t) × (readText (boardText t) .answer ≡ 0)
@@ -39,11 +39,11 @@ accepted-board t h =
     (leb-true (span t) (length t) (both-left there read h), eqb-true (readText (boardText t) .answer) 0 (both-right there read h))
 
 pub whole : (k : ℕ) → k < boards → span (boardsFrom k table) ≤ length (boardsFrom k table)
-whole k h = accepted-board (boardsFrom k table) (carried boards k table all-accepted h) .0
+whole k h = accepted-board (boardsFrom k table) (each-accepted boards k table all-accepted h) .0
 
 pub board-accepted : (k : ℕ) → k < boards → readText (catalogText k) .answer ≡ 0
 unfolding catalogText
-board-accepted k h = accepted-board (boardsFrom k table) (carried boards k table all-accepted h) .1
+board-accepted k h = accepted-board (boardsFrom k table) (each-accepted boards k table all-accepted h) .1
 
 -- the table is short enough for the code
 table-short : length table ≤ 4096
