@@ -173,7 +173,7 @@ pub extern "C" fn vulprow_catalog(number: u32, buf: &mut [u8], used: &mut usize)
     ensures { λ _. ⌜ now (used .exit) ≡ catalogCall number (length (now (buf .entry))) .used ⌝ }
     ensures { λ _. ⌜ now (buf .exit) ≡ catalogued number (now (buf .entry)) ⌝ }
 {
-    let w = catalog::write(number, buf);
-    *used = w.used;
-    w.answer
+    let text = catalog::write(number, buf);
+    *used = text.used;
+    text.answer
 }
