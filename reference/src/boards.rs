@@ -31,8 +31,7 @@ fn size(rng: &mut Random) -> (usize, usize, usize) {
     }
 }
 
-fn shape(rng: &mut Random) -> Shape {
-    let (vertices, edges, terminals) = size(rng);
+fn shape(rng: &mut Random, (vertices, edges, terminals): (usize, usize, usize)) -> Shape {
     // Many thin ways to few terminals make boards that need many turns.
     let is_thin = rng.chance(1, 3);
     Shape {
@@ -143,9 +142,9 @@ impl Draft<'_> {
     }
 }
 
-/// A board that balances. Its counts and numbers may be past the limits.
-fn attempt(rng: &mut Random) -> Network {
-    let shape = shape(rng);
+/// A board that balances, of this size or smaller. Its counts and numbers may be past the limits.
+fn attempt(rng: &mut Random, size: (usize, usize, usize)) -> Network {
+    let shape = shape(rng, size);
     let mut order: Vec<usize> = (0..shape.vertices).collect();
     rng.shuffle(&mut order);
     let end_count = rng.between(1, shape.terminals.min(shape.vertices - 1));
@@ -189,8 +188,20 @@ fn attempt(rng: &mut Random) -> Network {
 /// A random board that is accepted.
 pub fn random_board(rng: &mut Random) -> Network {
     loop {
-        let network = attempt(rng);
+        let size = size(rng);
+        let network = attempt(rng, size);
         if read(&write(&network)).is_ok() {
+            return network;
+        }
+    }
+}
+
+/// A random board with just so many vertices, edges and terminals.
+pub fn random_board_of(rng: &mut Random, size: (usize, usize, usize)) -> Network {
+    loop {
+        let network = attempt(rng, size);
+        let made = (network.vertices, network.edges.len(), network.terminals.len());
+        if made == size && read(&write(&network)).is_ok() {
             return network;
         }
     }

@@ -17,6 +17,9 @@ pub mod report;
 pub mod solver;
 pub mod text;
 
+// The same for speed.
+pub mod fast;
+
 // Inputs for the engine and for the rules themselves.
 pub mod boards;
 pub mod calls;
