@@ -48,12 +48,15 @@ abbrev pub moveIntact : Move → Bool
 moveIntact (Carry r) = true
 moveIntact (Turn a) = leb (a .amount) maxTotal
 
--- every edge and terminal is intact, the journal has room for the moves, and the last move is intact
+-- every edge and terminal is intact, the journal has room for the moves, and the last move is intact: of the parts of a board, as the code computes it
+abbrev pub intactIn : Network → List ℕ → List ℕ → List ℕ → ℕ → Move → Bool
+intactIn net acyclic flows places moves last =
+    both (countsFit net)
+    (both (all (edgeIntactIn net acyclic flows) 0 maxEdges) (both (all (terminalIntactIn net places) 0 maxTerminals) (both (leb moves maxMoves) (moveIntact last))))
+
+-- the same of a board
 unfoldable pub intact : Board → Bool
-intact b =
-    both (countsFit (b .network))
-    (both (all (edgeIntact b) 0 maxEdges)
-    (both (all (terminalIntact b) 0 maxTerminals) (both (leb (b .moves) maxMoves) (moveIntact (lastEntry b .step)))))
+intact b = intactIn (b .network) (b .acyclic) (b .flows) (b .places) (b .moves) (lastEntry b .step)
 
 -- 20: "play is over (a finish was accepted), or no board was loaded"
 unfoldable pub playing : Board → Bool

@@ -7,7 +7,7 @@ ghost use lib.Dec.{leb, ltb, eqb};
 ghost use Rattle.lists.specs.Choice.{pick};
 ghost use Rattle.lists.specs.Lists.{all};
 ghost use Rattle.board.specs.Limits.{maxEdges, maxTerminals, maxTotal};
-ghost use Rattle.guard.specs.Guard.{edgeNumbersIntact, edgeIntactIn, terminalNumbersIntact, terminalIntactIn, moveIntact, intact, playing};
+ghost use Rattle.guard.specs.Guard.{edgeNumbersIntact, edgeIntactIn, terminalNumbersIntact, terminalIntactIn, moveIntact, intactIn, intact, playing};
 
 // Whether an edge's flow is small, and 0 where its acyclic flow is.
 fn small_flow(first: u32, flow: u32) -> bool
@@ -115,22 +115,36 @@ fn move_intact(step: Move) -> bool
     }
 }
 
-// Whether no number of the board can lead a call astray.
+// Whether no number of the parts of a board can lead a call astray; `last` is its last standing move.
+pub fn intact_in(
+    net: Network,
+    acyclic: [u32; Board::MAX_EDGES],
+    flows: [u32; Board::MAX_EDGES],
+    places: [u32; Board::MAX_TERMINALS],
+    moves: u32,
+    last: Move,
+) -> bool
+    ensures { λ r. ⌜ r ≡ intactIn net acyclic flows places moves last ⌝ }
+{
+    let counts = judging::counts_fit(net);
+    let edges = edges_intact(net, acyclic, flows);
+    let terminals = terminals_intact(net, places);
+    let small = move_intact(last);
+    let room = lists::and(moves <= Board::JOURNAL as u32, small);
+    lists::and(counts, lists::and(edges, lists::and(terminals, room)))
+}
+
+// The same of a board.
 pub fn intact(board: Board) -> bool
     ensures { λ r. ⌜ r ≡ intact board ⌝ }
 {
     let net = board.network;
-    let counts = judging::counts_fit(net);
     let acyclic = board.acyclic;
     let flows = board.flows;
-    let edges = edges_intact(net, acyclic, flows);
     let places = board.places;
-    let terminals = terminals_intact(net, places);
     let last = journal::last_entry(board);
     let step = last.step;
-    let small = move_intact(step);
-    let room = lists::and(board.moves <= Board::JOURNAL as u32, small);
-    lists::and(counts, lists::and(edges, lists::and(terminals, room)))
+    intact_in(net, acyclic, flows, places, board.moves, step)
 }
 
 // Whether the board is in play.

@@ -8,6 +8,7 @@ use Rattle.board.specs.Record.{blank}
 use Rattle.board.specs.declared.Board.{Board}
 use Rattle.board.specs.declared.Entry.{Entry}
 use Rattle.board.specs.declared.Played.{Played}
+use Rattle.journal.specs.declared.Change.{Change}
 
 -- the last standing move
 abbrev pub lastEntry : Board → Entry
@@ -44,3 +45,14 @@ movedBack b flows marks places = record {
 -- a call that is refused where its number is not 0: "any other refusal gives the number alone"
 unfoldable pub answered : ℕ → Board → Board → Played
 answered number b next = pick (eqb number 0) (record { answer = 0; board = next }) (record { answer = number; board = b })
+
+-- what a refused call would change: nothing
+abbrev pub unchanged : ℕ → List ℕ → ℕ → List ℕ → Change
+unchanged number flows marks places = record { answer = number; flows = flows; marks = marks; places = places; entry = blank }
+
+-- a call on a board by what it changes: one more move, or one less
+abbrev pub changed : Board → Change → Played
+changed b c = answered (c .answer) b (moved b (c .flows) (c .marks) (c .places) (c .entry))
+
+abbrev pub changedBack : Board → Change → Played
+changedBack b c = answered (c .answer) b (movedBack b (c .flows) (c .marks) (c .places))

@@ -9,6 +9,16 @@ ghost use Rattle.board.specs.Limits.{maxMoves};
 ghost use Rattle.board.specs.Record.{blank};
 ghost use Rattle.journal.specs.Moved.{lastEntry, moved, movedBack};
 
+// What a call would change: its number, and where that is 0 the new flows, marks and places, and the entry of its move. Small beside a board, so it is what
+// is handed on where many calls are made.
+pub struct Change {
+    pub answer: u32,
+    pub flows: [u32; Board::MAX_EDGES],
+    pub marks: EdgeSet,
+    pub places: [u32; Board::MAX_TERMINALS],
+    pub entry: Entry,
+}
+
 // The flows with another one at e.
 pub fn put_flow(flows: [u32; Board::MAX_EDGES], e: usize, flow: u32) -> [u32; Board::MAX_EDGES]
     ensures { λ r. ⌜ r ≡ set flows e flow ⌝ }

@@ -3,52 +3,15 @@ use borrow.Author.Needs.{needs}
 use Rattle.guard.proofs.intact.Statement.{statement}
 use Rattle.guard.proofs.intact.Tie as tie
 
-counts-fit-requires : tie.Need-counts-fit-requires
-counts-fit-requires c κs = search needs
-
-edges-intact-requires : tie.Need-edges-intact-requires
-edges-intact-requires c κs = search needs
-
-terminals-intact-requires : tie.Need-terminals-intact-requires
-terminals-intact-requires c κs = search needs
-
 last-entry-requires : tie.Need-last-entry-requires
 last-entry-requires c κs = search needs
 
-move-intact-requires : tie.Need-move-intact-requires
-move-intact-requires c κs = search needs
-
-cast-and : tie.Need-cast-and
-cast-and c = search needs
-
-and-requires : tie.Need-and-requires
-and-requires c κs = search needs
-
-and-requires-2 : tie.Need-and-requires-2
-and-requires-2 c κs = search needs
-
-and-requires-3 : tie.Need-and-requires-3
-and-requires-3 c κs = search needs
-
-and-requires-4 : tie.Need-and-requires-4
-and-requires-4 c κs = search needs
+intact-in-requires : tie.Need-intact-in-requires
+intact-in-requires c κs = search needs
 
 returns : tie.Need-returns
 unfolding intact
 returns c = cc
 
 pub intact-spec : {M : Type 1} → statement M
-intact-spec =
-    tie.close
-    (tie.spec
-    counts-fit-requires
-    edges-intact-requires
-    terminals-intact-requires
-    last-entry-requires
-    move-intact-requires
-    cast-and
-    and-requires
-    and-requires-2
-    and-requires-3
-    and-requires-4
-    returns)
+intact-spec = tie.close (tie.spec last-entry-requires intact-in-requires returns)
