@@ -8,10 +8,10 @@ use Prim.Native.Nat.{ℕ, _+_, _-_, _≤_, _<_}
 use native.Mathlib.Omega.{arith}
 use lib.Dec.{leb, eqb}
 use lib.ListN.{getD, set}
-use borrow.Author.Tests.{eqb-true, eq-eqb, ne-eqb, lt-leb}
-use Rattle.lists.specs.Choice.{pick, both}
+use borrow.Author.Tests.{eq-eqb, ne-eqb, lt-leb}
+use Rattle.lists.specs.Choice.{both}
 use Rattle.lists.proofs.Laws.{lt-or-ge, eq-or-ne, pick-yes, pick-no, pick-passed}
-use Rattle.board.specs.Limits.{maxEdges, maxTerminals, maxMoves, maxTotal}
+use Rattle.board.specs.Limits.{maxMoves}
 use Rattle.board.specs.Record.{blank, playStage}
 use Rattle.board.specs.declared.Board.{Board}
 use Rattle.board.specs.declared.Network.{Network}
@@ -137,15 +137,15 @@ module _ (b : Board) (s : List ℕ) (c : Change) (e : c ≡ turnMade b s) where
   pub turn-refused : c .answer ≢ 0 → record { answer = c .answer; board = b } ≡ turnCall b s
   turn-refused h = sym (turn-changes b s ∙ ap (changed b) (sym e) ∙ answered-no (c .answer) b _ h)
 
-  pub turn-accepted : c .answer ≡ 0 → record { answer = 0; board = moved b (c .flows) (c .marks) (b .places) (c .entry) } ≡ turnCall b s
+  pub turn-accepted : c .answer ≡ 0 → record { answer = c .answer; board = moved b (c .flows) (c .marks) (b .places) (c .entry) } ≡ turnCall b s
   turn-accepted h =
       let kept : c .places ≡ b .places = ap (λ (k : Change). k .places) e ∙ change-places _ _ _ _ _ _ _ in
-      ap (λ (p : List ℕ). record { answer = 0; board = moved b (c .flows) (c .marks) p (c .entry) }) (sym kept)
+      ap₂ (λ (n : ℕ) (p : List ℕ). record { answer = n; board = moved b (c .flows) (c .marks) p (c .entry) }) h (sym kept)
       ∙ sym (turn-changes b s ∙ ap (changed b) (sym e) ∙ answered-yes (c .answer) b _ h)
 
   -- the board's parts as the code stores them, the journal whole
   pub turn-stored : (j : List Entry) → c .answer ≡ 0 → j ≡ set (b .journal) (b .moves) (c .entry)
-      → record { answer = 0; board = stored b c j } ≡ turnCall b s
+      → record { answer = c .answer; board = stored b c j } ≡ turnCall b s
   turn-stored j h e = rw e (turn-accepted h)
 
   pub turn-plays : c .answer ≡ 0 → playing b ≡ true

@@ -284,23 +284,19 @@ pub fn turn(board: Board, steps: &[u8]) -> Played
     let play = lists::and(next.stage == Board::PLAY, fits);
     let any_open = opening::some_open_in(net, &flows, next.marks, &places);
     let made = change(play, any_open, net, flows, next.marks, places, steps);
-    if made.answer != 0 {
-        return Played {
-            answer: made.answer,
-            board: next,
-        };
-    }
-    let m = next.moves as usize;
-    let shifted = made.flows;
-    let entry = made.entry;
-    next.flows = shifted;
-    next.marks = made.marks;
-    next.moves = next.moves + 1;
-    if m < Board::JOURNAL {
-        next.journal[m] = entry;
+    if made.answer == 0 {
+        let m = next.moves as usize;
+        let shifted = made.flows;
+        let entry = made.entry;
+        next.flows = shifted;
+        next.marks = made.marks;
+        next.moves = next.moves + 1;
+        if m < Board::JOURNAL {
+            next.journal[m] = entry;
+        }
     }
     Played {
-        answer: 0,
+        answer: made.answer,
         board: next,
     }
 }

@@ -1,4 +1,4 @@
-use mathlib.Core.Path.{_≡_, sym, ap, _∙_}
+use mathlib.Core.Path.{sym, _∙_}
 use Rattle.turning.proofs.Changes.{change-accepted, change-made, accepted-sets}
 use borrow.Author.Needs.{needs}
 use Rattle.turning.proofs.change.Statement.{statement}

@@ -1,7 +1,6 @@
 -- The board is in play where the parts are, the last move with them; the change is made on the board's own parts, and stored.
-use mathlib.Core.Path.{_≡_, sym, ap₂, _∙_}
+use mathlib.Core.Path.{_≡_, sym, _∙_}
 use denote.Ref.{now}
-use Prim.Native.Nat.{_≤_}
 use native.Mathlib.Omega.{arith}
 use lib.ListN.{length, set, length-map}
 use lib.Seq.{set-out}
@@ -39,14 +38,15 @@ some-open-in-requires c κs = search needs
 change-requires : tie.Need-change-requires
 change-requires c κs = λ play. playing-sound _ (sym (play-made (c .before .before .before .before .before .before .before .before .before .before .before .before .args .board) _ _ _ (c .before .before .before .before .before .before .last-place .ensures .1) (c .before .before .before .before .intact-in .ensures) (c .before .before .before .and .ensures)) ∙ play)
 
-returns : tie.Need-returns
-returns c = turn-refused _ _ _ (made-by (c .before .before .before .before .before .before .before .before .before .before .before .before .before .before .before .args .board) (now (c .before .before .before .before .before .before .before .before .before .before .before .before .before .before .before .args .steps)) _ _ _ _ _ (c .before .before .before .before .before .before .before .before .before .last-place .ensures .1) (c .before .before .before .before .before .before .before .intact-in .ensures) (c .before .before .before .before .before .before .and .ensures) (c .before .before .before .some-open-in .ensures) (c .before .before .change .ensures)) (c .if1 .taken)
-
 cast-m : tie.Need-cast-m
-cast-m c = let room = playing-moves _ (turn-plays _ _ _ (made-by (c .before .before .before .before .before .before .before .before .before .before .before .before .before .before .before .args .board) (now (c .before .before .before .before .before .before .before .before .before .before .before .before .before .before .before .args .steps)) _ _ _ _ _ (c .before .before .before .before .before .before .before .before .before .last-place .ensures .1) (c .before .before .before .before .before .before .before .intact-in .ensures) (c .before .before .before .before .before .before .and .ensures) (c .before .before .before .some-open-in .ensures) (c .before .before .change .ensures)) (c .if1 .left)) in omega arith
+cast-m c =
+    let made = made-by (c .before .before .before .before .before .before .before .before .before .before .before .before .before .before .before .args .board) (now (c .before .before .before .before .before .before .before .before .before .before .before .before .before .before .before .args .steps)) _ _ _ _ _ (c .before .before .before .before .before .before .before .before .before .last-place .ensures .1) (c .before .before .before .before .before .before .before .intact-in .ensures) (c .before .before .before .before .before .before .and .ensures) (c .before .before .before .some-open-in .ensures) (c .before .before .change .ensures) in
+    let room = playing-moves _ (turn-plays _ _ _ made (c .if1 .taken)) in omega arith
 
 add-next : tie.Need-add-next
-add-next c = let room = playing-moves _ (turn-plays _ _ _ (made-by (c .before .before .before .before .before .before .before .before .before .before .before .before .before .before .before .before .before .args .board) (now (c .before .before .before .before .before .before .before .before .before .before .before .before .before .before .before .before .before .args .steps)) _ _ _ _ _ (c .before .before .before .before .before .before .before .before .before .before .before .last-place .ensures .1) (c .before .before .before .before .before .before .before .before .before .intact-in .ensures) (c .before .before .before .before .before .before .before .before .and .ensures) (c .before .before .before .before .before .some-open-in .ensures) (c .before .before .before .before .change .ensures)) (c .before .before .if1 .left)) in omega arith
+add-next c =
+    let made = made-by (c .before .before .before .before .before .before .before .before .before .before .before .before .before .before .before .before .before .args .board) (now (c .before .before .before .before .before .before .before .before .before .before .before .before .before .before .before .before .before .args .steps)) _ _ _ _ _ (c .before .before .before .before .before .before .before .before .before .before .before .last-place .ensures .1) (c .before .before .before .before .before .before .before .before .before .intact-in .ensures) (c .before .before .before .before .before .before .before .before .and .ensures) (c .before .before .before .before .before .some-open-in .ensures) (c .before .before .before .before .change .ensures) in
+    let room = playing-moves _ (turn-plays _ _ _ made (c .before .before .if1 .taken)) in omega arith
 
 mul-entry : tie.Need-mul-entry
 mul-entry c = omega (arith, c .if2 .taken)
@@ -54,16 +54,23 @@ mul-entry c = omega (arith, c .if2 .taken)
 element-set-from-entry : tie.Need-element-set-from-entry
 element-set-from-entry c = c .if2 .taken
 
-returns-2 : tie.Need-returns-2
-returns-2 c = turn-accepted _ _ _ (made-by (c .before .before .before .before .before .before .before .before .before .before .before .before .before .before .before .before .before .before .args .board) (now (c .before .before .before .before .before .before .before .before .before .before .before .before .before .before .before .before .before .before .args .steps)) _ _ _ _ _ (c .before .before .before .before .before .before .before .before .before .before .before .before .last-place .ensures .1) (c .before .before .before .before .before .before .before .before .before .before .intact-in .ensures) (c .before .before .before .before .before .before .before .before .before .and .ensures) (c .before .before .before .before .before .before .some-open-in .ensures) (c .before .before .before .before .before .change .ensures)) (c .before .before .before .if1 .left)
+returns : tie.Need-returns
+returns c =
+    let made = made-by (c .before .before .before .before .before .before .before .before .before .before .before .before .before .before .before .before .before .before .args .board) (now (c .before .before .before .before .before .before .before .before .before .before .before .before .before .before .before .before .before .before .args .steps)) _ _ _ _ _ (c .before .before .before .before .before .before .before .before .before .before .before .before .last-place .ensures .1) (c .before .before .before .before .before .before .before .before .before .before .intact-in .ensures) (c .before .before .before .before .before .before .before .before .before .and .ensures) (c .before .before .before .before .before .before .some-open-in .ensures) (c .before .before .before .before .before .change .ensures) in
+    turn-accepted _ _ _ made (c .before .before .before .if1 .taken)
 
-returns-3 : tie.Need-returns-3
-returns-3 c =
+returns-2 : tie.Need-returns-2
+returns-2 c =
     let board = c .before .before .before .before .before .before .before .before .before .before .before .before .before .before .before .before .before .before .args .board in
     let made = c .before .before .before .before .before .change .result in
     let long : length (board .journal) ≡ maxMoves = sym (length-map (board .journal) _) ∙ c .before .before .before .before .before .before .before .before .before .before .before .before .before .before .before .before .before .before .good .0 .1 .1 .1 .1 .1 .1 .1 .1 .0 .1 .0 .1 in
     let kept : set (board .journal) (board .moves) (made .entry) ≡ board .journal = set-out _ _ _ (omega (arith, long, c .if2 .left)) in
-    turn-stored _ _ _ (made-by (c .before .before .before .before .before .before .before .before .before .before .before .before .before .before .before .before .before .before .args .board) (now (c .before .before .before .before .before .before .before .before .before .before .before .before .before .before .before .before .before .before .args .steps)) _ _ _ _ _ (c .before .before .before .before .before .before .before .before .before .before .before .before .last-place .ensures .1) (c .before .before .before .before .before .before .before .before .before .before .intact-in .ensures) (c .before .before .before .before .before .before .before .before .before .and .ensures) (c .before .before .before .before .before .before .some-open-in .ensures) (c .before .before .before .before .before .change .ensures)) _ (c .before .before .before .if1 .left) (sym kept)
+    turn-stored _ _ _ (made-by (c .before .before .before .before .before .before .before .before .before .before .before .before .before .before .before .before .before .before .args .board) (now (c .before .before .before .before .before .before .before .before .before .before .before .before .before .before .before .before .before .before .args .steps)) _ _ _ _ _ (c .before .before .before .before .before .before .before .before .before .before .before .before .last-place .ensures .1) (c .before .before .before .before .before .before .before .before .before .before .intact-in .ensures) (c .before .before .before .before .before .before .before .before .before .and .ensures) (c .before .before .before .before .before .before .some-open-in .ensures) (c .before .before .before .before .before .change .ensures)) _ (c .before .before .before .if1 .taken) (sym kept)
+
+returns-3 : tie.Need-returns-3
+returns-3 c =
+    let made = made-by (c .before .before .before .before .before .before .before .before .before .before .before .before .before .before .before .args .board) (now (c .before .before .before .before .before .before .before .before .before .before .before .before .before .before .before .args .steps)) _ _ _ _ _ (c .before .before .before .before .before .before .before .before .before .last-place .ensures .1) (c .before .before .before .before .before .before .before .intact-in .ensures) (c .before .before .before .before .before .before .and .ensures) (c .before .before .before .some-open-in .ensures) (c .before .before .change .ensures) in
+    turn-refused _ _ _ made (c .if1 .left)
 
 pub turn-spec : {M : Type 1} → statement M
 turn-spec =
@@ -78,10 +85,10 @@ turn-spec =
     slice-aggregate-some-open-in-2
     some-open-in-requires
     change-requires
-    returns
     cast-m
     add-next
     mul-entry
     element-set-from-entry
+    returns
     returns-2
     returns-3)
