@@ -16,10 +16,10 @@ use Rattle.lists.specs.Choice.{pick, either}
 use Rattle.lists.proofs.Laws.{Known, was-true, was-false, known, lt-or-ge, eq-or-ne, pick-yes, pick-no}
 use Rattle.sets.specs.Sets.{hasBit, withBit, collect}
 
-abbrev bitAt : ℕ → ℕ → ℕ
+abbrev pub bitAt : ℕ → ℕ → ℕ
 bitAt m c = m / 2 ^ c % 2
 
-bit-small : (m c : ℕ) → bitAt m c < 2
+pub bit-small : (m c : ℕ) → bitAt m c < 2
 bit-small m c = mod-lt (m / 2 ^ c) {m = 2} (lit< tt)
 
 -- past the highest bit
@@ -102,7 +102,7 @@ unfolding withBit
 with-code m c h = ap (bitOr m) (shl-exact {a = 1} 1 c 64 (lit< tt) (omega arith) ∙ one-mul (2 ^ c))
 
 -- two sets with no common bit: halved, they have none either
-has-half : (m c : ℕ) → hasBit (m / 2) c ≡ hasBit m (suc c)
+pub has-half : (m c : ℕ) → hasBit (m / 2) c ≡ hasBit m (suc c)
 unfolding hasBit
 has-half m c = ap (λ (n : ℕ). eqb (n % 2) 1) (shr-shr m 1 c ∙ (let e : 1 + c ≡ suc c = omega arith in ap (λ (n : ℕ). m / 2 ^ n) e))
 
@@ -112,7 +112,7 @@ Apart m s = (c : ℕ) → hasBit m c ≡ true → hasBit s c ≡ true → ⊥
 apart-half : (m s : ℕ) → Apart m s → Apart (m / 2) (s / 2)
 apart-half m s d c p q = d (suc c) (sym (has-half m c) ∙ p) (sym (has-half s c) ∙ q)
 
-has-odd : (m : ℕ) → m % 2 ≡ 1 → hasBit m 0 ≡ true
+pub has-odd : (m : ℕ) → m % 2 ≡ 1 → hasBit m 0 ≡ true
 unfolding hasBit
 has-odd m e = eq-eqb (m / 2 ^ 0 % 2) 1 (omega arith)
 

@@ -2,7 +2,7 @@
 use mathlib.Core.Bool.{Bool}
 use Prim.Native.Nat.{ℕ, zero, suc, _-_, _^_, _/_, _%_}
 use lib.Dec.{eqb}
-use lib.Bits.{bitOr}
+use lib.Bits.{bitAnd, bitOr}
 use Rattle.lists.specs.Choice.{pick}
 
 -- how many numbers a set has room for in the code
@@ -23,6 +23,14 @@ joined m s = bitOr m s
 
 abbrev pub without : ℕ → ℕ → ℕ
 without m s = m - s
+
+-- the numbers that are in both sets
+abbrev pub common : ℕ → ℕ → ℕ
+common m s = bitAnd m s
+
+-- the set without c
+unfoldable pub dropped : ℕ → ℕ → ℕ
+dropped m c = pick (hasBit m c) (m - 2 ^ c) m
 
 -- the set with those of i, i + 1, .., i + k - 1 that have p
 unfoldable pub collect : (ℕ → Bool) → ℕ → ℕ → ℕ → ℕ

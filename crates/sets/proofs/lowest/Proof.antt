@@ -1,0 +1,10 @@
+use Rattle.sets.proofs.Scan.{lowest-bit}
+use borrow.Author.Needs.{needs}
+use Rattle.sets.proofs.lowest.Statement.{statement}
+use Rattle.sets.proofs.lowest.Tie as tie
+
+returns : tie.Need-returns
+returns c = lowest-bit 64 (c .args .m)
+
+pub lowest-spec : {M : Type 1} → statement M
+lowest-spec = tie.close (tie.spec returns)
