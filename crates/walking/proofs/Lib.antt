@@ -1,3 +1,4 @@
 pub mod Packed
 pub mod Loops
+pub mod Charts
 pub mod Walks

@@ -5,19 +5,16 @@ use mathlib.Core.List.{List, [], _∷_, _++_}
 use Prim.Native.Nat.{ℕ, zero, suc, _+_, _-_, _≤_, _<_}
 use native.Mathlib.Numerals.{add-one}
 use native.Mathlib.Omega.{arith}
-use lib.Dec.{ltb}
 use lib.ListN.{length, getD, set, take, drop, replicate, length-drop}
 use lib.Seq.{sets, length-take-le, getD-take, getD-drop, take-suc-set, take-add, drop-at}
 use Rattle.board.specs.Limits.{maxEdges}
 use Rattle.lists.specs.Lists.{indexOf}
 use Rattle.lists.proofs.Stored.{stored-turn, stored-end}
 use Rattle.lists.proofs.Laws.{index-hit, index-miss, index-end}
-use Rattle.lists.proofs.Lowest.{lowest-least}
-use Rattle.singular.specs.Singular.{leaves, leaving}
 use Rattle.flows.specs.Trails.{Step, edgeOf, startOf}
 use Rattle.steps.specs.Steps.{upFrom, stepOf, stepsOf}
 use Rattle.walking.specs.declared.Walk.{Walk}
-use Rattle.walking.specs.Walk.{parts, startsOf, byteOf, bytesOf, walked, packed, stride}
+use Rattle.walking.specs.Walk.{startsOf, byteOf, bytesOf, walked, packed, stride}
 use Rattle.walking.proofs.Packed.{bytes-steps, step-byte}
 
 -- a walk's steps have their places
@@ -26,19 +23,6 @@ held bytes n size h = omega (arith, size, h)
 
 pub last-held : (bytes : List ℕ) (n k : ℕ) → length bytes ≡ maxEdges → k ≤ n → n ≤ maxEdges → k + (n - k) ≤ length bytes
 last-held bytes n k size h l = omega (arith, size, h, l)
-
--- the first edge that leaves v has a number that can be raised by one
-pub leaving-most : (tails flows : List ℕ) (v : ℕ) → leaving tails flows v 0 ≤ length flows
-unfolding leaving
-leaving-most tails flows v =
-    let h : leaving tails flows v 0 ≤ 0 + (length flows - 0) = lowest-least (leaves tails flows v) 0 (length flows - 0) .high in
-    omega (arith, h)
-
--- two edges leave v: in the code's shape
-pub parts-read : (tails flows : List ℕ) (v e g : ℕ) → e ≡ leaving tails flows v 0 → g ≡ leaving tails flows v (e + 1)
-    → ltb g (length flows) ≡ parts tails flows v
-unfolding parts
-parts-read tails flows v e g first second = rw (second, add-one e, first)
 
 -- the steps of bytes
 pub steps-length : (bs : List ℕ) → length (stepsOf bs) ≡ length bs

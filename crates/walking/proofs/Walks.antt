@@ -1,51 +1,55 @@
--- One vertex of the walk, case by case in the code's shape: none left to see, a vertex met before, one step down, or one step up. The code's walk w has n
--- steps, and m of them came before v was first met.
+-- One vertex of the walk, case by case in the code's shape: the walk w stops at v, where none is left to see or v was met before; or takes one step down, or one
+-- step up.
 use mathlib.Core.Path.{_≡_, refl, sym, ap, _∙_}
-use mathlib.Core.Bool.{true, false}
+use mathlib.Core.Bool.{Bool, true, false}
 use mathlib.Core.List.{List, [], _∷_, _++_}
 use Prim.Native.Nat.{ℕ, zero, suc, _+_, _-_, _<_, _≤_}
 use native.Mathlib.Omega.{arith}
-use lib.Dec.{ltb}
+use lib.Dec.{ltb, eqb}
 use lib.ListN.{length, getD, take, drop}
 use lib.Seq.{length-take-le}
-use borrow.Author.Tests.{lt-ltb, le-ltb}
-use Rattle.board.specs.Limits.{maxEdges}
-use Rattle.lists.proofs.Laws.{index-le}
+use borrow.Author.Tests.{lt-ltb, le-ltb, ne-eqb, eqb-false}
+use Rattle.board.specs.Limits.{maxVertices, maxEdges}
+use Rattle.lists.specs.Choice.{either}
+use Rattle.lists.proofs.Laws.{index-le, either-left, either-right}
+use Rattle.sets.specs.Sets.{setWidth, hasBit}
 use Rattle.flows.specs.Trails.{Step, down, up}
 use Rattle.steps.specs.Steps.{upFrom}
 use Rattle.walking.specs.declared.Walk.{Walk}
 use Rattle.walking.specs.Walk.{another, parts, startsOf, firstMet, downWalk, upWalk, walked, packed}
 use Rattle.walking.proofs.Packed.{another-most}
-use Rattle.walking.proofs.Loops.{held, steps-length}
+use Rattle.walking.proofs.Loops.{held, steps-length, starts-length}
 
 -- a walk has as many steps as its count says
-pub walked-length : (t : Walk) → length (t .steps) ≡ maxEdges → t .count ≤ maxEdges → length (walked t) ≡ t .count
+walked-length : (t : Walk) → length (t .steps) ≡ maxEdges → t .count ≤ maxEdges → length (walked t) ≡ t .count
 walked-length t size h = steps-length (take (t .count) (t .steps)) ∙ length-take-le (t .count) (t .steps) (held (t .steps) (t .count) size h)
 
 -- v is first met among the steps, or after them
-pub met-most : (tails heads : List ℕ) (w : List Step) (v : ℕ) → firstMet tails heads w v ≤ length w
+pub met-most : (tails heads : List ℕ) (t : Walk) (v : ℕ) → length (t .steps) ≡ maxEdges → t .count ≤ maxEdges
+    → firstMet tails heads (walked t) v ≤ t .count
 unfolding firstMet
-met-most tails heads w v = omega (arith, index-le v (startsOf tails heads w), size w)
-  where
-    size : (w : List Step) → length (startsOf tails heads w) ≡ length w
-    size [] = refl
-    size (s ∷ w) = ap suc (size w)
+met-most tails heads t v size h =
+    omega (arith, index-le v (startsOf tails heads (walked t)), starts-length tails heads (walked t), walked-length t size h)
 
 -- what the calls ask for: the walk t, and the vertices left, have room together
 module _ (t : Walk) (left : ℕ) (room : t .count + left ≤ maxEdges) where
   pub room-now : t .count ≤ maxEdges
   room-now = omega (arith, room)
 
-  pub room-since : (tails heads : List ℕ) (v m : ℕ) → length (t .steps) ≡ maxEdges → m ≡ firstMet tails heads (walked t) v
-      → (m ≤ t .count) × (t .count ≤ maxEdges)
-  room-since tails heads v m size met = (omega (arith, met, met-most tails heads (walked t) v, walked-length t size room-now), room-now)
-
-  pub room-step : (ends flows : List ℕ) (v x e : ℕ) → (left ≡ 0 → ⊥) → length flows < upFrom → e ≡ another ends flows v x
+  pub room-step : (ends flows : List ℕ) (v x e : ℕ) → (left ≡ 0 → ⊥) → length flows ≡ maxEdges → e ≡ another ends flows v x
       → (t .count < maxEdges) × (e < upFrom)
   room-step ends flows v x e some few i = (omega (arith, room, some), omega (arith, few, i, another-most ends flows v x))
 
   pub room-on : (n : ℕ) → (left ≡ 0 → ⊥) → n ≡ t .count + 1 → n + (left - 1) ≤ maxEdges
   room-on n some i = omega (arith, room, some, i)
+
+-- a vertex has its place in a set
+pub vertex-bit : (v : ℕ) → v < maxVertices → v < setWidth
+vertex-bit v h = omega arith
+
+-- where the walk goes on, a vertex is left
+pub left-some : (left : ℕ) (seen stop : Bool) → stop ≡ either (eqb left 0) seen → stop ≡ false → left ≡ 0 → ⊥
+left-some left seen stop stops goes = eqb-false left 0 (either-left _ _ (sym stops ∙ goes))
 
 module _ (tails heads flows : List ℕ) where
   abbrev pub downs : ℕ → List Step → ℕ → ℕ → List Step
@@ -54,43 +58,36 @@ module _ (tails heads flows : List ℕ) where
   abbrev pub ups : ℕ → List Step → ℕ → ℕ → List Step
   ups = upWalk tails heads flows (another tails flows) (another heads flows)
 
-  module _ (left : ℕ) (w : List Step) (n x v m : ℕ) (r : Walk) (size : length w ≡ n) (met : m ≡ firstMet tails heads w v) where
-    -- no vertex is left
-    pub down-last : left ≡ 0 → r ≡ packed (drop m w) → r ≡ packed (downs left w x v)
-    unfolding downWalk
-    down-last z e = e ∙ rw (z, met)
+  module _ (left : ℕ) (w : List Step) (x v seen : ℕ) (stop : Bool) (r : Walk) (met : hasBit seen v ≡ ltb (firstMet tails heads w v) (length w))
+      (stops : stop ≡ either (eqb left 0) (hasBit seen v)) where
+    -- with a vertex left, the walk stops where v was met before
+    before : (k : ℕ) → left ≡ suc k → stop ≡ true → ltb (firstMet tails heads w v) (length w) ≡ true
+    unfolding either
+    before k one t = sym met ∙ (rw (ne-eqb left 0 (λ z. omega (arith, z, one))) at (sym stops ∙ t))
 
-    pub up-last : left ≡ 0 → r ≡ packed (drop m w) → r ≡ packed (ups left w x v)
+    pub down-stops : stop ≡ true → r ≡ packed (drop (firstMet tails heads w v) w) → r ≡ packed (downs left w x v)
     unfolding downWalk
-    up-last z e = e ∙ rw (z, met)
-
-    -- v was seen before
-    seen : m < n → ltb (firstMet tails heads w v) (length w) ≡ true
-    seen h = lt-ltb (firstMet tails heads w v) (length w) (omega (arith, h, size, met))
-
-    pub down-seen : (left ≡ 0 → ⊥) → m < n → r ≡ packed (drop m w) → r ≡ packed (downs left w x v)
-    unfolding downWalk
-    down-seen some h e = e ∙ go left some
+    down-stops t e = e ∙ go left refl
       where
-        go : (left : ℕ) → (left ≡ 0 → ⊥) → packed (drop m w) ≡ packed (downs left w x v)
-        go zero s = absurd (s refl)
-        go (suc k) s = rw (seen h, downWalk, met)
+        go : (k : ℕ) → left ≡ k → packed (drop (firstMet tails heads w v) w) ≡ packed (downs k w x v)
+        go zero one = refl
+        go (suc k) one = rw (before k one t, downWalk)
 
-    pub up-seen : (left ≡ 0 → ⊥) → m < n → r ≡ packed (drop m w) → r ≡ packed (ups left w x v)
+    pub up-stops : stop ≡ true → r ≡ packed (drop (firstMet tails heads w v) w) → r ≡ packed (ups left w x v)
     unfolding downWalk
-    up-seen some h e = e ∙ go left some
+    up-stops t e = e ∙ go left refl
       where
-        go : (left : ℕ) → (left ≡ 0 → ⊥) → packed (drop m w) ≡ packed (ups left w x v)
-        go zero s = absurd (s refl)
-        go (suc k) s = rw (seen h, upWalk, met)
+        go : (k : ℕ) → left ≡ k → packed (drop (firstMet tails heads w v) w) ≡ packed (ups k w x v)
+        go zero one = refl
+        go (suc k) one = rw (before k one t, upWalk)
 
     -- v is new: one step on, over edge e, to the vertex `next`
-    module _ (some : left ≡ 0 → ⊥) (new : n ≤ m) (e next : ℕ) (longer : List Step) where
+    module _ (goes : stop ≡ false) (e next : ℕ) (longer : List Step) where
       fresh : ltb (firstMet tails heads w v) (length w) ≡ false
-      fresh = le-ltb (firstMet tails heads w v) (length w) (omega (arith, new, size, met))
+      fresh = sym met ∙ either-right _ _ (sym stops ∙ goes)
 
       one : left ≡ suc (left - 1)
-      one = omega (arith, some)
+      one = let some = left-some left (hasBit seen v) stop stops goes in omega (arith, some)
 
       -- the step, as the definition and as the code name its parts
       fallen : (k : ℕ) → e ≡ another tails flows v x → longer ≡ w ++ (down e ∷ []) → next ≡ getD heads e 0

@@ -1,12 +1,15 @@
 // The cycle that the solver turns.
 use board::Board;
+use board::EdgeSet;
 ghost use mathlib.Core.Path.{_≡_};
 ghost use mathlib.Core.List.{[], _∷_, _++_};
 ghost use Prim.Native.Nat.{_+_, _≤_, _<_};
-ghost use lib.ListN.{length, set, drop};
-ghost use Rattle.board.specs.Limits.{maxEdges};
+ghost use lib.ListN.{getD, set, drop};
+ghost use Rattle.board.specs.Limits.{maxVertices, maxEdges};
+ghost use Rattle.sets.specs.Sets.{setWidth, withBit};
 ghost use Rattle.steps.specs.Steps.{upFrom};
-ghost use Rattle.walking.specs.Walk.{touches, another, parts, firstMet, downWalk, upWalk, cycleOf, byteOf, walked, packed, stride};
+ghost use Rattle.walking.specs.Walk.{another, firstMet, downWalk, upWalk, cycleOf, byteOf, walked, packed, stride};
+ghost use Rattle.walking.specs.Chart.{Charted, Seen, anotherIn, partsIn};
 
 // The steps of a walk, a byte each, from the first on; 0 in the places past them.
 pub struct Walk {
@@ -14,34 +17,31 @@ pub struct Walk {
     pub steps: [u8; Board::MAX_EDGES],
 }
 
-// Whether edge e is positive, has this end at v, and is another than x.
-fn touches<'a>(ends: &'a [u32], flows: &'a [u32], v: u32, x: usize, e: usize) -> bool
-    ensures { λ r. ⌜ r ≡ touches (now (ends .entry)) (now (flows .entry)) v x e ⌝ }
+// The lowest positive edge with this end at v other than x, or a number that no edge has.
+fn another(edges: &[EdgeSet], positive: EdgeSet, v: u32, x: u32) -> u32
+    ensures { λ r. ⌜ r ≡ anotherIn (now (edges .entry)) positive v x ⌝ }
 {
-    let at = lists::and(0 < lists::word_at(flows, e), lists::word_at(ends, e) == v);
-    lists::and(at, e != x)
-}
-
-// The lowest such edge, or a number that no edge has.
-fn another<'a>(ends: &'a [u32], flows: &'a [u32], v: u32, x: usize) -> usize
-    ensures { λ r. ⌜ r ≡ another (now (ends .entry)) (now (flows .entry)) v x ⌝ }
-{
-    let mut e: usize = 0;
-    while e < flows.len() {
-        if touches(ends, flows, v, x, e) {
-            return e;
-        }
-        e += 1;
-    }
-    e
+    let at = incidence::touching(edges, positive, v);
+    let others = sets::drop(at, x);
+    sets::lowest(others)
 }
 
 // Whether two or more positive edges leave v.
-fn parts<'a>(tails: &'a [u32], flows: &'a [u32], v: u32) -> bool
-    ensures { λ r. ⌜ r ≡ parts (now (tails .entry)) (now (flows .entry)) v ⌝ }
+fn parts(leaving: &[EdgeSet], positive: EdgeSet, v: u32) -> bool
+    ensures { λ r. ⌜ r ≡ partsIn (now (leaving .entry)) positive v ⌝ }
 {
-    let e = singular::leaving(tails, flows, v, 0);
-    singular::leaving(tails, flows, v, e + 1) < flows.len()
+    let at = incidence::touching(leaving, positive, v);
+    let e = sets::lowest(at);
+    0 < sets::drop(at, e)
+}
+
+// The vertices seen, with the one where a step over e starts.
+fn meet(starts: &[u32], seen: u64, e: u32) -> u64
+    requires { ⌜ getD (now starts) e 0 < setWidth ⌝ }
+    ensures { λ r. ⌜ r ≡ withBit seen (getD (now (starts .entry)) e 0) ⌝ }
+{
+    let v = lists::word_at(starts, e as usize);
+    sets::with(seen, true, v as usize)
 }
 
 // The byte of a step over e.
@@ -116,38 +116,75 @@ fn since(walk: Walk, k: u32) -> Walk
     }
 }
 
+// The steps since v was first met.
+fn since_met<'a>(tails: &'a [u32], heads: &'a [u32], walk: Walk, v: u32) -> Walk
+    requires { ⌜ walk .count ≤ maxEdges ⌝ }
+    ensures { λ r. ⌜ r ≡ packed (drop (firstMet (now (tails .entry)) (now (heads .entry)) (walked walk) v) (walked walk)) ⌝ }
+{
+    let k = first_met(tails, heads, walk, v);
+    since(walk, k)
+}
+
 // The walk came over edge x to v: down by the lowest edge; up where none leaves.
 fn down_walk<'a>(
     tails: &'a [u32],
     heads: &'a [u32],
     flows: &'a [u32],
+    leaving: &'a [EdgeSet],
+    entering: &'a [EdgeSet],
+    positive: EdgeSet,
+    seen: u64,
     left: u32,
     walk: Walk,
-    x: usize,
+    x: u32,
     v: u32,
 ) -> Walk
     requires { ⌜ walk .count + left ≤ maxEdges ⌝ }
-    requires { ⌜ length (now flows) < upFrom ⌝ }
+    requires { ⌜ Charted (now tails) (now heads) (now flows) (now leaving) (now entering) positive ⌝ }
+    requires { ⌜ Seen (now tails) (now heads) (walked walk) seen ⌝ }
+    requires { ⌜ v < maxVertices ⌝ }
     ensures { λ r. ⌜ r ≡ packed (downWalk (now (tails .entry)) (now (heads .entry)) (now (flows .entry))
         (another (now (tails .entry)) (now (flows .entry))) (another (now (heads .entry)) (now (flows .entry))) left (walked walk) x v) ⌝ }
 {
-    let k = first_met(tails, heads, walk, v);
-    if left == 0 {
-        return since(walk, k);
+    if lists::or(left == 0, sets::has(seen, v as usize)) {
+        return since_met(tails, heads, walk, v);
     }
-    if k < walk.count {
-        return since(walk, k);
+    let e = another(leaving, positive, v, x);
+    if (e as usize) < flows.len() {
+        let longer = with_step(walk, false, e as usize);
+        let met = meet(tails, seen, e);
+        let next = lists::word_at(heads, e as usize);
+        return down_walk(
+            tails,
+            heads,
+            flows,
+            leaving,
+            entering,
+            positive,
+            met,
+            left - 1,
+            longer,
+            e,
+            next,
+        );
     }
-    let e = another(tails, flows, v, x);
-    if e < flows.len() {
-        let longer = with_step(walk, false, e);
-        let next = lists::word_at(heads, e);
-        return down_walk(tails, heads, flows, left - 1, longer, e, next);
-    }
-    let c = another(heads, flows, v, x);
-    let longer = with_step(walk, true, c);
-    let next = lists::word_at(tails, c);
-    up_walk(tails, heads, flows, left - 1, longer, c, next)
+    let c = another(entering, positive, v, x);
+    let longer = with_step(walk, true, c as usize);
+    let met = meet(heads, seen, c);
+    let next = lists::word_at(tails, c as usize);
+    up_walk(
+        tails,
+        heads,
+        flows,
+        leaving,
+        entering,
+        positive,
+        met,
+        left - 1,
+        longer,
+        c,
+        next,
+    )
 }
 
 // The walk came up over edge x to v: up while one edge leaves; down where two or more do.
@@ -155,50 +192,95 @@ fn up_walk<'a>(
     tails: &'a [u32],
     heads: &'a [u32],
     flows: &'a [u32],
+    leaving: &'a [EdgeSet],
+    entering: &'a [EdgeSet],
+    positive: EdgeSet,
+    seen: u64,
     left: u32,
     walk: Walk,
-    x: usize,
+    x: u32,
     v: u32,
 ) -> Walk
     requires { ⌜ walk .count + left ≤ maxEdges ⌝ }
-    requires { ⌜ length (now flows) < upFrom ⌝ }
+    requires { ⌜ Charted (now tails) (now heads) (now flows) (now leaving) (now entering) positive ⌝ }
+    requires { ⌜ Seen (now tails) (now heads) (walked walk) seen ⌝ }
+    requires { ⌜ v < maxVertices ⌝ }
     ensures { λ r. ⌜ r ≡ packed (upWalk (now (tails .entry)) (now (heads .entry)) (now (flows .entry))
         (another (now (tails .entry)) (now (flows .entry))) (another (now (heads .entry)) (now (flows .entry))) left (walked walk) x v) ⌝ }
 {
-    let k = first_met(tails, heads, walk, v);
-    if left == 0 {
-        return since(walk, k);
+    if lists::or(left == 0, sets::has(seen, v as usize)) {
+        return since_met(tails, heads, walk, v);
     }
-    if k < walk.count {
-        return since(walk, k);
+    if parts(leaving, positive, v) {
+        let e = another(leaving, positive, v, x);
+        let longer = with_step(walk, false, e as usize);
+        let met = meet(tails, seen, e);
+        let next = lists::word_at(heads, e as usize);
+        return down_walk(
+            tails,
+            heads,
+            flows,
+            leaving,
+            entering,
+            positive,
+            met,
+            left - 1,
+            longer,
+            e,
+            next,
+        );
     }
-    if parts(tails, flows, v) {
-        let e = another(tails, flows, v, x);
-        let longer = with_step(walk, false, e);
-        let next = lists::word_at(heads, e);
-        return down_walk(tails, heads, flows, left - 1, longer, e, next);
-    }
-    let c = another(heads, flows, v, x);
-    let longer = with_step(walk, true, c);
-    let next = lists::word_at(tails, c);
-    up_walk(tails, heads, flows, left - 1, longer, c, next)
+    let c = another(entering, positive, v, x);
+    let longer = with_step(walk, true, c as usize);
+    let met = meet(heads, seen, c);
+    let next = lists::word_at(tails, c as usize);
+    up_walk(
+        tails,
+        heads,
+        flows,
+        leaving,
+        entering,
+        positive,
+        met,
+        left - 1,
+        longer,
+        c,
+        next,
+    )
 }
 
 // The cycle that the walk from the source finds.
 pub fn cycle<'a>(
     tails: &'a [u32],
     heads: &'a [u32],
+    leaving: &'a [EdgeSet],
+    entering: &'a [EdgeSet],
+    positive: EdgeSet,
     flows: &'a [u32],
     vertices: u32,
     source: u32,
 ) -> Walk
     requires { ⌜ vertices ≤ maxEdges ⌝ }
-    requires { ⌜ length (now flows) < upFrom ⌝ }
+    requires { ⌜ Charted (now tails) (now heads) (now flows) (now leaving) (now entering) positive ⌝ }
+    requires { ⌜ source < maxVertices ⌝ }
     ensures { λ r. ⌜ r ≡ packed (cycleOf (now (tails .entry)) (now (heads .entry)) (now (flows .entry)) vertices source) ⌝ }
 {
     let walk = Walk {
         count: 0,
         steps: [0; Board::MAX_EDGES],
     };
-    down_walk(tails, heads, flows, vertices, walk, flows.len(), source)
+    let none = flows.len() as u32;
+    down_walk(
+        tails,
+        heads,
+        flows,
+        leaving,
+        entering,
+        positive,
+        0,
+        vertices,
+        walk,
+        none,
+        source,
+    )
 }

@@ -1,15 +1,21 @@
+use native.Mathlib.Omega.{arith}
 use Rattle.steps.specs.Steps.{stepsOf}
 use Rattle.walking.specs.Walk.{cycleOf}
+use Rattle.walking.proofs.Charts.{seen-none}
 use borrow.Author.Needs.{needs}
 use Rattle.walking.proofs.cycle.Statement.{statement}
 use Rattle.walking.proofs.cycle.Tie as tie
 
+cast-none : tie.Need-cast-none
+cast-none c = search needs
+
 down-walk-requires : tie.Need-down-walk-requires
-down-walk-requires c κs = search needs
+unfolding stepsOf
+down-walk-requires c κs = let s = c .before .before .before .before .before in (omega arith, (s .pre .1 .0, (seen-none _ _, s .pre .1 .1)))
 
 returns : tie.Need-returns
 unfolding cycleOf stepsOf
 returns c = c .down-walk .ensures
 
 pub cycle-spec : {M : Type 1} → statement M
-cycle-spec = tie.close (tie.spec down-walk-requires returns)
+cycle-spec = tie.close (tie.spec cast-none down-walk-requires returns)

@@ -1,22 +1,18 @@
-use native.Mathlib.Omega.{arith}
-use Rattle.walking.proofs.Loops.{leaving-most, parts-read}
 use borrow.Author.Needs.{needs}
 use Rattle.walking.proofs.parts.Statement.{statement}
 use Rattle.walking.proofs.parts.Tie as tie
 
-leaving-requires : tie.Need-leaving-requires
-leaving-requires c κs = search needs
+touching-requires : tie.Need-touching-requires
+touching-requires c κs = search needs
 
-add-leaving : tie.Need-add-leaving
-add-leaving c =
-    let s = c .before .before .before in
-    omega (arith, c .leaving .ensures, leaving-most (s .args .tails .now) (s .args .flows .now) (s .args .v))
+lowest-requires : tie.Need-lowest-requires
+lowest-requires c κs = search needs
 
-leaving-requires-2 : tie.Need-leaving-requires-2
-leaving-requires-2 c κs = search needs
+drop-requires : tie.Need-drop-requires
+drop-requires c κs = search needs
 
 returns : tie.Need-returns
-returns c = parts-read _ _ _ _ _ (c .before .leaving .ensures) (c .leaving2 .ensures)
+returns c = rw (c .drop .ensures, c .before .lowest .ensures, c .before .before .touching .ensures)
 
 pub parts-spec : {M : Type 1} → statement M
-parts-spec = tie.close (tie.spec leaving-requires add-leaving leaving-requires-2 returns)
+parts-spec = tie.close (tie.spec touching-requires lowest-requires drop-requires returns)
