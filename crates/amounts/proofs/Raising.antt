@@ -14,7 +14,7 @@ use Rattle.board.specs.declared.Board.{Board}
 use Rattle.flows.specs.Trails.{Step, down, up, edgeOf}
 use Rattle.guard.specs.Parts.{flow, demand}
 use Rattle.steps.specs.Steps.{stepOf, stepsOf, isUp}
-use Rattle.amounts.specs.Amounts.{smaller, isShort, lessened, raiseIn, raise, allowedIn, allowed, amountIn, amountFrom, amount}
+use Rattle.amounts.specs.Amounts.{smaller, shortAt, lessened, raiseIn, allowedIn, amountIn, amountFrom, amount}
 
 -- a run over the terminals below n that has passed i
 module _ (places demands : List ℕ) (head flow a i n total : ℕ) where
@@ -62,24 +62,28 @@ smaller-most : (a x c : ℕ) → a ≤ c → x ≤ c → smaller a x ≤ c
 unfolding smaller
 smaller-most a x c p q = pick-most (eqb a 0) x (pick (ltb x a) x a) c q (pick-most (ltb x a) x a c q p)
 
-module _ (b : Board) (c : ℕ) (flows : (e : ℕ) → flow b e ≤ c) (demands : (i : ℕ) → demand b i ≤ c) where
-  raise-most : (e a i k : ℕ) → a ≤ c → raise b e a i k ≤ c
-  unfolding raise
-  raise-most e a i zero h = h
-  raise-most e a i (suc k) h =
-      let x = demand b i - flow b e in
-      raise-most e (pick (isShort b e i) (smaller a x) a) (suc i) k
-      (pick-most (isShort b e i) (smaller a x) a c (smaller-most a x c h (omega (arith, demands i))) h)
+module _ (heads flows places demands : List ℕ) (terminals c : ℕ) (most : (e : ℕ) → getD flows e 0 ≤ c) (asked : (i : ℕ) → getD demands i 0 ≤ c) where
+  raise-most : (head flow a i k : ℕ) → a ≤ c → raiseIn places demands head flow a i k ≤ c
+  unfolding raiseIn
+  raise-most head flow a i zero h = h
+  raise-most head flow a i (suc k) h =
+      let x = getD demands i 0 - flow in
+      raise-most head flow (lessened head flow (getD places i 0) (getD demands i 0) a) (suc i) k
+      (pick-most (shortAt head flow (getD places i 0) (getD demands i 0)) (smaller a x) a c (smaller-most a x c h (omega (arith, asked i))) h)
 
-  allowed-most : (a : ℕ) (s : Step) → a ≤ c → allowed b a s ≤ c
-  allowed-most a (down e) h = smaller-most a (flow b e) c h (flows e)
-  allowed-most a (up e) h = raise-most e a 0 (b .network .terminals) h
+  allowed-most : (a : ℕ) (s : Step) → a ≤ c → allowedIn heads flows places demands terminals a s ≤ c
+  unfolding allowedIn
+  allowed-most a (down e) h = smaller-most a (getD flows e 0) c h (most e)
+  allowed-most a (up e) h = raise-most (getD heads e 0) (getD flows e 0) a 0 terminals h
 
-  amount-most : (a : ℕ) (w : List Step) → a ≤ c → amountFrom b a w ≤ c
-  unfolding amountFrom
+  amount-most : (a : ℕ) (w : List Step) → a ≤ c → amountIn heads flows places demands terminals a w ≤ c
+  unfolding amountIn
   amount-most a [] h = h
-  amount-most a (s ∷ w) h = amount-most (allowed b a s) w (allowed-most a s h)
+  amount-most a (s ∷ w) h = amount-most (allowedIn heads flows places demands terminals a s) w (allowed-most a s h)
+
+  pub least-small : (w : List Step) → amountIn heads flows places demands terminals 0 w ≤ c
+  least-small w = amount-most 0 w (omega arith)
 
 pub amount-small : (b : Board) (w : List Step) (c : ℕ) → ((e : ℕ) → flow b e ≤ c) → ((i : ℕ) → demand b i ≤ c) → amount b w ≤ c
-unfolding amount
-amount-small b w c flows demands = amount-most b c flows demands 0 w (omega arith)
+unfolding amount amountFrom
+amount-small b w c flows demands = least-small (b .network .heads) (b .flows) (b .places) (b .network .demands) (b .network .terminals) c flows demands w

@@ -1,8 +1,7 @@
 // The amount of a turn.
-use board::Board;
 ghost use mathlib.Core.Path.{_≡_};
 ghost use Rattle.steps.specs.Steps.{stepOf, stepsOf};
-ghost use Rattle.amounts.specs.Amounts.{smaller, lessened, raiseIn, allowedIn, amountIn, amount};
+ghost use Rattle.amounts.specs.Amounts.{smaller, lessened, raiseIn, allowedIn, amountIn};
 
 // The smaller of two amounts, where a first one of 0 stands for none.
 fn smaller(a: u32, x: u32) -> u32
@@ -71,8 +70,8 @@ fn allowed<'a>(
     raise(places, demands, terminals, head, flow, a)
 }
 
-// The smallest that the steps allow.
-fn least_allowed<'a>(
+// What a turn along the steps changes the flows by: the smallest that they allow.
+pub fn least_allowed<'a>(
     heads: &'a [u32],
     flows: &'a [u32],
     places: &'a [u32],
@@ -90,19 +89,4 @@ fn least_allowed<'a>(
         i += 1;
     }
     a
-}
-
-// What a turn along the steps changes the flows by.
-pub fn amount(board: Board, steps: &[u8]) -> u32
-    ensures { λ r. ⌜ r ≡ amount board (stepsOf (now (steps .entry))) ⌝ }
-{
-    let net = board.network;
-    least_allowed(
-        &net.heads,
-        &board.flows,
-        &board.places,
-        &net.demands,
-        net.terminals,
-        steps,
-    )
 }

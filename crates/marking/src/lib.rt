@@ -1,11 +1,10 @@
 // Singular edges of a board, and the edges that a turn marks.
-use board::Board;
 use board::EdgeSet;
 ghost use mathlib.Core.Path.{_≡_};
 ghost use Prim.Native.Nat.{_≤_};
 ghost use lib.ListN.{length};
 ghost use Rattle.sets.specs.Sets.{setWidth, collect};
-ghost use Rattle.marking.specs.Marking.{singularIn, singular, isFreshIn, fresh};
+ghost use Rattle.marking.specs.Marking.{singularIn, isFreshIn};
 
 // Whether the head of edge e, and every vertex reached from it, has at most one positive edge leaving.
 pub fn singular_in<'a>(
@@ -41,8 +40,8 @@ fn is_fresh<'a>(
     singular_in(tails, heads, flows, vertices, e)
 }
 
-// The set of such edges.
-fn fresh_among<'a>(
+// The set of such edges: those that a turn marks newly.
+pub fn fresh_among<'a>(
     tails: &'a [u32],
     heads: &'a [u32],
     flows: &'a [u32],
@@ -61,18 +60,4 @@ fn fresh_among<'a>(
         e += 1;
     }
     m
-}
-
-// The edges that a turn marks newly.
-pub fn fresh(board: Board) -> EdgeSet
-    ensures { λ r. ⌜ r ≡ fresh board ⌝ }
-{
-    let net = board.network;
-    fresh_among(
-        &net.tails,
-        &net.heads,
-        &board.flows,
-        net.vertices,
-        board.marks,
-    )
 }

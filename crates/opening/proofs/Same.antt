@@ -1,14 +1,11 @@
 -- The tests and searches over the lists of a board are those of the board: they read the same entries.
-use mathlib.Core.Path.{_≡_, refl, ap₂}
-use mathlib.Core.List.{List}
+use mathlib.Core.Path.{_≡_, refl, ap, ap₂}
 use Prim.Native.Nat.{ℕ}
 use lib.Dec.{ltb}
-use lib.ListN.{getD}
 use Rattle.lists.specs.Lists.{lowest}
 use Rattle.board.specs.declared.Board.{Board}
-use Rattle.board.specs.declared.Network.{Network}
 use Rattle.guard.specs.Parts.{demand, place}
-use Rattle.opening.specs.Opens.{enters, isOpen, openEdge, hasOpen, openTerminal, isOpenAt, hasOpenIn}
+use Rattle.opening.specs.Opens.{enters, isOpen, openEdge, hasOpen, openTerminal, someOpen, isOpenAt, hasOpenIn, someOpenIn}
 
 -- a terminal with place p and demand d
 module _ (b : Board) (i p d : ℕ) (hp : p ≡ place b i) (hd : d ≡ demand b i) where
@@ -20,11 +17,10 @@ module _ (b : Board) (i p d : ℕ) (hp : p ≡ place b i) (hd : d ≡ demand b i
   unfolding isOpenAt isOpen enters openEdge
   edge-same = ap₂ (λ u v. lowest (isOpenAt (b .network .heads) (b .flows) (b .marks) u v) 0 (b .network .edges)) hp hd
 
-pub has-same : (net : Network) (flows : List ℕ) (marks : ℕ) (places : List ℕ) (i p d : ℕ) → p ≡ getD places i 0 → d ≡ getD (net .demands) i 0
-    → ltb (lowest (isOpenAt (net .heads) flows marks p d) 0 (net .edges)) (net .edges) ≡ hasOpenIn net flows marks places i
-unfolding hasOpenIn
-has-same net flows marks places i p d hp hd = ap₂ (λ u v. ltb (lowest (isOpenAt (net .heads) flows marks u v) 0 (net .edges)) (net .edges)) hp hd
-
 pub terminal-same : (b : Board) → lowest (hasOpenIn (b .network) (b .flows) (b .marks) (b .places)) 0 (b .network .terminals) ≡ openTerminal b
 unfolding hasOpenIn isOpenAt isOpen enters openEdge hasOpen openTerminal
 terminal-same b = refl
+
+pub some-same : (b : Board) → someOpenIn (b .network) (b .flows) (b .marks) (b .places) ≡ someOpen b
+unfolding someOpenIn someOpen
+some-same b = ap (λ i. ltb i (b .network .terminals)) (terminal-same b)

@@ -45,3 +45,7 @@ isOpenAt heads flows marks place demand e = both (eqb (getD heads e 0) place) (f
 unfoldable pub hasOpenIn : Network → List ℕ → ℕ → List ℕ → ℕ → Bool
 hasOpenIn net flows marks places i =
     ltb (lowest (isOpenAt (net .heads) flows marks (getD places i 0) (getD (net .demands) i 0)) 0 (net .edges)) (net .edges)
+
+-- `someOpen` over the parts of a board: some carry of a network with these flows, marks and places is open
+unfoldable pub someOpenIn : Network → List ℕ → ℕ → List ℕ → Bool
+someOpenIn net flows marks places = ltb (lowest (hasOpenIn net flows marks places) 0 (net .terminals)) (net .terminals)

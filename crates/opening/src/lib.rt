@@ -3,9 +3,11 @@ use board::Board;
 use board::EdgeSet;
 use board::Network;
 ghost use mathlib.Core.Path.{_≡_};
+ghost use lib.Dec.{ltb};
+ghost use lib.ListN.{getD};
 ghost use Rattle.lists.specs.Lists.{lowest};
 ghost use Rattle.guard.specs.Parts.{flow, demand, marked};
-ghost use Rattle.opening.specs.Opens.{flowFits, enters, openEdge, openTerminal, someOpen, isOpenAt, hasOpenIn};
+ghost use Rattle.opening.specs.Opens.{flowFits, enters, openEdge, openTerminal, isOpenAt, hasOpenIn, someOpenIn};
 
 fn flow_fits(mark: bool, flow: u32, demand: u32) -> bool
     ensures { λ r. ⌜ r ≡ flowFits mark flow demand ⌝ }
@@ -91,12 +93,21 @@ pub fn open_edge(board: Board, i: u32) -> u32
 }
 
 // Whether terminal i has an open carry.
-fn has_open<'a>(net: Network, flows: &'a [u32], marks: EdgeSet, places: &'a [u32], i: u32) -> bool
-    ensures { λ r. ⌜ r ≡ hasOpenIn net (now (flows .entry)) marks (now (places .entry)) i ⌝ }
+fn has_open<'a>(
+    heads: &'a [u32],
+    demands: &'a [u32],
+    edges: u32,
+    flows: &'a [u32],
+    marks: EdgeSet,
+    places: &'a [u32],
+    i: u32,
+) -> bool
+    ensures { λ r. ⌜ r ≡ ltb (lowest (isOpenAt (now (heads .entry)) (now (flows .entry)) marks (getD (now (places .entry)) i 0) (getD (now (demands .entry)) i 0)) 0 edges)
+        edges ⌝ }
 {
     let place = lists::word_at(places, i as usize);
-    let demand = lists::word_at(&net.demands, i as usize);
-    lowest_open(&net.heads, flows, marks, place, demand, net.edges) < net.edges
+    let demand = lists::word_at(demands, i as usize);
+    lowest_open(heads, flows, marks, place, demand, edges) < edges
 }
 
 // The lowest such terminal, or the count of terminals.
@@ -106,7 +117,7 @@ fn lowest_terminal<'a>(net: Network, flows: &'a [u32], marks: EdgeSet, places: &
     let terminals = net.terminals;
     let mut i: u32 = 0;
     while i < terminals {
-        if has_open(net, flows, marks, places, i) {
+        if has_open(&net.heads, &net.demands, net.edges, flows, marks, places, i) {
             return i;
         }
         i += 1;
@@ -122,10 +133,9 @@ pub fn open_terminal(board: Board) -> u32
     lowest_terminal(net, &board.flows, board.marks, &board.places)
 }
 
-// Whether some carry is open.
-pub fn some_open(board: Board) -> bool
-    ensures { λ r. ⌜ r ≡ someOpen board ⌝ }
+// Whether some carry is open on a network with these flows, marks and places.
+pub fn some_open_in<'a>(net: Network, flows: &'a [u32], marks: EdgeSet, places: &'a [u32]) -> bool
+    ensures { λ r. ⌜ r ≡ someOpenIn net (now (flows .entry)) marks (now (places .entry)) ⌝ }
 {
-    let net = board.network;
-    lowest_terminal(net, &board.flows, board.marks, &board.places) < net.terminals
+    lowest_terminal(net, flows, marks, places) < net.terminals
 }

@@ -1,21 +1,23 @@
 // The call `turn`.
 use board::Augmentation;
 use board::Board;
+use board::EdgeSet;
 use board::Entry;
 use board::Move;
 use board::Network;
 use board::Played;
+use journal::Change;
 ghost use mathlib.Core.Path.{_≡_};
 ghost use mathlib.Core.Bool.{true};
+ghost use Prim.Native.Nat.{_-_, _≤_, _<_};
 ghost use lib.Dec.{ltb};
 ghost use lib.ListN.{getD};
 ghost use Rattle.lists.specs.Choice.{pick};
 ghost use Rattle.flows.specs.Trails.{edgeOf};
-ghost use Rattle.steps.specs.Steps.{stepOf, stepsOf, isUp, every};
-ghost use Rattle.guard.specs.Guard.{playing};
+ghost use Rattle.board.specs.Limits.{maxEdges, maxMoves};
+ghost use Rattle.steps.specs.Steps.{stepOf, stepsOf, InSets, isUp, every};
 ghost use Rattle.marking.specs.Marking.{singularIn};
-ghost use Rattle.turning.specs.declared.StepRule.the-variants.{OnBoard};
-ghost use Rattle.turning.specs.Turns.{meetsIn, meets, turnRefusal, turned, turnCall};
+ghost use Rattle.turning.specs.Turns.{meetsIn, meetsBy, stepsRefusal, turnRefusalIn, turnRefusal, turnedIn, turnChange, turnCall, Sound};
 
 // The rules that each step of a turn keeps.
 pub enum StepRule {
@@ -76,7 +78,7 @@ fn meets<'a>(
 }
 
 // Whether every step keeps a rule.
-fn all_meet_in<'a>(
+fn all_meet<'a>(
     rule: StepRule,
     edges: u32,
     tails: &'a [u32],
@@ -85,8 +87,7 @@ fn all_meet_in<'a>(
     vertices: u32,
     steps: &'a [u8],
 ) -> bool
-    ensures { λ r. ⌜ r ≡ every (meetsIn rule edges (now (flows .entry))
-        (singularIn (now (tails .entry)) (now (heads .entry)) (now (flows .entry)) vertices)) (stepsOf (now (steps .entry))) ⌝ }
+    ensures { λ r. ⌜ r ≡ every (meetsBy rule edges (now (tails .entry)) (now (heads .entry)) (now (flows .entry)) vertices) (stepsOf (now (steps .entry))) ⌝ }
 {
     let mut i: usize = 0;
     while i < steps.len() {
@@ -98,12 +99,77 @@ fn all_meet_in<'a>(
     true
 }
 
-// The same on a network with these flows.
-fn all_meet(rule: StepRule, net: Network, flows: [u32; Board::MAX_EDGES], steps: &[u8]) -> bool
-    ensures { λ r. ⌜ r ≡ every (meetsIn rule (net .edges) flows (singularIn (net .tails) (net .heads) flows (net .vertices))) (stepsOf (now (steps .entry))) ⌝ }
+// 6, 7, 24, 25 or 26, in this order; 0 where the steps are accepted.
+fn steps_refusal<'a>(
+    any_open: bool,
+    edges: u32,
+    tails: &'a [u32],
+    heads: &'a [u32],
+    flows: &'a [u32],
+    vertices: u32,
+    steps: &'a [u8],
+) -> u32
+    requires { ⌜ edges ≤ maxEdges ⌝ }
+    ensures { λ r. ⌜ r ≡ stepsRefusal «any_open» edges (now (tails .entry)) (now (heads .entry)) (now (flows .entry)) vertices (stepsOf (now (steps .entry))) ⌝ }
 {
-    all_meet_in(
-        rule,
+    if !all_meet(
+        StepRule::OnBoard,
+        edges,
+        tails,
+        heads,
+        flows,
+        vertices,
+        steps,
+    ) {
+        return 6;
+    }
+    if !steps::is_cycle(tails, heads, steps) {
+        return 7;
+    }
+    if any_open {
+        return 24;
+    }
+    if !all_meet(
+        StepRule::Positive,
+        edges,
+        tails,
+        heads,
+        flows,
+        vertices,
+        steps,
+    ) {
+        return 25;
+    }
+    if !all_meet(
+        StepRule::UpSingular,
+        edges,
+        tails,
+        heads,
+        flows,
+        vertices,
+        steps,
+    ) {
+        return 26;
+    }
+    0
+}
+
+// 20 where the board is not in play, or what the steps are refused with.
+fn refusal(
+    in_play: bool,
+    any_open: bool,
+    net: Network,
+    flows: [u32; Board::MAX_EDGES],
+    steps: &[u8],
+) -> u32
+    requires { ⌜ («in_play» ≡ true → net .edges ≤ maxEdges) ⌝ }
+    ensures { λ r. ⌜ r ≡ turnRefusalIn «in_play» «any_open» net flows (stepsOf (now (steps .entry))) ⌝ }
+{
+    if !in_play {
+        return 20;
+    }
+    steps_refusal(
+        any_open,
         net.edges,
         &net.tails,
         &net.heads,
@@ -117,43 +183,39 @@ fn all_meet(rule: StepRule, net: Network, flows: [u32; Board::MAX_EDGES], steps:
 pub fn turn_refusal(board: Board, steps: &[u8]) -> u32
     ensures { λ r. ⌜ r ≡ turnRefusal board (stepsOf (now (steps .entry))) ⌝ }
 {
-    if !guard::playing(board) {
-        return 20;
-    }
+    let play = guard::playing(board);
     let net = board.network;
     let flows = board.flows;
-    if !all_meet(StepRule::OnBoard, net, flows, steps) {
-        return 6;
-    }
-    if !steps::is_cycle(&net.tails, &net.heads, steps) {
-        return 7;
-    }
-    if opening::some_open(board) {
-        return 24;
-    }
-    if !all_meet(StepRule::Positive, net, flows, steps) {
-        return 25;
-    }
-    if !all_meet(StepRule::UpSingular, net, flows, steps) {
-        return 26;
-    }
-    0
+    let places = board.places;
+    let any_open = opening::some_open_in(net, &flows, board.marks, &places);
+    refusal(play, any_open, net, flows, steps)
 }
 
-// The board after an accepted turn.
-fn turned(board: Board, steps: &[u8]) -> Board
-    requires { ⌜ playing board ≡ true ⌝ }
-    requires { ⌜ every (meets OnBoard board) (stepsOf (now steps)) ≡ true ⌝ }
-    ensures { λ r. ⌜ r ≡ turned board (stepsOf (now (steps .entry))) ⌝ }
+// What an accepted turn changes.
+fn turned(
+    net: Network,
+    flows: [u32; Board::MAX_EDGES],
+    marks: EdgeSet,
+    places: [u32; Board::MAX_TERMINALS],
+    steps: &[u8],
+) -> Change
+    requires { ⌜ Sound net flows ⌝ }
+    requires { ⌜ InSets (now steps) ⌝ }
+    ensures { λ r. ⌜ r ≡ turnedIn net flows marks places (stepsOf (now (steps .entry))) ⌝ }
 {
-    let amount = amounts::amount(board, steps);
+    let amount = amounts::least_allowed(
+        &net.heads,
+        &flows,
+        &places,
+        &net.demands,
+        net.terminals,
+        steps,
+    );
     let down = steps::gather(false, steps);
     let up = steps::gather(true, steps);
-    let fresh = marking::fresh(board);
-    let old = board.flows;
-    let flows = shifting::shifted(amount, down, up, old);
-    let marks = sets::joined(board.marks, fresh);
-    let places = board.places;
+    let fresh = marking::fresh_among(&net.tails, &net.heads, &flows, net.vertices, marks);
+    let shifted = shifting::shifted(amount, down, up, flows);
+    let marks = sets::joined(marks, fresh);
     let entry = Entry {
         step: Move::Turn(Augmentation {
             amount: amount,
@@ -162,23 +224,79 @@ fn turned(board: Board, steps: &[u8]) -> Board
             marked: fresh,
         }),
     };
-    journal::moved(board, flows, marks, places, entry)
+    Change {
+        answer: 0,
+        flows: shifted,
+        marks: marks,
+        places: places,
+        entry: entry,
+    }
 }
 
-// Augments along the cycle of the steps.
+// What a turn changes on a board of these parts; `in_play` says whether the board is in play, `any_open` whether a carry is open.
+pub fn change(
+    in_play: bool,
+    any_open: bool,
+    net: Network,
+    flows: [u32; Board::MAX_EDGES],
+    marks: EdgeSet,
+    places: [u32; Board::MAX_TERMINALS],
+    steps: &[u8],
+) -> Change
+    requires { ⌜ («in_play» ≡ true → Sound net flows) ⌝ }
+    ensures { λ r. ⌜ r ≡ turnChange «in_play» «any_open» net flows marks places (stepsOf (now (steps .entry))) ⌝ }
+{
+    let number = refusal(in_play, any_open, net, flows, steps);
+    if number != 0 {
+        let blank = Entry::blank();
+        return Change {
+            answer: number,
+            flows: flows,
+            marks: marks,
+            places: places,
+            entry: blank,
+        };
+    }
+    turned(net, flows, marks, places, steps)
+}
+
+// Where the journal has the last of so many moves.
+fn last_place(moves: u32) -> usize
+    ensures { λ r. ⌜ (r < maxMoves) × (moves ≤ maxMoves → r ≡ moves - 1) ⌝ }
+{
+    let k = lists::minus(moves, 1) as usize;
+    if k < Board::JOURNAL { k } else { 0 }
+}
+
+// Augments along the cycle of the steps. The board is changed in place, so that it is copied once.
 pub fn turn(board: Board, steps: &[u8]) -> Played
     ensures { λ r. ⌜ r ≡ turnCall board (now (steps .entry)) ⌝ }
 {
-    let number = turn_refusal(board, steps);
-    if number != 0 {
-        return Played {
-            answer: number,
-            board: board,
-        };
+    let mut next = board;
+    let net = next.network;
+    let acyclic = next.acyclic;
+    let flows = next.flows;
+    let places = next.places;
+    let k = last_place(next.moves);
+    let last = next.journal[k];
+    let step = last.step;
+    let fits = guard::intact_in(net, acyclic, flows, places, next.moves, step);
+    let play = lists::and(next.stage == Board::PLAY, fits);
+    let any_open = opening::some_open_in(net, &flows, next.marks, &places);
+    let made = change(play, any_open, net, flows, next.marks, places, steps);
+    if made.answer == 0 {
+        let m = next.moves as usize;
+        let shifted = made.flows;
+        let entry = made.entry;
+        next.flows = shifted;
+        next.marks = made.marks;
+        next.moves = next.moves + 1;
+        if m < Board::JOURNAL {
+            next.journal[m] = entry;
+        }
     }
-    let next = turned(board, steps);
     Played {
-        answer: 0,
+        answer: made.answer,
         board: next,
     }
 }

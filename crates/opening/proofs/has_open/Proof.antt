@@ -1,7 +1,4 @@
 -- An edge was found where the search ends below the count of edges.
-use mathlib.Core.Path.{ap, _∙_}
-use lib.Dec.{ltb}
-use Rattle.opening.proofs.Same.{has-same}
 use borrow.Author.Needs.{needs}
 use Rattle.opening.proofs.has_open.Statement.{statement}
 use Rattle.opening.proofs.has_open.Tie as tie
@@ -16,7 +13,7 @@ lowest-open-requires : tie.Need-lowest-open-requires
 lowest-open-requires c κs = search needs
 
 returns : tie.Need-returns
-returns c = ap (λ e. ltb e (c .before .before .before .before .before .before .before .before .before .before .before .args .t1 .edges)) (c .lowest-open .ensures) ∙ has-same _ _ _ _ _ _ _ (c .before .before .before .before .before .before .before .before .word-at .ensures) (c .before .before .before .before .word-at2 .ensures)
+returns c = cc
 
 pub has-open-spec : {M : Type 1} → statement M
 has-open-spec =

@@ -11,10 +11,10 @@ use Rattle.opening.proofs.lowest_terminal.Statement.{statement}
 use Rattle.opening.proofs.lowest_terminal.Tie as tie
 
 abbrev Inv-loop : tie.InvT-loop
-Inv-loop net flows marks places terminals i₀ i = lowest (hasOpenIn net flows marks places) i (terminals - i) ≡ lowest (hasOpenIn net flows marks places) 0 (net .terminals)
+Inv-loop flows marks places net terminals i₀ i = lowest (hasOpenIn net flows marks places) i (terminals - i) ≡ lowest (hasOpenIn net flows marks places) 0 (net .terminals)
 
 abbrev μ-loop : tie.MeasureT-loop
-μ-loop net flows marks places terminals i₀ i = terminals - i
+μ-loop flows marks places net terminals i₀ i = terminals - i
 
 loop-holds : tie.Need-loop-holds Inv-loop μ-loop
 loop-holds c = rw sub-zero
@@ -23,7 +23,8 @@ has-open-requires : tie.Need-has-open-requires Inv-loop μ-loop
 has-open-requires c κs = search needs
 
 returns : tie.Need-returns Inv-loop μ-loop
-returns c = sym (lowest-hit _ _ _ (c .before .before .loop-test .taken) (sym (c .before .has-open .ensures) ∙ c .if1 .taken)) ∙ c .before .before .before .loop .inv
+unfolding hasOpenIn
+returns c = sym (lowest-hit _ _ _ (c .before .before .before .before .before .before .before .loop-test .taken) (sym (c .before .has-open .ensures) ∙ c .if1 .taken)) ∙ c .before .before .before .before .before .before .before .before .loop .inv
 
 add-i : tie.Need-add-i Inv-loop μ-loop
 add-i c = omega arith
@@ -32,7 +33,8 @@ loop-less : tie.Need-loop-less Inv-loop μ-loop
 loop-less c = omega arith
 
 loop-again : tie.Need-loop-again Inv-loop μ-loop
-loop-again c = lowest-miss _ _ _ (c .before .before .loop-test .taken) (sym (c .before .has-open .ensures) ∙ c .if1 .left) ∙ c .before .before .before .loop .inv
+unfolding hasOpenIn
+loop-again c = lowest-miss _ _ _ (c .before .before .before .before .before .before .before .loop-test .taken) (sym (c .before .has-open .ensures) ∙ c .if1 .left) ∙ c .before .before .before .before .before .before .before .before .loop .inv
 
 returns-2 : tie.Need-returns-2 Inv-loop μ-loop
 returns-2 c = sym (lowest-end _ _ _ (c .loop-test .left)) ∙ c .before .loop .inv

@@ -4,18 +4,17 @@ use Prim.Native.Nat.{_-_}
 use lib.ListN.{length, drop}
 use borrow.Author.Tests.{not-true, not-false}
 use Rattle.steps.specs.Steps.{stepsOf, every}
-use Rattle.marking.specs.Marking.{singularIn}
-use Rattle.turning.specs.Turns.{meetsIn}
+use Rattle.turning.specs.Turns.{meetsBy}
 use Rattle.turning.proofs.Passing.{every-hit, every-miss, every-end}
 use borrow.Author.Needs.{needs}
 use native.Mathlib.Omega.{arith}
-use Rattle.turning.proofs.all_meet_in.Statement.{statement}
-use Rattle.turning.proofs.all_meet_in.Tie as tie
+use Rattle.turning.proofs.all_meet.Statement.{statement}
+use Rattle.turning.proofs.all_meet.Tie as tie
 
 abbrev Inv-loop : tie.InvT-loop
 Inv-loop rule edges tails heads flows vertices steps i₀ i =
-    every (meetsIn rule edges flows (singularIn tails heads flows vertices)) (stepsOf (drop i steps))
-    ≡ every (meetsIn rule edges flows (singularIn tails heads flows vertices)) (stepsOf steps)
+    every (meetsBy rule edges tails heads flows vertices) (stepsOf (drop i steps))
+    ≡ every (meetsBy rule edges tails heads flows vertices) (stepsOf steps)
 
 abbrev μ-loop : tie.MeasureT-loop
 μ-loop rule edges tails heads flows vertices steps i₀ i = length steps - i
@@ -50,8 +49,8 @@ loop-again c =
 returns-2 : tie.Need-returns-2 Inv-loop μ-loop
 returns-2 c = every-end _ _ _ (c .loop-test .left) ∙ c .before .loop .inv
 
-pub all-meet-in-spec : {M : Type 1} → statement M
-all-meet-in-spec =
+pub all-meet-spec : {M : Type 1} → statement M
+all-meet-spec =
     tie.close
     (tie.spec
     Inv-loop
