@@ -1,0 +1,23 @@
+use mathlib.Core.Path.{sym, _∙_}
+use Rattle.lists.proofs.Laws.{pick-yes, pick-no}
+use Rattle.opening.specs.Opens.{flowFits}
+use borrow.Author.Needs.{needs}
+use Rattle.searching.proofs.fits.Statement.{statement}
+use Rattle.searching.proofs.fits.Tie as tie
+
+word-at-requires : tie.Need-word-at-requires
+word-at-requires c κs = search needs
+
+has-requires : tie.Need-has-requires
+has-requires c κs = search needs
+
+returns : tie.Need-returns
+unfolding flowFits
+returns c = rw (c .before .before .word-at .ensures) (sym (pick-yes _ _ _ (sym (c .before .has .ensures) ∙ c .if1 .taken)))
+
+returns-2 : tie.Need-returns-2
+unfolding flowFits
+returns-2 c = rw (c .before .before .word-at .ensures) (sym (pick-no _ _ _ (sym (c .before .has .ensures) ∙ c .if1 .left)))
+
+pub fits-spec : {M : Type 1} → statement M
+fits-spec = tie.close (tie.spec word-at-requires has-requires returns returns-2)
