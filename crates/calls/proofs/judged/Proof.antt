@@ -4,7 +4,6 @@ use borrow.Author.Tests.{eq-eqb, ne-eqb}
 use borrow.Author.Needs.{needs}
 use Rattle.calls.proofs.judged.Statement.{statement}
 use Rattle.calls.proofs.judged.Tie as tie
-use Rattle.undoing.proofs.change.Reads as change-reads′
 
 change-requires : tie.Need-change-requires
 change-requires c κs = search needs

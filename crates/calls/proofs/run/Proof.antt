@@ -10,7 +10,7 @@ use lib.Dec.{eqb}
 use lib.ListN.{length, getD, length-map}
 use Rattle.lists.specs.Choice.{either}
 use Rattle.lists.proofs.Laws.{pick-no}
-use Rattle.board.specs.Limits.{maxEdges, maxTerminals, maxMoves}
+use Rattle.board.specs.Limits.{maxEdges, maxTerminals}
 use Rattle.board.specs.declared.Board.{Board}
 use Rattle.journal.specs.Moved.{lastEntry}
 use Rattle.guard.specs.Guard.{playing}
