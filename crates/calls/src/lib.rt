@@ -1,14 +1,22 @@
 // Lists of calls in numbers, for programs that drive the engine.
 use board::Board;
+use board::EdgeSet;
 use board::Entry;
 use board::Move;
+use board::Network;
 use board::Played;
 use choosing::Advice;
+use journal::Change;
 ghost use mathlib.Core.Path.{_≡_};
-ghost use Prim.Native.Nat.{_+_, _≤_};
+ghost use mathlib.Core.Bool.{true, false};
+ghost use Prim.Native.Nat.{_+_, _-_, _≤_};
+ghost use lib.Dec.{eqb};
 ghost use lib.ListN.{set};
 ghost use Rattle.turning.specs.Turns.{turnCall};
-ghost use Rattle.lists.specs.Choice.{pick};
+ghost use Rattle.lists.specs.Choice.{pick, either};
+ghost use Rattle.board.specs.Limits.{maxMoves};
+ghost use Rattle.carrying.specs.Carries.{carryChange};
+ghost use Rattle.undoing.specs.Undone.{Small, undoChange};
 ghost use Rattle.calls.specs.Calls.{hint, played, answers, plain, Replied, adviceCode, lastPlace, behind, Told};
 ghost use Rattle.calls.specs.Codes.{part, callOf, callsOf, moveCode, listed};
 ghost use lib.Seq.{sets};
@@ -60,20 +68,58 @@ fn ask(board: Board) -> Reply
     }
 }
 
-// One call.
+// A call that is no carry and no undo.
 fn make(board: Board, steps: &[u8], kind: u32, a: u32, c: u32) -> Reply
+    requires { ⌜ either (eqb kind 0) (eqb kind 2) ≡ false ⌝ }
     ensures { λ r. ⌜ Replied board (callOf (now (steps .entry)) kind a c) r ⌝ }
 {
-    if kind == 0 {
-        return replied(carrying::carry(board, a, c));
-    }
     if kind == 1 {
         return replied(turn_part(board, steps, a as usize, c as usize));
     }
-    if kind == 2 {
-        return replied(undoing::undo(board));
-    }
     ask(board)
+}
+
+// What a carry of terminal a over edge c, where the kind is 0, or else an undo would change, on a board with these parts; `last` is its last standing move.
+fn judged(
+    kind: u32,
+    a: u32,
+    c: u32,
+    in_play: bool,
+    net: Network,
+    flows: [u32; Board::MAX_EDGES],
+    marks: EdgeSet,
+    places: [u32; Board::MAX_TERMINALS],
+    moves: u32,
+    last: Move,
+) -> Change
+    requires { ⌜ («in_play» ≡ true → Small net flows last) ⌝ }
+    ensures { λ r. ⌜ r ≡ pick (eqb kind 0) (carryChange «in_play» net flows marks places a c) (undoChange «in_play» net flows marks places moves last) ⌝ }
+{
+    if kind == 0 {
+        return carrying::change(in_play, net, flows, marks, places, a, c);
+    }
+    undoing::change(in_play, net, flows, marks, places, moves, last)
+}
+
+// The place of the journal that a move writes: the next free one, or the last taken one where the move takes one back.
+fn slot(back: bool, moves: u32) -> u32
+    ensures { λ r. ⌜ r ≡ pick back (moves - 1) moves ⌝ }
+{
+    if back {
+        return lists::minus(moves, 1);
+    }
+    moves
+}
+
+// The count of moves after that.
+fn after(back: bool, at: u32) -> u32
+    requires { ⌜ at ≤ maxMoves ⌝ }
+    ensures { λ r. ⌜ r ≡ pick back at (at + 1) ⌝ }
+{
+    if back {
+        return at;
+    }
+    at + 1
 }
 
 // Stores the steps from place k on.
@@ -127,11 +173,47 @@ pub fn run(board: Board, codes: &[u32], steps: &[u8], buf: &mut [u32], hints: &m
     let mut j: usize = 0;
     while left >= 3 {
         let i = codes.len() - left;
-        let given = make(b, steps, codes[i], codes[i + 1], codes[i + 2]);
-        lists::put_word(buf, k, given.answer);
-        let advice = given.advice;
-        j = note(hints, j, given.hinted, advice);
-        b = given.board;
+        let kind = codes[i];
+        let a = codes[i + 1];
+        let c = codes[i + 2];
+        let moving = lists::or(kind == 0, kind == 2);
+        if moving {
+            let net = b.network;
+            let acyclic = b.acyclic;
+            let flows = b.flows;
+            let places = b.places;
+            let moves = b.moves;
+            let rest = lists::minus(moves, 1) as usize;
+            let mut last = Entry::blank();
+            if rest < Board::JOURNAL {
+                last = b.journal[rest];
+            }
+            let step = last.step;
+            let fits = guard::intact_in(net, acyclic, flows, places, moves, step);
+            let plays = lists::and(b.stage == Board::PLAY, fits);
+            let change = judged(kind, a, c, plays, net, flows, b.marks, places, moves, step);
+            if change.answer == 0 {
+                let new_flows = change.flows;
+                let new_places = change.places;
+                let entry = change.entry;
+                let at = slot(kind == 2, moves);
+                b.flows = new_flows;
+                b.marks = change.marks;
+                b.places = new_places;
+                b.moves = after(kind == 2, at);
+                let m = at as usize;
+                if m < Board::JOURNAL {
+                    b.journal[m] = entry;
+                }
+            }
+            lists::put_word(buf, k, change.answer);
+        } else {
+            let given = make(b, steps, kind, a, c);
+            lists::put_word(buf, k, given.answer);
+            let advice = given.advice;
+            j = note(hints, j, given.hinted, advice);
+            b = given.board;
+        }
         left -= 3;
         k += 1;
     }

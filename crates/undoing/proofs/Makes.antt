@@ -2,13 +2,13 @@
 use mathlib.Core.Path.{_≡_, refl, sym, ap, _∙_}
 use mathlib.Core.Bool.{Bool, true}
 use mathlib.Core.List.{List}
-use Prim.Native.Nat.{ℕ, _+_}
+use Prim.Native.Nat.{ℕ, _+_, _≤_}
 use lib.Dec.{eqb}
 use lib.ListN.{length, getD, set}
 use borrow.Author.Tests.{eqb-true, eqb-false}
 use Rattle.lists.specs.Choice.{pick}
 use Rattle.lists.proofs.Laws.{Known, was-true, was-false, known, pick-yes, pick-no, pick-passed}
-use Rattle.board.specs.Limits.{maxEdges, maxTerminals}
+use Rattle.board.specs.Limits.{maxEdges, maxTerminals, maxMoves}
 use Rattle.board.specs.Record.{blank}
 use Rattle.board.specs.declared.Board.{Board}
 use Rattle.board.specs.declared.Network.{Network}
@@ -20,7 +20,7 @@ use Rattle.journal.specs.declared.Change.{Change}
 use Rattle.journal.specs.Moved.{lastEntry, movedBack, answered, unchanged, changedBack}
 use Rattle.journal.proofs.Answers.{answered-yes, answered-no}
 use Rattle.guard.specs.Guard.{moveIntact, playing}
-use Rattle.guard.proofs.Facts.{playing-flow, playing-demand, playing-last}
+use Rattle.guard.proofs.Facts.{playing-moves, playing-flow, playing-demand, playing-last}
 use Rattle.undoing.specs.Undone.{undoRefusal, undoneMove, undone, undoCall, carryBack, moveBack, undoRefusalIn, undoChange, Small}
 
 -- what the code of a carry taken back computes, number by number
@@ -34,6 +34,28 @@ module _ (net : Network) (flows : List ℕ) (marks : ℕ) (places : List ℕ) (r
 pub accepted : (p : Bool) (moves : ℕ) → undoRefusalIn p moves ≡ 0 → p ≡ true
 unfolding undoRefusalIn
 accepted p moves h = pick-passed p _ _ h .0
+
+-- the number and the entry of the change
+module _ (p : Bool) (net : Network) (flows : List ℕ) (marks : ℕ) (places : List ℕ) (moves : ℕ) (last : Move) where
+  change-in-play : undoChange p net flows marks places moves last .answer ≡ 0 → p ≡ true
+  unfolding undoChange
+  change-in-play h = go (known (eqb (undoRefusalIn p moves) 0))
+    where
+      go : Known (eqb (undoRefusalIn p moves) 0) → p ≡ true
+      go (was-true t) = accepted p moves (eqb-true _ 0 t)
+      go (was-false t) = absurd (eqb-false _ 0 t (sym (ap (λ (c : Change). c .answer) (pick-no _ _ _ t)) ∙ h))
+
+  change-blank : undoChange p net flows marks places moves last .entry ≡ blank
+  unfolding undoChange
+  change-blank = go (known (eqb (undoRefusalIn p moves) 0))
+    where
+      back : (m : Move) → moveBack net flows marks places m .entry ≡ blank
+      back (Carry r) = refl
+      back (Turn a) = refl
+
+      go : Known (eqb (undoRefusalIn p moves) 0) → pick (eqb (undoRefusalIn p moves) 0) (moveBack net flows marks places last) (unchanged (undoRefusalIn p moves) flows marks places) .entry ≡ blank
+      go (was-true t) = ap (λ (c : Change). c .entry) (pick-yes _ _ _ t) ∙ back last
+      go (was-false t) = ap (λ (c : Change). c .entry) (pick-no _ _ _ t)
 
 -- a move taken back, by its parts
 back-parts : (b : Board) (m : Move)
@@ -74,6 +96,14 @@ module _ (b : Board) where
   module _ (p : Bool) (last : Entry) (ep : p ≡ playing b) (el : last ≡ lastEntry b) where
     pub undo-by-change : (c : Change) → c ≡ undoChange p (b .network) (b .flows) (b .marks) (b .places) (b .moves) (last .step) → changedBack b c ≡ undoCall b
     undo-by-change c ec = rw (ec, ep, el) (sym undo-changes)
+
+    -- the journal has room for its moves
+    pub undo-room : (c : Change) → c ≡ undoChange p (b .network) (b .flows) (b .marks) (b .places) (b .moves) (last .step) → c .answer ≡ 0 → b .moves ≤ maxMoves
+    undo-room c ec h = playing-moves b (sym ep ∙ change-in-play p _ _ _ _ _ _ (sym (ap (λ (c : Change). c .answer) ec) ∙ h))
+
+    -- the change names no move
+    pub undo-blanks : (c : Change) → c ≡ undoChange p (b .network) (b .flows) (b .marks) (b .places) (b .moves) (last .step) → c .entry ≡ blank
+    undo-blanks c ec = ap (λ (c : Change). c .entry) ec ∙ change-blank p _ _ _ _ _ _
 
     pub undo-small : length (b .flows) ≡ maxEdges → length (b .network .demands) ≡ maxTerminals → p ≡ true → Small (b .network) (b .flows) (last .step)
     undo-small many-flows many-demands t =

@@ -1,5 +1,4 @@
 -- A flow and a demand are small, so their sum does not wrap.
-use mathlib.Core.Path.{_≡_}
 use native.Mathlib.Omega.{arith}
 use Rattle.undoing.proofs.Makes.{makes-carry-back}
 use borrow.Author.Needs.{needs}

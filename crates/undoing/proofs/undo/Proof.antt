@@ -6,10 +6,8 @@ use native.Mathlib.Omega.{arith}
 use lib.ListN.{length, length-map}
 use Rattle.board.specs.Limits.{maxEdges, maxTerminals, maxMoves}
 use Rattle.board.specs.declared.Board.{Board}
-use Rattle.board.specs.declared.Entry.{Entry}
-use Rattle.journal.specs.Moved.{lastEntry, changedBack}
+use Rattle.journal.specs.Moved.{lastEntry}
 use Rattle.guard.specs.Guard.{playing}
-use Rattle.undoing.specs.Undone.{undoCall}
 use Rattle.undoing.proofs.Parts.{last-read, in-play, back-stored, back-past, back-refused}
 use Rattle.undoing.proofs.Makes.{undo-by-change, undo-small}
 use borrow.Author.Needs.{needs, length-unmapped}

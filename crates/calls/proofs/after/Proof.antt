@@ -1,0 +1,17 @@
+use mathlib.Core.Path.{sym}
+use Rattle.lists.proofs.Laws.{pick-yes, pick-no}
+use borrow.Author.Needs.{needs}
+use Rattle.calls.proofs.after.Statement.{statement}
+use Rattle.calls.proofs.after.Tie as tie
+
+returns : tie.Need-returns
+returns c = sym (pick-yes _ _ _ (c .if1 .taken))
+
+add-result : tie.Need-add-result
+add-result c = search needs
+
+returns-2 : tie.Need-returns-2
+returns-2 c = sym (pick-no _ _ _ (c .if1 .left))
+
+pub after-spec : {M : Type 1} → statement M
+after-spec = tie.close (tie.spec returns add-result returns-2)
