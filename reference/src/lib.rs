@@ -20,6 +20,10 @@ pub mod text;
 // The same for speed.
 pub mod fast;
 
+// The engine, where it is linked.
+#[cfg(feature = "engine")]
+pub mod engine;
+
 // Inputs for the engine and for the rules themselves.
 pub mod boards;
 pub mod calls;

@@ -4,6 +4,7 @@ ghost use mathlib.Core.Path.{_≡_};
 ghost use lib.ListN.{length};
 ghost use Rattle.text.specs.Results.{writeText, written};
 ghost use Rattle.loader.specs.Load.{loadText};
+ghost use Rattle.finishing.specs.Finishes.{finishCall};
 ghost use Rattle.calls.specs.Calls.{answers, Told};
 ghost use Rattle.calls.specs.Codes.{callsOf, listed};
 ghost use lib.Seq.{sets};
@@ -127,6 +128,19 @@ pub extern "C" fn vulprow_finish(
     *moves = last.moves;
     calls::put_journal(last_journal, journal);
     answer
+}
+
+// Loads a text and finishes the board that it gave. Answers what the finish answered; `count` gets how many moves it made.
+#[no_mangle]
+pub extern "C" fn vulprow_solve(text: &[u8], count: &mut u32) -> u32
+    ensures { λ r. ⌜ r ≡ finishCall (loadText (now (text .entry)) .board) .answer ⌝ }
+    ensures { λ _. ⌜ now (count .exit) ≡ finishCall (loadText (now (text .entry)) .board) .count ⌝ }
+{
+    let loaded = loader::load(text);
+    let board = loaded.board;
+    let solved = finishing::finish(board);
+    *count = solved.count;
+    solved.answer
 }
 
 // The board, or where `finishes` is not 0 the board that a finish gives.

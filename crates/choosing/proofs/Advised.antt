@@ -1,6 +1,6 @@
 -- Why a record says its move back: a carry is told from a turn by its kind, and what stands in the record is what the move is made of. The cycle of a board
 -- in play has no more steps than the board has vertices, so that all its bytes have places, and a byte says its step back.
-use mathlib.Core.Path.{_≡_, refl, sym, ap, _∙_}
+use mathlib.Core.Path.{_≡_, refl, ap, _∙_}
 use mathlib.Core.Bool.{true, false}
 use Prim.Native.Nat.{ℕ, _<_, _≤_}
 use native.Mathlib.Omega.{arith}

@@ -1,10 +1,9 @@
 //! bench: the time of the engine and of the fast program in one run, as tables. bench run PROGRAM OPERATION SET TIMES: one operation over one set of
-//! boards, so many times, for a tool that counts instructions. `tools/bench` does both.
-
-mod engine;
+//! boards, so many times, for a tool that counts instructions. bench boards SET: how many boards the set has. `tools/bench` puts them together.
 
 use reference::boards::random_board_of;
 use reference::catalog::BOARDS;
+use reference::engine::{self, End, EDGES};
 use reference::fast::Board;
 use reference::moves::Move;
 use reference::player::Player;
@@ -67,13 +66,46 @@ fn by_fast(board: &mut Board, operation: &str, sample: &Sample, buffer: &mut [u8
     }
 }
 
+/// What the operations write into; not cleared between them.
+struct Buffers {
+    board: Board,
+    flows: [u32; EDGES],
+    end: End,
+    given: Vec<u32>,
+    report: Vec<u8>,
+}
+
+impl Buffers {
+    fn new() -> Buffers {
+        Buffers { board: Board::closed(), flows: [0; EDGES], end: End::unwritten(0), given: vec![0; 2 * PAIRS], report: vec![0; 4_096] }
+    }
+}
+
+/// The same by the engine.
+fn by_engine(buffers: &mut Buffers, operation: &str, sample: &Sample) -> usize {
+    let text = black_box(&sample.text[..]);
+    let (mut count, mut used) = (0, 0);
+    let answer = match operation {
+        "load" => engine::acyclic(text, &mut buffers.flows),
+        "finish" => engine::solve(text, &mut count),
+        "report" => engine::sheet(text, (&[], &[]), true, &mut buffers.report, &mut used),
+        _ => {
+            let (terminal, edge) = sample.carry;
+            let codes = [0, terminal, edge, 2, 0, 0].repeat(PAIRS);
+            engine::play(text, (&codes, &[]), &mut buffers.given, &mut [], &mut buffers.end)
+        }
+    };
+    assert_eq!(answer, 0);
+    count as usize + used
+}
+
 /// One operation over all boards.
-fn run(program: &str, operation: &str, samples: &[Sample], board: &mut Board, engine: &mut engine::Buffers) -> usize {
+fn run(program: &str, operation: &str, samples: &[Sample], buffers: &mut Buffers) -> usize {
     let mut sum = 0;
     for sample in samples {
         sum += match program {
-            "engine" => engine.run(operation, &sample.text, sample.carry),
-            _ => by_fast(board, operation, sample, &mut engine.report),
+            "engine" => by_engine(buffers, operation, sample),
+            _ => by_fast(&mut buffers.board, operation, sample, &mut buffers.report),
         };
     }
     black_box(sum)
@@ -86,8 +118,7 @@ fn median(mut times: Vec<f64>) -> f64 {
 }
 
 fn times() {
-    let mut board = Board::closed();
-    let mut buffers = engine::Buffers::new();
+    let mut buffers = Buffers::new();
     for operation in OPERATIONS {
         println!("\n| {operation} | engine | fast | ratio |\n|---|---|---|---|");
         for set in SETS {
@@ -98,7 +129,7 @@ fn times() {
                 for (program, times) in PROGRAMS.iter().zip(&mut measured) {
                     let start = Instant::now();
                     for _ in 0..repeats {
-                        run(program, operation, &samples, &mut board, &mut buffers);
+                        run(program, operation, &samples, &mut buffers);
                     }
                     times.push(start.elapsed().as_nanos() as f64 / (repeats * samples.len()) as f64);
                 }
@@ -116,14 +147,14 @@ fn main() {
         [] => times(),
         ["run", program, operation, set, count] if PROGRAMS.contains(&program) && OPERATIONS.contains(&operation) && SETS.contains(&set) => {
             let samples = samples(set);
-            let mut board = Board::closed();
-            let mut buffers = engine::Buffers::new();
+            let mut buffers = Buffers::new();
             for _ in 0..count.parse().expect("a count") {
-                run(program, operation, &samples, &mut board, &mut buffers);
+                run(program, operation, &samples, &mut buffers);
             }
         }
+        ["boards", set] if SETS.contains(&set) => println!("{}", samples(set).len()),
         _ => {
-            eprintln!("usage: bench [run engine|fast load|finish|report|pair 8/16/4|16/32/8|32/64/16|catalog TIMES]");
+            eprintln!("usage: bench [boards SET | run engine|fast load|finish|report|pair 8/16/4|16/32/8|32/64/16|catalog TIMES]");
             std::process::exit(2);
         }
     }

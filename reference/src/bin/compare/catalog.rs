@@ -4,23 +4,18 @@ use crate::play::compare_play;
 use crate::{compare_load, same, Tally};
 use reference::catalog::{write, BOARDS};
 use reference::encoded::random_list;
+use reference::engine;
 use reference::random::Random;
 
 /// Lists of calls for each board.
 const LISTS: usize = 5;
-
-#[link(name = "boundary", kind = "static")]
-extern "C" {
-    fn vulprow_catalog(number: u32, buffer: *mut u8, buffer_length: usize, used: *mut usize) -> u32;
-}
 
 /// What a call answered, the length of the text, and the buffer then.
 type Answered = (u32, usize, Vec<u8>);
 
 fn by_engine(number: u32, mut buffer: Vec<u8>) -> Answered {
     let mut used = usize::MAX;
-    // The buffer by address and length; nothing else holds it meanwhile.
-    let answer = unsafe { vulprow_catalog(number, buffer.as_mut_ptr(), buffer.len(), &mut used) };
+    let answer = engine::catalog(number, &mut buffer, &mut used);
     (answer, used, buffer)
 }
 

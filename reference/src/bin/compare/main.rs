@@ -1,10 +1,13 @@
 //! compare [SEED COUNT]: random inputs through the engine and through the reference, whose answers must be the same. Without a seed, a fixed
-//! one and then a fresh one, which is printed. The first difference is printed with its input, and the exit status is 1.
+//! one and then a fresh one, which is printed. compare boards SEED COUNT: random boards alone, loaded, finished and reported by engine, reference and
+//! fast program. The first difference is printed with its input, and the exit status is 1.
 
+mod boards;
 mod catalog;
 mod play;
 mod report;
 
+use boards::compare_boards;
 use catalog::compare_catalog;
 use play::compare_play;
 use reference::boards::random_board;
@@ -12,6 +15,7 @@ use reference::cancelling::acyclic_flows;
 use reference::cases::{texts, T};
 use reference::damage::{at_every_field, damaged, every_start, surplus};
 use reference::encoded::{random_list, EngineCall};
+use reference::engine::{self, EDGES};
 use reference::player::Player;
 use reference::random::Random;
 use reference::text::{flows, read, write};
@@ -24,16 +28,8 @@ const FIXED_SEED: u64 = 1;
 const INPUTS: u64 = 60_000;
 /// For each so many inputs, one through the programs.
 const PROGRAMS: u64 = 150;
-/// The places that the engine's record has for edges; those past a board's edges hold 0.
-const EDGES: usize = 64;
-
-// The engine's exported functions: crates/boundary.
-#[link(name = "boundary", kind = "static")]
-extern "C" {
-    fn vulprow_copy(text: *const u8, text_length: usize, buffer: *mut u8, buffer_length: usize, writing: *mut u32, used: *mut usize) -> u32;
-    fn vulprow_acyclic(text: *const u8, text_length: usize, flows: *mut [u32; EDGES]) -> u32;
-}
-
+/// For each so many inputs, one board through the fast program, too.
+const BOARDS: u64 = 10;
 /// A text loaded, and the board written into a buffer: what both answered, and the buffer then.
 #[derive(Debug, PartialEq, Eq)]
 struct Copied {
@@ -45,8 +41,7 @@ struct Copied {
 
 fn copied_by_engine(text: &[u8], mut buffer: Vec<u8>) -> Copied {
     let (mut writing, mut used) = (u32::MAX, usize::MAX);
-    // The engine gets each slice as its address and its length, and nothing else holds them meanwhile.
-    let loading = unsafe { vulprow_copy(text.as_ptr(), text.len(), buffer.as_mut_ptr(), buffer.len(), &mut writing, &mut used) };
+    let loading = engine::copy(text, &mut buffer, &mut writing, &mut used);
     Copied { loading, writing, used, buffer }
 }
 
@@ -68,8 +63,7 @@ struct Cancelled {
 
 fn cancelled_by_engine(text: &[u8]) -> Cancelled {
     let mut flows = [u32::MAX; EDGES];
-    // As above: the text by address and length, and the flows by address.
-    let loading = unsafe { vulprow_acyclic(text.as_ptr(), text.len(), &mut flows) };
+    let loading = engine::acyclic(text, &mut flows);
     Cancelled { loading, flows }
 }
 
@@ -156,7 +150,7 @@ fn compare_made(seed: u64, tally: &mut Tally) -> Result<(), String> {
     compare_long_lines(T, tally)
 }
 
-fn compare(seed: u64, count: u64, tally: &mut Tally) -> Result<(), String> {
+fn compare_inputs(seed: u64, count: u64, tally: &mut Tally) -> Result<(), String> {
     compare_made(seed, tally)?;
     for index in 0..count {
         let mut rng = Random::of_input(seed, index);
@@ -166,31 +160,55 @@ fn compare(seed: u64, count: u64, tally: &mut Tally) -> Result<(), String> {
         }
         compared.map_err(|difference| format!("input {index} of seed {seed}: {difference}"))?;
     }
-    Ok(())
+    // Boards of the seed behind those of the inputs.
+    compare_boards(!seed, count / BOARDS, tally)
 }
 
-fn seeds() -> Option<Vec<(u64, u64)>> {
+/// What is to be compared, with a seed and a count.
+enum Run {
+    Inputs(u64, u64),
+    Boards(u64, u64),
+}
+
+impl Run {
+    fn title(&self) -> String {
+        match self {
+            Run::Inputs(seed, count) => format!("seed {seed}: {count} inputs and those made by hand through engine and reference"),
+            Run::Boards(seed, count) => format!("seed {seed}: {count} boards through engine, reference and fast program"),
+        }
+    }
+
+    fn compare(&self, tally: &mut Tally) -> Result<(), String> {
+        match *self {
+            Run::Inputs(seed, count) => compare_inputs(seed, count, tally),
+            Run::Boards(seed, count) => compare_boards(seed, count, tally),
+        }
+    }
+}
+
+fn runs() -> Option<Vec<Run>> {
     let words: Vec<String> = std::env::args().skip(1).collect();
-    match &words[..] {
+    match words.iter().map(String::as_str).collect::<Vec<_>>()[..] {
         [] => {
             let now = SystemTime::now().duration_since(SystemTime::UNIX_EPOCH).expect("the clock is past 1970");
-            Some(vec![(FIXED_SEED, INPUTS), (now.as_nanos() as u64, INPUTS)])
+            Some(vec![Run::Inputs(FIXED_SEED, INPUTS), Run::Inputs(now.as_nanos() as u64, INPUTS)])
         }
-        [seed, count] => Some(vec![(seed.parse().ok()?, count.parse().ok()?)]),
+        ["boards", seed, count] => Some(vec![Run::Boards(seed.parse().ok()?, count.parse().ok()?)]),
+        [seed, count] => Some(vec![Run::Inputs(seed.parse().ok()?, count.parse().ok()?)]),
         _ => None,
     }
 }
 
 fn main() {
-    let Some(seeds) = seeds() else {
-        eprintln!("usage: compare [SEED COUNT]");
+    let Some(runs) = runs() else {
+        eprintln!("usage: compare [[boards] SEED COUNT]");
         std::process::exit(2);
     };
-    for (seed, count) in seeds {
-        println!("seed {seed}: {count} inputs and those made by hand through engine and reference");
+    for run in runs {
+        println!("{}", run.title());
         let start = Instant::now();
         let mut tally = Tally::new();
-        if let Err(difference) = compare(seed, count, &mut tally) {
+        if let Err(difference) = run.compare(&mut tally) {
             println!("the engine differs from the reference\n{difference}");
             std::process::exit(1);
         }

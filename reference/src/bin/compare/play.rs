@@ -2,57 +2,10 @@
 //! journal included, the board that a finish makes of it, and its report.
 
 use crate::report::compare_report;
-use crate::{same, Tally, EDGES};
+use crate::{same, Tally};
 use reference::encoded::{call_by_reference, codes_of, entries, number, set_of, EngineCall, ENTRY};
+use reference::engine::{self, End, EDGES, MOVES, TERMINALS};
 use reference::player::Player;
-
-/// The places of the engine's record for terminals and for standing moves.
-const TERMINALS: usize = 16;
-const MOVES: usize = 1_056;
-
-// The engine's exported functions: crates/boundary.
-extern "C" {
-    #[allow(clippy::too_many_arguments)]
-    fn vulprow_play(
-        text: *const u8,
-        text_length: usize,
-        codes: *const u32,
-        codes_length: usize,
-        steps: *const u8,
-        steps_length: usize,
-        given: *mut u32,
-        given_length: usize,
-        hints: *mut u32,
-        hints_length: usize,
-        flows: *mut [u32; EDGES],
-        places: *mut [u32; TERMINALS],
-        marks: *mut u64,
-        moves: *mut u32,
-        journal: *mut u64,
-        journal_length: usize,
-    ) -> u32;
-
-    #[allow(clippy::too_many_arguments)]
-    fn vulprow_finish(
-        text: *const u8,
-        text_length: usize,
-        codes: *const u32,
-        codes_length: usize,
-        steps: *const u8,
-        steps_length: usize,
-        given: *mut u32,
-        given_length: usize,
-        hints: *mut u32,
-        hints_length: usize,
-        count: *mut u32,
-        flows: *mut [u32; EDGES],
-        places: *mut [u32; TERMINALS],
-        marks: *mut u64,
-        moves: *mut u32,
-        journal: *mut u64,
-        journal_length: usize,
-    ) -> u32;
-}
 
 /// The move of a hint in numbers: its kind, 0 for none, 1 for a carry and 2 for a turn; terminal, edge, count of steps, and the steps. What a kind
 /// does not need is 0.
@@ -75,21 +28,9 @@ fn turn_advice(steps: &[u8]) -> Advice {
     advice
 }
 
-/// A board: flows, places, marks and the whole journal.
-#[derive(Debug, PartialEq, Eq)]
-struct End {
-    flows: [u32; EDGES],
-    places: [u32; TERMINALS],
-    marks: u64,
-    moves: u32,
-    journal: Vec<u64>,
-}
-
-impl End {
-    /// What no board is.
-    fn unwritten() -> End {
-        End { flows: [u32::MAX; EDGES], places: [u32::MAX; TERMINALS], marks: u64::MAX, moves: u32::MAX, journal: vec![u64::MAX; MOVES * ENTRY] }
-    }
+/// A board with the whole journal, not yet written.
+fn unwritten() -> End {
+    End::unwritten(MOVES * ENTRY)
 }
 
 /// What a list of calls answered, and the board at the end.
@@ -102,74 +43,34 @@ struct Played {
 
 /// What a list of calls and a finish after it answered, and the board that it gave.
 #[derive(Debug, PartialEq, Eq)]
-struct Finished {
-    given: Vec<u32>,
-    answer: u32,
-    count: u32,
-    end: End,
+pub struct Finished {
+    pub given: Vec<u32>,
+    pub answer: u32,
+    pub count: u32,
+    pub end: End,
 }
 
 /// The list of calls, and the buffer with the moves of its hints.
 fn played_by_engine(text: &[u8], calls: &[EngineCall]) -> (Played, Vec<u32>) {
     let (codes, steps) = codes_of(calls);
-    let mut played = Played { loading: u32::MAX, given: vec![u32::MAX; calls.len()], end: End::unwritten() };
+    let mut played = Played { loading: u32::MAX, given: vec![u32::MAX; calls.len()], end: unwritten() };
     let mut hints = vec![UNWRITTEN; calls.len() * ADVICE];
-    // The engine gets each slice as its address and its length, the arrays and numbers by address, and nothing else holds them meanwhile.
-    played.loading = unsafe {
-        vulprow_play(
-            text.as_ptr(),
-            text.len(),
-            codes.as_ptr(),
-            codes.len(),
-            steps.as_ptr(),
-            steps.len(),
-            played.given.as_mut_ptr(),
-            played.given.len(),
-            hints.as_mut_ptr(),
-            hints.len(),
-            &mut played.end.flows,
-            &mut played.end.places,
-            &mut played.end.marks,
-            &mut played.end.moves,
-            played.end.journal.as_mut_ptr(),
-            played.end.journal.len(),
-        )
-    };
+    played.loading = engine::play(text, (&codes, &steps), &mut played.given, &mut hints, &mut played.end);
     (played, hints)
 }
 
-fn finished_by_engine(text: &[u8], calls: &[EngineCall]) -> (Finished, Vec<u32>) {
+pub fn finished_by_engine(text: &[u8], calls: &[EngineCall]) -> (Finished, Vec<u32>) {
     let (codes, steps) = codes_of(calls);
-    let mut finished = Finished { given: vec![u32::MAX; calls.len()], answer: u32::MAX, count: u32::MAX, end: End::unwritten() };
+    let mut finished = Finished { given: vec![u32::MAX; calls.len()], answer: u32::MAX, count: u32::MAX, end: unwritten() };
     let mut hints = vec![UNWRITTEN; calls.len() * ADVICE];
-    // As above.
-    finished.answer = unsafe {
-        vulprow_finish(
-            text.as_ptr(),
-            text.len(),
-            codes.as_ptr(),
-            codes.len(),
-            steps.as_ptr(),
-            steps.len(),
-            finished.given.as_mut_ptr(),
-            finished.given.len(),
-            hints.as_mut_ptr(),
-            hints.len(),
-            &mut finished.count,
-            &mut finished.end.flows,
-            &mut finished.end.places,
-            &mut finished.end.marks,
-            &mut finished.end.moves,
-            finished.end.journal.as_mut_ptr(),
-            finished.end.journal.len(),
-        )
-    };
+    let Finished { given, count, end, .. } = &mut finished;
+    finished.answer = engine::finish(text, (&codes, &steps), given, &mut hints, count, end);
     (finished, hints)
 }
 
 /// The engine's journal: the moves, and blanks.
-fn journal_of(player: &Player) -> Vec<u64> {
-    let mut journal = entries(player).concat();
+pub fn journal_of_entries(entries: impl Iterator<Item = [u64; ENTRY]>) -> Vec<u64> {
+    let mut journal: Vec<u64> = entries.flatten().collect();
     // The blank is the carry of terminal 0 over edge 0.
     journal.resize(MOVES * ENTRY, 0);
     journal
@@ -183,7 +84,7 @@ fn end_by_reference(player: &Player) -> End {
         marks = set_of(board.marks.iter().copied());
     }
     let moves = player.standing().len() + player.finishing().len();
-    End { flows, places, marks, moves: number(moves), journal: journal_of(player) }
+    End { flows, places, marks, moves: number(moves), journal: journal_of_entries(entries(player).into_iter()) }
 }
 
 fn played_by_reference(text: &[u8], calls: &[EngineCall]) -> Played {
@@ -192,7 +93,7 @@ fn played_by_reference(text: &[u8], calls: &[EngineCall]) -> Played {
     Played { loading, given, end: end_by_reference(&player) }
 }
 
-fn finished_by_reference(text: &[u8], calls: &[EngineCall]) -> Finished {
+pub fn finished_by_reference(text: &[u8], calls: &[EngineCall]) -> Finished {
     let (_, mut player) = Player::load(text);
     let given = calls.iter().map(|call| call_by_reference(&mut player, call)).collect();
     let (answer, count) = match player.finish() {

@@ -6,6 +6,7 @@ use reference::boards::random_board;
 use reference::calls::random_input;
 use reference::damage::damaged;
 use reference::encoded::{call_by_reference, codes_of, EngineCall};
+use reference::engine;
 use reference::player::Player;
 use reference::programs::{play, sheet};
 use reference::random::Random;
@@ -13,49 +14,18 @@ use reference::text::write;
 use std::io::Write;
 use std::process::{Command, Stdio};
 
-// The engine's exported function: crates/boundary.
-extern "C" {
-    #[allow(clippy::too_many_arguments)]
-    fn vulprow_sheet(
-        text: *const u8,
-        text_length: usize,
-        codes: *const u32,
-        codes_length: usize,
-        steps: *const u8,
-        steps_length: usize,
-        finishes: u32,
-        buffer: *mut u8,
-        buffer_length: usize,
-        used: *mut usize,
-    ) -> u32;
-}
-
 /// What the call `sheet` answered, and the buffer then.
 #[derive(Debug, PartialEq, Eq)]
-struct Reported {
+pub struct Reported {
     answer: u32,
     used: usize,
-    buffer: Vec<u8>,
+    pub buffer: Vec<u8>,
 }
 
-fn reported_by_engine(text: &[u8], calls: &[EngineCall], finishes: bool, mut buffer: Vec<u8>) -> Reported {
+pub fn reported_by_engine(text: &[u8], calls: &[EngineCall], finishes: bool, mut buffer: Vec<u8>) -> Reported {
     let (codes, steps) = codes_of(calls);
     let mut used = usize::MAX;
-    // The engine gets each slice as its address and its length, and nothing else holds them meanwhile.
-    let answer = unsafe {
-        vulprow_sheet(
-            text.as_ptr(),
-            text.len(),
-            codes.as_ptr(),
-            codes.len(),
-            steps.as_ptr(),
-            steps.len(),
-            u32::from(finishes),
-            buffer.as_mut_ptr(),
-            buffer.len(),
-            &mut used,
-        )
-    };
+    let answer = engine::sheet(text, (&codes, &steps), finishes, &mut buffer, &mut used);
     Reported { answer, used, buffer }
 }
 
