@@ -2,8 +2,8 @@
 -- terminal is at the source; and then the run ends, be it that all are at the source or that the carry is refused. Where none is open, the run ends where all are
 -- at the source, and else the cycle found is turned.
 use mathlib.Core.Path.{_≡_, refl, sym, ap, _∙_}
-use mathlib.Core.Bool.{Bool, true, false, true≢false}
-use mathlib.Core.Logic.{_⊎_, inl, inr, _≢_}
+use mathlib.Core.Bool.{true, false}
+use mathlib.Core.Logic.{_≢_}
 use Prim.Native.Nat.{ℕ, zero, suc, _-_, _<_}
 use native.Mathlib.Omega.{arith}
 use lib.Dec.{ltb, eqb}
@@ -14,7 +14,6 @@ use Rattle.board.specs.declared.Board.{Board}
 use Rattle.board.specs.declared.Played.{Played}
 use Rattle.guard.specs.Parts.{flow, marked, demand, place}
 use Rattle.guard.specs.Guard.{playing}
-use Rattle.journal.specs.Moved.{answered}
 use Rattle.journal.proofs.Answers.{answered-yes, answered-no}
 use Rattle.opening.specs.Opens.{flowFits, enters, isOpen, hasOpen, openEdge, openTerminal, someOpen}
 use Rattle.carrying.specs.Carries.{onBoard, carryRefusal, carried}

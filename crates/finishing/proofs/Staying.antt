@@ -2,15 +2,14 @@
 -- the board's edges, so that only the count of moves can pass its limit. A turn changes only the flows of positive edges, and an edge whose acyclic flow is 0 has
 -- flow 0, so that what is left to test is that the flows are small.
 use mathlib.Core.Path.{_≡_, refl, sym, ap, _∙_}
-use mathlib.Core.Bool.{Bool, true, false, true≢false, not}
-use mathlib.Core.Logic.{_⊎_, inl, inr, _≢_}
+use mathlib.Core.Bool.{Bool, true, false}
+use mathlib.Core.Logic.{_⊎_, inl, inr}
 use mathlib.Core.List.{List, [], _∷_}
 use Prim.Native.Nat.{ℕ, zero, suc, _+_, _-_, _<_, _≤_}
 use native.Mathlib.Omega.{arith}
 use lib.Dec.{leb, ltb, eqb}
-use lib.ListN.{length, getD, set, List·getD-eq-default}
-use lib.Seq.{getD-set-same}
-use borrow.Author.Tests.{ltb-true, leb-true, eqb-true, le-leb, lt-ltb, eq-eqb, not-true}
+use lib.ListN.{length, getD, set}
+use borrow.Author.Tests.{ltb-true, leb-true, eqb-true, le-leb, lt-ltb, eq-eqb}
 use Rattle.lists.specs.Choice.{pick, both}
 use Rattle.lists.specs.Lists.{all}
 use Rattle.lists.proofs.Laws.{
@@ -34,24 +33,23 @@ use Rattle.board.specs.Limits.{maxEdges, maxTerminals, maxMoves, maxTotal}
 use Rattle.board.specs.Record.{playStage, blank}
 use Rattle.board.specs.declared.Board.{Board}
 use Rattle.board.specs.declared.Entry.{Entry}
-use Rattle.board.specs.declared.Move.the-variants.{Carry, Turn}
 use Rattle.rules.specs.Rules.{countsFit}
 use Rattle.flows.specs.Trails.{Step, edgeOf}
-use Rattle.guard.specs.Parts.{flow, tail, demand, marked, place}
-use Rattle.guard.proofs.Facts.{playing-edges, playing-flow}
+use Rattle.guard.specs.Parts.{flow, tail, demand, place}
+use Rattle.guard.proofs.Facts.{playing-edges, playing-flow, playing-demand}
 use Rattle.guard.specs.Guard.{edgeIntact, edgeIntactIn, terminalIntact, terminalIntactIn, moveIntact, intact, playing}
-use Rattle.journal.specs.Moved.{moved, lastEntry}
-use Rattle.opening.specs.Opens.{enters, flowFits}
+use Rattle.journal.specs.Moved.{moved}
 use Rattle.carrying.specs.Carries.{onBoard, carryRefusal, carried}
 use Rattle.steps.specs.Steps.{every, gather, isCycle}
 use Rattle.steps.proofs.Cycled.{every-in, gather-from}
 use Rattle.amounts.specs.Amounts.{amount}
-use Rattle.shifting.specs.Shifts.{shifted, shiftedAt}
+use Rattle.shifting.specs.Shifts.{shifted}
 use Rattle.shifting.proofs.Shifting.{shifted-at, shifted-past, shifted-other}
 use Rattle.opening.specs.Opens.{someOpen}
-use Rattle.turning.specs.declared.StepRule.the-variants.{OnBoard, Positive, UpSingular}
+use Rattle.turning.specs.declared.StepRule.the-variants.{OnBoard, Positive}
 use Rattle.turning.specs.Turns.{meets, turnRefusal, turned}
-use Rattle.turning.proofs.Passing.{turn-small}
+use Rattle.amounts.proofs.Raising.{amount-small}
+use Rattle.finishing.specs.Finishes.{allSmall}
 
 -- what a store leaves at a place
 set-at : (xs : List ℕ) (i j x : ℕ) → (getD (set xs i x) j 0 ≡ getD xs j 0) ⊎ ((j ≡ i) × (getD (set xs i x) j 0 ≡ x))
@@ -66,10 +64,6 @@ set-at (y ∷ ys) (suc i) (suc j) x = go (set-at ys i j x)
     go (inl q) = inl q
     go (inr (e, q)) = inr (ap suc e, q)
 
--- no flow is above the greatest
-unfoldable pub allSmall : List ℕ → Bool
-allSmall flows = all (λ e. leb (getD flows e 0) maxTotal) 0 maxEdges
-
 -- tests that agree at each index
 all-same : (p q : ℕ → Bool) (i k : ℕ) → ((j : ℕ) → i ≤ j → j < i + k → p j ≡ q j) → all p i k ≡ all q i k
 unfolding all
@@ -79,6 +73,19 @@ all-same p q i (suc k) f = go (known (p i)) (f i (omega arith) (omega arith)) (a
     go : Known (p i) → p i ≡ q i → all p (suc i) k ≡ all q (suc i) k → all p i (suc k) ≡ all q i (suc k)
     go (was-true t) e ih = rw (← e, t, all) ih
     go (was-false t) e ih = rw (← e, t, all)
+
+-- a flow that falls stays small
+pub fall-small : (flows : List ℕ) (e x : ℕ) → x ≤ getD flows e 0 → allSmall flows ≡ true → allSmall (set flows e x) ≡ true
+unfolding allSmall
+fall-small flows e x less small = all-zero (λ k. leb (getD (set flows e x) k 0) maxTotal) maxEdges (λ k h. one k h (set-at flows e k x))
+  where
+    one : (k : ℕ) → k < maxEdges → (getD (set flows e x) k 0 ≡ getD flows k 0) ⊎ ((k ≡ e) × (getD (set flows e x) k 0 ≡ x))
+        → leb (getD (set flows e x) k 0) maxTotal ≡ true
+    one k h (inl q) = rw q (all-from (λ k. leb (getD flows k 0) maxTotal) maxEdges k small h)
+    one k h (inr (k-is, q)) =
+        let was : getD flows k 0 ≤ maxTotal = leb-true _ _ (all-from (λ k. leb (getD flows k 0) maxTotal) maxEdges k small h) in
+        let same : getD flows e 0 ≡ getD flows k 0 = ap (λ (n : ℕ). getD flows n 0) (sym k-is) in
+        le-leb (getD (set flows e x) k 0) maxTotal (omega (arith, q, same, was, less))
 
 -- what a store leaves at its own place: the entry, or the blank past the end
 store-own : (l : List Entry) (i : ℕ) (a d : Entry) → (getD (set l i a) i d ≡ a) ⊎ (getD (set l i a) i d ≡ d)
@@ -149,6 +156,10 @@ module _ (b : Board) (play : playing b ≡ true) where
           go (inl q) = rw q fits
           go (inr q) = rw q refl
 
+  pub flows-small : length (b .flows) ≡ maxEdges → allSmall (b .flows) ≡ true
+  unfolding allSmall
+  flows-small long = all-zero (λ e. leb (flow b e) maxTotal) maxEdges (λ e h. le-leb (flow b e) maxTotal (playing-flow b play long e))
+
   tail-inside : (e : ℕ) → e < b .network .edges → ltb (tail b e) (b .network .vertices) ≡ true
   tail-inside e h =
       let most = playing-edges b play in
@@ -180,12 +191,6 @@ module _ (b : Board) (play : playing b ≡ true) where
             rw q
             (both-true _ _ (both-left _ _ (terminal j h))
             (pick-yes _ _ _ inside ∙ tail-inside e (ltb-true _ _ (both-right _ _ on))))
-
-    pub carry-small : length (b .flows) ≡ maxEdges → allSmall (carried b i e .flows) ≡ true
-    unfolding carried allSmall
-    carry-small long =
-        all-zero (λ k. leb (getD (set (b .flows) e (flow b e - demand b i)) k 0) maxTotal) maxEdges
-        (λ k h. le-leb (getD (set (b .flows) e (flow b e - demand b i)) k 0) maxTotal (omega (arith, lower k, playing-flow b play long k)))
 
     pub carry-stays : playing (carried b i e) ≡ both (leb (b .moves + 1) maxMoves) (allSmall (carried b i e .flows))
     unfolding carried
@@ -222,6 +227,9 @@ module _ (b : Board) (play : playing b ≡ true) where
             ∙ shifted-other (amount b w) (gather false 0 w) (gather true 0 w) e (flow b e) (apart false e z) (apart true e z) ∙ z
         go (inr h) = shifted-past (amount b w) (gather false 0 w) (gather true 0 w) (b .flows) e h
 
+    small : amount b w ≤ maxTotal
+    small = amount-small b w maxTotal (playing-flow b play long) (λ j. let d = playing-demand b play wide j in omega (arith, d))
+
     pub turn-stays : playing (turned b w) ≡ both (leb (b .moves + 1) maxMoves) (allSmall (turned b w .flows))
     unfolding turned
-    turn-stays = stays _ _ _ _ still terminal (le-leb _ _ (turn-small b play long wide w))
+    turn-stays = stays _ _ _ _ still terminal (le-leb (amount b w) maxTotal small)

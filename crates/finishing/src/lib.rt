@@ -1,13 +1,29 @@
 // The call `finish`.
 use board::Board;
-use board::Played;
-use choosing::Advice;
+use board::EdgeSet;
+use board::Entry;
+use board::Move;
+use board::Network;
+use board::Relocation;
+use journal::Change;
 ghost use mathlib.Core.Path.{_≡_};
-ghost use Prim.Native.Nat.{_≤_};
-ghost use Rattle.board.specs.Limits.{maxEdges};
-ghost use Rattle.journal.specs.Moved.{answered};
-ghost use Rattle.choosing.specs.Choosing.{judge, acted, actOf};
-ghost use Rattle.finishing.specs.Finishes.{stepped, playedOut, ended, finishCall};
+ghost use mathlib.Core.Bool.{true};
+ghost use Rattle.incidence.specs.Incidence.{Incident, Positive};
+ghost use Rattle.journal.specs.Moved.{unchanged};
+ghost use Rattle.guard.specs.Guard.{playing};
+ghost use Rattle.finishing.specs.Finishes.{
+  playedOut,
+  allSmall,
+  allHomeIn,
+  positiveAfter,
+  carryStep,
+  turnStep,
+  stepChange,
+  InPlay,
+  Makes,
+  leftAfter,
+  finishCall,
+};
 
 // What a finish gives: 0, how many moves it made, and the board at the end; or the number that it is refused with, and the board as it was.
 pub struct Finished {
@@ -16,86 +32,296 @@ pub struct Finished {
     pub board: Board,
 }
 
-// Makes a move as a call.
-fn made(board: Board, advice: Advice) -> Played
-    requires { ⌜ advice .count ≤ maxEdges ⌝ }
-    ensures { λ r. ⌜ r ≡ answered (judge board (actOf advice)) board (acted board (actOf advice)) ⌝ }
-{
-    if advice.kind == Advice::CARRY {
-        return carrying::carry(board, advice.terminal, advice.edge);
-    }
-    let steps = advice.steps;
-    turning::turn(board, &steps[..advice.count as usize])
+// A move of the solver: what it changes, the positive edges after it, and whether the flows are small then.
+pub struct Made {
+    pub change: Change,
+    pub positive: EdgeSet,
+    pub small: bool,
 }
 
-// Makes the solver's next move; 28 where every terminal is at the source.
-fn stepped(board: Board) -> Played
-    ensures { λ r. ⌜ r ≡ stepped board ⌝ }
+// The moves left of a run after one that leaves these moves standing: none where the board is not in play any more.
+fn left_after(left: u32, moves: u32, small: bool) -> u32
+    ensures { λ r. ⌜ r ≡ leftAfter left moves small ⌝ }
 {
-    if choosing::all_home(board) {
-        return Played {
-            answer: 28,
-            board: board,
-        };
+    if lists::and(moves <= Board::JOURNAL as u32, small) {
+        lists::minus(left, 1)
+    } else {
+        0
     }
-    if !guard::playing(board) {
-        return Played {
-            answer: 20,
-            board: board,
-        };
-    }
-    let advice = choosing::next(board);
-    made(board, advice)
 }
 
-// The board after such moves, as long as they are accepted.
+// Whether every terminal is at the source.
+fn all_home(places: &[u32], terminals: u32, source: u32) -> bool
+    ensures { λ r. ⌜ r ≡ allHomeIn terminals source (now (places .entry)) ⌝ }
+{
+    let mut i: u32 = 0;
+    while i < terminals {
+        if lists::word_at(places, i as usize) != source {
+            return false;
+        }
+        i += 1;
+    }
+    true
+}
+
+// Whether no flow is above what the terminals need together at most.
+fn all_small(flows: [u32; Board::MAX_EDGES]) -> bool
+    ensures { λ r. ⌜ r ≡ allSmall flows ⌝ }
+{
+    let mut e: usize = 0;
+    while e < Board::MAX_EDGES {
+        if Board::MAX_TOTAL < flows[e] {
+            return false;
+        }
+        e += 1;
+    }
+    true
+}
+
+// No move: the parts stay as they are.
+fn stopped(
+    answer: u32,
+    flows: [u32; Board::MAX_EDGES],
+    marks: EdgeSet,
+    places: [u32; Board::MAX_TERMINALS],
+    positive: EdgeSet,
+) -> Made
+    requires { ⌜ Positive flows positive ⌝ }
+    requires { ⌜ allSmall flows ≡ true ⌝ }
+    ensures { λ r. ⌜ Makes (unchanged answer flows marks places) r ⌝ }
+{
+    let entry = Entry::blank();
+    let change = Change {
+        answer: answer,
+        flows: flows,
+        marks: marks,
+        places: places,
+        entry: entry,
+    };
+    Made {
+        change: change,
+        positive: positive,
+        small: true,
+    }
+}
+
+// The positive edges where edge e has the rest of its flow.
+fn positive_after(positive: EdgeSet, rest: u32, e: u32) -> EdgeSet
+    ensures { λ r. ⌜ r ≡ positiveAfter positive rest e ⌝ }
+{
+    if rest == 0 {
+        return sets::drop(positive, e);
+    }
+    positive
+}
+
+// The carry of terminal i over edge e.
+fn carried(
+    net: Network,
+    flows: [u32; Board::MAX_EDGES],
+    marks: EdgeSet,
+    places: [u32; Board::MAX_TERMINALS],
+    positive: EdgeSet,
+    i: u32,
+    e: u32,
+) -> Made
+    requires { ⌜ InPlay net flows marks places ⌝ }
+    requires { ⌜ Positive flows positive ⌝ }
+    ensures { λ r. ⌜ Makes (carryStep net flows marks places i e) r ⌝ }
+{
+    let place = lists::word_at(&places, i as usize);
+    if place == net.source {
+        return stopped(21, flows, marks, places, positive);
+    }
+    let demand = lists::word_at(&net.demands, i as usize);
+    let flow = lists::word_at(&flows, e as usize);
+    let tail = lists::word_at(&net.tails, e as usize);
+    let rest = lists::minus(flow, demand);
+    let new_flows = journal::put_flow(flows, e as usize, rest);
+    let new_places = journal::put_place(places, i as usize, tail);
+    let wet = positive_after(positive, rest, e);
+    let change = Change {
+        answer: 0,
+        flows: new_flows,
+        marks: marks,
+        places: new_places,
+        entry: Entry {
+            step: Move::Carry(Relocation {
+                terminal: i,
+                edge: e,
+            }),
+        },
+    };
+    Made {
+        change: change,
+        positive: wet,
+        small: true,
+    }
+}
+
+// The turn along the solver's cycle.
+fn turned<'a>(
+    net: Network,
+    leaving: &'a [EdgeSet],
+    entering: &'a [EdgeSet],
+    flows: [u32; Board::MAX_EDGES],
+    marks: EdgeSet,
+    places: [u32; Board::MAX_TERMINALS],
+    positive: EdgeSet,
+) -> Made
+    requires { ⌜ InPlay net flows marks places ⌝ }
+    requires { ⌜ Incident (net .tails) (now leaving) ⌝ }
+    requires { ⌜ Incident (net .heads) (now entering) ⌝ }
+    requires { ⌜ Positive flows positive ⌝ }
+    ensures { λ r. ⌜ Makes (turnStep net flows marks places) r ⌝ }
+{
+    if all_home(&places, net.terminals, net.source) {
+        return stopped(28, flows, marks, places, positive);
+    }
+    let walk = walking::cycle(
+        &net.tails,
+        &net.heads,
+        leaving,
+        entering,
+        positive,
+        &flows,
+        net.vertices,
+        net.source,
+    );
+    let steps = walk.steps;
+    let count = walk.count as usize;
+    let change = turning::change(true, false, net, flows, marks, places, &steps[..count]);
+    let new_flows = change.flows;
+    let wet = incidence::positive(new_flows);
+    let small = all_small(new_flows);
+    Made {
+        change: change,
+        positive: wet,
+        small: small,
+    }
+}
+
+// Makes the solver's next move on the parts of a board in play.
+fn advance<'a>(
+    net: Network,
+    leaving: &'a [EdgeSet],
+    entering: &'a [EdgeSet],
+    flows: [u32; Board::MAX_EDGES],
+    marks: EdgeSet,
+    places: [u32; Board::MAX_TERMINALS],
+    positive: EdgeSet,
+) -> Made
+    requires { ⌜ InPlay net flows marks places ⌝ }
+    requires { ⌜ Incident (net .tails) (now leaving) ⌝ }
+    requires { ⌜ Incident (net .heads) (now entering) ⌝ }
+    requires { ⌜ Positive flows positive ⌝ }
+    ensures { λ r. ⌜ Makes (stepChange net flows marks places) r ⌝ }
+{
+    let found = searching::open_carry(
+        &net.heads,
+        entering,
+        &net.demands,
+        net.terminals,
+        net.edges,
+        &flows,
+        positive,
+        marks,
+        &places,
+    );
+    if found.terminal < net.terminals {
+        return carried(
+            net,
+            flows,
+            marks,
+            places,
+            positive,
+            found.terminal,
+            found.edge,
+        );
+    }
+    turned(net, leaving, entering, flows, marks, places, positive)
+}
+
+// The board after such moves, as long as they are accepted. Its parts change in locals, so that the board is not copied at each move.
 fn played_out(board: Board) -> Board
+    requires { ⌜ playing board ≡ true ⌝ }
     ensures { λ r. ⌜ r ≡ playedOut board ⌝ }
 {
     let mut last = board;
-    let mut k: usize = 0;
-    while k < Board::JOURNAL {
-        let next = stepped(last);
-        if next.answer != 0 {
-            return last;
+    let net = last.network;
+    let tails = net.tails;
+    let heads = net.heads;
+    let leaving = incidence::at_vertices(tails);
+    let entering = incidence::at_vertices(heads);
+    let mut flows = last.flows;
+    let mut marks = last.marks;
+    let mut places = last.places;
+    let mut moves = last.moves;
+    let mut positive = incidence::positive(flows);
+    let mut left = Board::JOURNAL as u32;
+    while left != 0 {
+        let made = advance(net, &leaving, &entering, flows, marks, places, positive);
+        let change = made.change;
+        if change.answer != 0 {
+            left = 0;
+            continue;
         }
-        last = next.board;
-        k += 1;
+        let m = moves as usize;
+        if m < Board::JOURNAL {
+            let entry = change.entry;
+            last.journal[m] = entry;
+        }
+        let new_flows = change.flows;
+        let new_places = change.places;
+        flows = new_flows;
+        marks = change.marks;
+        places = new_places;
+        moves += 1;
+        positive = made.positive;
+        left = left_after(left, moves, made.small);
     }
+    last.flows = flows;
+    last.marks = marks;
+    last.places = places;
+    last.moves = moves;
     last
 }
 
-// The board with play over, and the moves of the finish from this one on.
-fn ended(from: u32, board: Board) -> Board
-    ensures { λ r. ⌜ r ≡ ended from board ⌝ }
-{
-    let mut end = board;
-    end.stage = Board::FINISHED;
-    end.finish_from = from;
-    end
-}
-
-// Plays to the end, and answers how many moves that took.
+// Plays to the end, and answers how many moves that took. The board is read and changed in place, so that it is copied once in and once out.
 pub fn finish(board: Board) -> Finished
     ensures { λ r. ⌜ r ≡ finishCall board ⌝ }
 {
-    if !guard::playing(board) {
+    let net = board.network;
+    let acyclic = board.acyclic;
+    let flows = board.flows;
+    let places = board.places;
+    let k = lists::minus(board.moves, 1) as usize;
+    let mut entry = Entry::blank();
+    if k < Board::JOURNAL {
+        entry = board.journal[k];
+    }
+    let step = entry.step;
+    let fits = guard::intact_in(net, acyclic, flows, places, board.moves, step);
+    if !lists::and(board.stage == Board::PLAY, fits) {
         return Finished {
             answer: 20,
             count: 0,
             board: board,
         };
     }
-    let last = played_out(board);
-    if !choosing::all_home(last) {
+    let mut end = played_out(board);
+    let last = end.places;
+    let there = end.network;
+    if !all_home(&last, there.terminals, there.source) {
         return Finished {
             answer: 20,
             count: 0,
             board: board,
         };
     }
-    let count = lists::minus(last.moves, board.moves);
-    let end = ended(board.moves, last);
+    let count = lists::minus(end.moves, board.moves);
+    end.stage = Board::FINISHED;
+    end.finish_from = board.moves;
     Finished {
         answer: 0,
         count: count,

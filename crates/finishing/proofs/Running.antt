@@ -1,0 +1,144 @@
+-- Why the loop over the parts of a board comes to the board that the definition names. What is left of the run, from the board that the parts make up, ends where
+-- the whole run does. A move that is refused ends the run, so nothing is left; an accepted one leaves one move fewer, and none where the board is not in play
+-- after it, for then the next one is refused.
+use mathlib.Core.Path.{_≡_, refl, sym, _∙_}
+use mathlib.Core.Bool.{Bool, true}
+use mathlib.Core.Logic.{_≢_}
+use mathlib.Core.List.{List}
+use Prim.Native.Nat.{ℕ, _+_, _-_, _<_, _≤_}
+use native.Mathlib.Omega.{arith}
+use lib.Dec.{leb}
+use lib.ListN.{length, set, length-set}
+use lib.Seq.{set-out}
+use Rattle.lists.specs.Choice.{pick, both}
+use Rattle.lists.proofs.Laws.{Known, was-true, was-false, known, pick-yes, pick-no}
+use Rattle.incidence.specs.Incidence.{Positive}
+use Rattle.board.specs.Limits.{maxEdges, maxMoves}
+use Rattle.board.specs.declared.Board.{Board}
+use Rattle.board.specs.declared.Entry.{Entry}
+use Rattle.board.specs.declared.Network.{Network}
+use Rattle.guard.specs.Guard.{playing}
+use Rattle.journal.specs.Moved.{moved}
+use Rattle.journal.specs.declared.Change.{Change}
+use Rattle.finishing.specs.declared.Made.{Made}
+use Rattle.finishing.specs.Finishes.{steppedOn, playedOut, stepChange, Sized, InPlay, Makes, leftAfter}
+use Rattle.finishing.proofs.Making.{on-stops, on-goes, closed-stops}
+use Rattle.finishing.proofs.Following.{Follows, follows}
+
+-- a board with other parts, and with another journal
+abbrev pub standing : Board → List ℕ → ℕ → List ℕ → ℕ → Board
+standing last flows marks places moves = record {
+  stage = last .stage;
+  network = last .network;
+  acyclic = last .acyclic;
+  flows = flows;
+  marks = marks;
+  places = places;
+  journal = last .journal;
+  moves = moves;
+  «finish_from» = last .«finish_from»;
+}
+
+abbrev pub journaled : Board → List Entry → Board
+journaled last journal = record {
+  stage = last .stage;
+  network = last .network;
+  acyclic = last .acyclic;
+  flows = last .flows;
+  marks = last .marks;
+  places = last .places;
+  journal = journal;
+  moves = last .moves;
+  «finish_from» = last .«finish_from»;
+}
+
+-- past its end the journal stays
+pub journal-past : (last : Board) (m : ℕ) (entry : Entry) → length (last .journal) ≤ m → last ≡ journaled last (set (last .journal) m entry)
+journal-past last m entry h = rw (set-out (last .journal) m entry h)
+
+-- one move or more fewer are left
+pub left-less : (left moves : ℕ) (small : Bool) → left ≢ 0 → leftAfter left moves small < left
+unfolding leftAfter
+left-less left moves small n = go (known (both (leb moves maxMoves) small))
+  where
+    go : Known (both (leb moves maxMoves) small) → pick (both (leb moves maxMoves) small) (left - 1) 0 < left
+    go (was-true t) = rw (pick-yes _ (left - 1) 0 t) (omega (arith, n))
+    go (was-false t) = rw (pick-no _ (left - 1) 0 t) (omega (arith, n))
+
+-- the run from the board `whole` on has come to the board of these parts
+pub record Run (whole : Board) (net : Network) (last : Board) (flows : List ℕ) (marks : ℕ) (places : List ℕ) (moves positive left : ℕ) : Type 0 where
+  pub run : steppedOn left (standing last flows marks places moves) ≡ playedOut whole
+  pub play : left ≢ 0 → playing (standing last flows marks places moves) ≡ true
+  pub network : last .network ≡ net
+  pub wet : Positive flows positive
+  pub long : length flows ≡ maxEdges
+  pub sized : Sized net
+  pub room : length (last .journal) ≡ maxMoves
+
+pub run-starts : (b : Board) (positive : ℕ) → playing b ≡ true → Positive (b .flows) positive → length (b .flows) ≡ maxEdges
+    → Sized (b .network) → length (b .journal) ≡ maxMoves
+    → Run b (b .network) b (b .flows) (b .marks) (b .places) (b .moves) positive maxMoves
+unfolding playedOut
+run-starts b positive play wet long sized room =
+    record { run = refl; play = λ n. play; network = refl; wet = wet; long = long; sized = sized; room = room }
+
+module _ (whole : Board) (net : Network) (last : Board) (flows : List ℕ) (marks : ℕ) (places : List ℕ) (moves positive left : ℕ)
+    (r : Run whole net last flows marks places moves positive left) (n : left ≢ 0) where
+  pub run-plays : InPlay net flows marks places
+  run-plays = record { board = standing last flows marks places moves; play = r .play n; its-network = r .network; its-flows = refl; its-marks = refl; its-places = refl; long = r .long; sized = r .sized }
+
+  module _ (made : Made) (a : Makes (stepChange net flows marks places) made) where
+    fol : Follows (standing last flows marks places moves) (made .change)
+    fol = rw (a .changes, ← r .network) (follows (standing last flows marks places moves) (r .play n) (r .long) (rw (r .network) (r .sized .demands)))
+
+    pub run-refused : made .change .answer ≢ 0 → Run whole net last flows marks places moves positive 0
+    unfolding steppedOn
+    run-refused s = record {
+      run = sym (on-stops left (standing last flows marks places moves) (fol .refused s)) ∙ r .run;
+      play = λ z. absurd (z refl);
+      network = r .network;
+      wet = r .wet;
+      long = r .long;
+      sized = r .sized;
+      room = r .room;
+    }
+
+    pub run-made : (new : Board) (left' : ℕ) → made .change .answer ≡ 0 → new ≡ journaled last (set (last .journal) moves (made .change .entry))
+        → left' ≡ leftAfter left (moves + 1) (made .small)
+        → Run whole net new (made .change .flows) (made .change .marks) (made .change .places) (moves + 1) (made .positive) left'
+    unfolding leftAfter steppedOn
+    run-made new left' z e l = rw (e, l) (go (known (both (leb (moves + 1) maxMoves) (made .small))))
+      where
+        c : Change
+        c = made .change
+
+        next : Board
+        next = moved (standing last flows marks places moves) (c .flows) (c .marks) (c .places) (c .entry)
+
+        goes-on : playing next ≡ both (leb (moves + 1) maxMoves) (made .small)
+        goes-on = fol .stays z ∙ rw (a .smalls) refl
+
+        rest : steppedOn (left - 1) next ≡ playedOut whole
+        rest = sym (on-goes left (standing last flows marks places moves) next (omega (arith, n)) (fol .made z)) ∙ r .run
+
+        long : length (c .flows) ≡ maxEdges
+        long = fol .size ∙ r .long
+
+        room : length (set (last .journal) moves (c .entry)) ≡ maxMoves
+        room = length-set (last .journal) moves (c .entry) ∙ r .room
+
+        go : Known (both (leb (moves + 1) maxMoves) (made .small))
+            → Run whole net (journaled last (set (last .journal) moves (c .entry))) (c .flows) (c .marks) (c .places) (moves + 1) (made .positive)
+            (pick (both (leb (moves + 1) maxMoves) (made .small)) (left - 1) 0)
+        go (was-true t) =
+            rw (pick-yes _ (left - 1) 0 t)
+            (record { run = rest; play = λ q. goes-on ∙ t; network = r .network; wet = a .wet; long = long; sized = r .sized; room = room })
+        go (was-false t) = rw (pick-no _ (left - 1) 0 t) (record {
+          run = sym (on-stops (left - 1) next (closed-stops next (goes-on ∙ t))) ∙ rest;
+          play = λ q. absurd (q refl);
+          network = r .network;
+          wet = a .wet;
+          long = long;
+          sized = r .sized;
+          room = room;
+        })

@@ -1,0 +1,82 @@
+use mathlib.Core.Path.{sym}
+use lib.Seq.{length-take-le}
+use Rattle.finishing.proofs.Ready.{ready-small, ready-sound, ready-walks, ready-charted, walk-fits, turn-made, turn-stopped}
+use borrow.Author.Needs.{needs}
+use Rattle.finishing.proofs.turned.Statement.{statement}
+use Rattle.finishing.proofs.turned.Tie as tie
+
+slice-aggregate-all-home : tie.Need-slice-aggregate-all-home
+slice-aggregate-all-home c = search needs
+
+all-home-requires : tie.Need-all-home-requires
+all-home-requires c κs = search needs
+
+stopped-requires : tie.Need-stopped-requires
+stopped-requires c κs =
+    let pre = c .before .before .before .before .before .pre in
+    (pre .1 .1 .1, ready-small _ _ _ _ (pre .0))
+
+returns : tie.Need-returns
+returns c = turn-stopped _ _ _ _ _ _ (c .before .before .all-home .ensures) (c .before .if1 .taken) (c .stopped .ensures)
+
+slice-aggregate-cycle : tie.Need-slice-aggregate-cycle
+slice-aggregate-cycle c = search needs
+
+cycle-requires : tie.Need-cycle-requires
+cycle-requires c κs =
+    let pre = c .before .before .before .before .before .before .before .before .before .before .before .pre in
+    let walks = ready-walks _ _ _ _ (pre .0) in
+    (walks .small, (ready-charted _ _ _ _ (pre .0) _ (pre .1 .1 .1) _ _ (pre .1 .0) (pre .1 .1 .0), walks .source))
+
+cast-count : tie.Need-cast-count
+cast-count c = search needs
+
+array-share-prefix-steps : tie.Need-array-share-prefix-steps
+array-share-prefix-steps c =
+    let at-cycle = c .before .before in
+    let pre = at-cycle .before .before .before .before .before .before .before .before .before .before .before .before .pre in
+    walk-fits _ _ _ _ (pre .0) _ (at-cycle .cycle .ensures)
+
+slice-aggregate-change : tie.Need-slice-aggregate-change
+slice-aggregate-change c =
+    let at-cycle = c .before .before .before in
+    let pre = at-cycle .before .before .before .before .before .before .before .before .before .before .before .before .pre in
+    sym (length-take-le _ _ (walk-fits _ _ _ _ (pre .0) _ (at-cycle .cycle .ensures)))
+
+change-requires : tie.Need-change-requires
+change-requires c κs = λ t. ready-sound _ _ _ _ (c .before .before .before .before .before .before .before .before .before .before .before .before .before .before .before .pre .0)
+
+positive-requires : tie.Need-positive-requires
+positive-requires c κs = search needs
+
+all-small-requires : tie.Need-all-small-requires
+all-small-requires c κs = search needs
+
+returns-2 : tie.Need-returns-2
+returns-2 c =
+    let at-cycle = c .before .before .before .before .before .before .before in
+    let at-if1 = at-cycle .before .before .before .before .before .before .before in
+    let pre = at-if1 .before .before .before .before .before .pre in
+    record {
+      changes = turn-made _ _ _ _ (pre .0) _ (at-cycle .cycle .ensures) _ _ (at-if1 .before .all-home .ensures) (at-if1 .if1 .left) (c .before .before .before .change .ensures);
+      wet = c .before .positive .ensures;
+      smalls = c .all-small .ensures;
+    }
+
+pub turned-spec : {M : Type 1} → statement M
+turned-spec =
+    tie.close
+    (tie.spec
+    slice-aggregate-all-home
+    all-home-requires
+    stopped-requires
+    returns
+    slice-aggregate-cycle
+    cycle-requires
+    cast-count
+    array-share-prefix-steps
+    slice-aggregate-change
+    change-requires
+    positive-requires
+    all-small-requires
+    returns-2)
