@@ -1,31 +1,30 @@
 -- Why a record says its move back: a carry is told from a turn by its kind, and what stands in the record is what the move is made of. The cycle of a board
 -- in play has no more steps than the board has vertices, so that all its bytes have places, and a byte says its step back.
-use mathlib.Core.Path.{_≡_, refl, sym, ap, _∙_}
-use mathlib.Core.Bool.{Bool, true, false}
+use mathlib.Core.Path.{_≡_, refl, ap, _∙_}
+use mathlib.Core.Bool.{true, false}
 use Prim.Native.Nat.{ℕ, _<_, _≤_}
 use native.Mathlib.Omega.{arith}
 use lib.ListN.{length, take, replicate}
-use borrow.Author.Tests.{leb-true, lt-ltb, le-ltb, eq-eqb, ne-eqb}
-use Rattle.lists.specs.Choice.{pick, both}
+use borrow.Author.Tests.{lt-ltb, le-ltb, eq-eqb, ne-eqb}
 use Rattle.lists.specs.Lists.{lowest}
-use Rattle.lists.proofs.Laws.{Known, was-true, was-false, known, pick-yes, pick-no, both-left, both-right}
-use Rattle.board.specs.Limits.{maxVertices, maxEdges}
+use Rattle.lists.proofs.Laws.{Known, was-true, was-false, known, pick-yes, pick-no}
+use Rattle.board.specs.Limits.{maxEdges}
 use Rattle.board.specs.declared.Board.{Board}
-use Rattle.guard.specs.Guard.{intact, playing}
-use Rattle.guard.specs.Parts.{marked, demand, place}
-use Rattle.opening.specs.Opens.{flowFits, enters, isOpen, openEdge, openTerminal, someOpen}
+use Rattle.guard.specs.Guard.{playing}
+use Rattle.opening.specs.Opens.{enters, isOpen, openEdge, hasOpen, openTerminal, someOpen, isOpenAt}
+use Rattle.searching.specs.Search.{hasOpenAt, markedOpenAt, chosenEdgeIn}
 use Rattle.steps.specs.Steps.{stepsOf}
 use Rattle.walking.specs.Walk.{packed, walked}
 use Rattle.walking.specs.declared.Walk.{Walk}
 use Rattle.walking.proofs.Packed.{cycle-walked, cycle-short}
 use Rattle.choosing.specs.declared.Advice.{Advice}
+use Rattle.choosing.proofs.Intact.{playing-vertices}
 use Rattle.choosing.specs.Choosing.{
   relocate,
   augment,
   carryKind,
   turnKind,
   markedOpen,
-  markedFits,
   markedEdge,
   chosenEdge,
   nextCycle,
@@ -43,32 +42,17 @@ pub act-turn : (a : Advice) → (a .kind ≡ carryKind → ⊥) → actOf a ≡ 
 unfolding actOf
 act-turn a h = pick-no _ _ _ (ne-eqb (a .kind) carryKind h)
 
--- over a marked edge the flow of an open carry is the demand, so the search for a marked one need not ask for more
-marked-same : (b : Board) (i e : ℕ) → markedFits (b .network .heads) (b .flows) (b .marks) (place b i) (demand b i) e ≡ markedOpen b i e
-unfolding markedOpen markedFits isOpen enters flowFits both pick
-marked-same b i e = go (known (marked b e))
-  where
-    go : Known (marked b e) → markedFits (b .network .heads) (b .flows) (b .marks) (place b i) (demand b i) e ≡ markedOpen b i e
-    go (was-true t) = rw t
-    go (was-false t) = rw t
+-- the carry found over the parts of a board is the board's
+pub terminal-found : (b : Board)
+    → lowest (hasOpenAt (b .network .heads) (b .network .demands) (b .network .edges) (b .flows) (b .marks) (b .places)) 0 (b .network .terminals)
+    ≡ openTerminal b
+unfolding hasOpenAt isOpenAt isOpen enters openEdge hasOpen openTerminal
+terminal-found b = refl
 
-marked-found : (b : Board) (i : ℕ) → lowest (markedFits (b .network .heads) (b .flows) (b .marks) (place b i) (demand b i)) 0 (b .network .edges) ≡ markedEdge b i
-unfolding markedEdge
-marked-found b i = ap (λ (p : ℕ → Bool). lowest p 0 (b .network .edges)) (λ k e. marked-same b i e k)
-
--- the edge of a carry, by whether a marked one is open
-module _ (b : Board) (i v d e : ℕ) (hv : v ≡ place b i) (hd : d ≡ demand b i)
-    (h : e ≡ lowest (markedFits (b .network .heads) (b .flows) (b .marks) v d) 0 (b .network .edges)) where
-  found : e ≡ markedEdge b i
-  found = h ∙ rw (hv, hd) (marked-found b i)
-
-  pub chosen-marked : e < b .network .edges → e ≡ chosenEdge b i
-  unfolding chosenEdge
-  chosen-marked below = rw (← found) (sym (pick-yes _ _ _ (lt-ltb e (b .network .edges) below)))
-
-  pub chosen-other : b .network .edges ≤ e → openEdge b i ≡ chosenEdge b i
-  unfolding chosenEdge
-  chosen-other above = rw (← found) (sym (pick-no _ _ _ (le-ltb e (b .network .edges) above)))
+pub edge-found : (b : Board) (i : ℕ)
+    → chosenEdgeIn (b .network .heads) (b .network .demands) (b .network .edges) (b .flows) (b .marks) (b .places) i ≡ chosenEdge b i
+unfolding chosenEdgeIn markedOpenAt isOpenAt isOpen enters openEdge chosenEdge markedEdge markedOpen
+edge-found b i = refl
 
 -- the next move, by whether a carry is open
 pub next-carry : (b : Board) → someOpen b ≡ true → nextAct b ≡ relocate (openTerminal b) (chosenEdge b (openTerminal b))
@@ -94,13 +78,6 @@ module _ (b : Board) (i : ℕ) (hi : i ≡ openTerminal b) where
   makes-turn w above hw =
       let none : someOpen b ≡ false = rw (← hi) (le-ltb i (b .network .terminals) above) in
       rw (next-turn b none, hw)
-
--- a board in play has few vertices
-pub playing-vertices : (b : Board) → playing b ≡ true → b .network .vertices ≤ maxEdges
-unfolding playing intact
-playing-vertices b play =
-    let few : b .network .vertices ≤ maxVertices = leb-true _ _ (both-right _ _ (both-left _ _ (both-left _ _ (both-right _ _ play)))) in
-    omega arith
 
 module _ (b : Board) (play : playing b ≡ true) where
   cycle-held : length (b .flows) ≡ maxEdges → walked (packed (nextCycle b)) ≡ nextCycle b

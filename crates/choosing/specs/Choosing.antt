@@ -3,10 +3,9 @@ use mathlib.Core.Bool.{Bool}
 use mathlib.Core.List.{List}
 use Prim.Native.Nat.{ℕ}
 use lib.Dec.{ltb, eqb}
-use lib.ListN.{getD, take, replicate}
+use lib.ListN.{take, replicate}
 use Rattle.lists.specs.Choice.{pick, both}
 use Rattle.lists.specs.Lists.{all, lowest}
-use Rattle.sets.specs.Sets.{hasBit}
 use Rattle.board.specs.Limits.{maxEdges}
 use Rattle.board.specs.declared.Board.{Board}
 use Rattle.guard.specs.Parts.{marked, place}
@@ -28,10 +27,6 @@ allHome b = all (isHome b) 0 (b .network .terminals)
 -- "of its open carries, marked channels first, then lowest channel"
 unfoldable pub markedOpen : Board → ℕ → ℕ → Bool
 markedOpen b i e = both (marked b e) (isOpen b i e)
-
--- the same of the parts of a board, at the place and the demand of a terminal: over a marked channel "flow equal to the need"
-unfoldable pub markedFits : List ℕ → List ℕ → ℕ → ℕ → ℕ → ℕ → Bool
-markedFits heads flows marks place demand e = both (hasBit marks e) (both (eqb (getD heads e 0) place) (eqb (getD flows e 0) demand))
 
 unfoldable pub markedEdge : Board → ℕ → ℕ
 markedEdge b i = lowest (markedOpen b i) 0 (b .network .edges)

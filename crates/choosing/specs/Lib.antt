@@ -1,1 +1,2 @@
 pub mod Choosing
+pub mod Parts

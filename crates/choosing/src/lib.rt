@@ -1,15 +1,19 @@
 // The move that the solver makes next.
 use board::Board;
 use board::EdgeSet;
+use board::Network;
+use searching::Found;
 use walking::Walk;
 ghost use mathlib.Core.Path.{_≡_};
 ghost use mathlib.Core.Bool.{true};
-ghost use Prim.Native.Nat.{_≤_};
+ghost use Prim.Native.Nat.{_≤_, _<_};
 ghost use Rattle.lists.specs.Lists.{lowest};
 ghost use Rattle.board.specs.Limits.{maxEdges};
 ghost use Rattle.guard.specs.Guard.{playing};
-ghost use Rattle.walking.specs.Walk.{packed};
-ghost use Rattle.choosing.specs.Choosing.{allHome, markedFits, chosenEdge, judge, nextCycle, nextAct, noAdvice, adviceOf, actOf};
+ghost use Rattle.searching.specs.Search.{hasOpenAt, chosenEdgeIn};
+ghost use Rattle.walking.specs.Walk.{cycleOf, packed};
+ghost use Rattle.choosing.specs.Parts.{Searchable, Walkable};
+ghost use Rattle.choosing.specs.Choosing.{allHome, judge, nextAct, noAdvice, adviceOf, actOf};
 
 // A move to make: its kind, and its parts. What a kind does not need is 0.
 pub struct Advice {
@@ -59,76 +63,51 @@ pub fn all_home(board: Board) -> bool
     true
 }
 
-// Whether edge e is marked, enters this vertex and has just this flow: a carry over a marked edge is open where its flow equals the demand.
-fn marked_fits<'a>(
-    heads: &'a [u32],
-    flows: &'a [u32],
+// The lowest terminal with an open carry, and the edge to carry it over.
+fn next_carry(
+    net: Network,
+    flows: [u32; Board::MAX_EDGES],
     marks: EdgeSet,
-    place: u32,
-    demand: u32,
-    e: usize,
-) -> bool
-    ensures { λ r. ⌜ r ≡ markedFits (now (heads .entry)) (now (flows .entry)) marks place demand e ⌝ }
+    places: [u32; Board::MAX_TERMINALS],
+) -> Found
+    requires { ⌜ Searchable net flows places ⌝ }
+    ensures { λ r. ⌜ r .terminal ≡ lowest (hasOpenAt (net .heads) (net .demands) (net .edges) flows marks places) 0 (net .terminals) ⌝ }
+    ensures { λ r. ⌜ (r .terminal < net .terminals → r .edge
+        ≡ chosenEdgeIn (net .heads) (net .demands) (net .edges) flows marks places (r .terminal)) ⌝ }
 {
-    let mark = sets::has(marks, e);
-    let head = lists::word_at(heads, e);
-    let flow = lists::word_at(flows, e);
-    let fitting = lists::and(head == place, flow == demand);
-    lists::and(mark, fitting)
-}
-
-// The lowest such edge, or the count of edges.
-fn marked_edge<'a>(
-    heads: &'a [u32],
-    flows: &'a [u32],
-    marks: EdgeSet,
-    place: u32,
-    demand: u32,
-    edges: u32,
-) -> u32
-    ensures { λ r. ⌜ r ≡ lowest (markedFits (now (heads .entry)) (now (flows .entry)) marks place demand) 0 edges ⌝ }
-{
-    let mut e: u32 = 0;
-    while e < edges {
-        if marked_fits(heads, flows, marks, place, demand, e as usize) {
-            return e;
-        }
-        e += 1;
-    }
-    e
-}
-
-// Of the edges of the open carries of terminal i, the marked first, then the lowest.
-fn chosen_edge(board: Board, i: u32) -> u32
-    ensures { λ r. ⌜ r ≡ chosenEdge board i ⌝ }
-{
-    let net = board.network;
-    let place = lists::word_at(&board.places, i as usize);
-    let demand = lists::word_at(&net.demands, i as usize);
-    let edge = marked_edge(
-        &net.heads,
-        &board.flows,
-        board.marks,
-        place,
-        demand,
+    let heads = net.heads;
+    let entering = incidence::at_vertices(heads);
+    let positive = incidence::positive(flows);
+    searching::open_carry(
+        &heads,
+        &entering,
+        &net.demands,
+        net.terminals,
         net.edges,
-    );
-    if edge < net.edges {
-        return edge;
-    }
-    opening::open_edge(board, i)
+        &flows,
+        positive,
+        marks,
+        &places,
+    )
 }
 
 // The cycle to turn.
-fn next_cycle(board: Board) -> Walk
-    requires { ⌜ playing board ≡ true ⌝ }
-    ensures { λ r. ⌜ r ≡ packed (nextCycle board) ⌝ }
+fn next_cycle(net: Network, flows: [u32; Board::MAX_EDGES]) -> Walk
+    requires { ⌜ Walkable net ⌝ }
+    ensures { λ r. ⌜ r ≡ packed (cycleOf (net .tails) (net .heads) flows (net .vertices) (net .source)) ⌝ }
 {
-    let net = board.network;
+    let tails = net.tails;
+    let heads = net.heads;
+    let leaving = incidence::at_vertices(tails);
+    let entering = incidence::at_vertices(heads);
+    let positive = incidence::positive(flows);
     walking::cycle(
-        &net.tails,
-        &net.heads,
-        &board.flows,
+        &tails,
+        &heads,
+        &leaving,
+        &entering,
+        positive,
+        &flows,
         net.vertices,
         net.source,
     )
@@ -140,18 +119,19 @@ pub fn next(board: Board) -> Advice
     ensures { λ r. ⌜ r ≡ adviceOf (nextAct board) ⌝ }
 {
     let net = board.network;
-    let terminal = opening::open_terminal(board);
-    if terminal < net.terminals {
-        let edge = chosen_edge(board, terminal);
+    let flows = board.flows;
+    let places = board.places;
+    let found = next_carry(net, flows, board.marks, places);
+    if found.terminal < net.terminals {
         return Advice {
             kind: Advice::CARRY,
-            terminal: terminal,
-            edge: edge,
+            terminal: found.terminal,
+            edge: found.edge,
             count: 0,
             steps: [0; Board::MAX_EDGES],
         };
     }
-    let walk = next_cycle(board);
+    let walk = next_cycle(net, flows);
     let steps = walk.steps;
     Advice {
         kind: Advice::TURN,

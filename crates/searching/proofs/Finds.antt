@@ -4,18 +4,17 @@ use mathlib.Core.Path.{_≡_, refl, sym, ap, _∙_}
 use mathlib.Core.Bool.{Bool, true, false, true≢false}
 use mathlib.Core.List.{List}
 use mathlib.Core.Logic.{_⊎_, inl, inr}
-use Prim.Native.Nat.{ℕ, _+_, _<_, _≤_, _^_}
+use Prim.Native.Nat.{ℕ, _<_, _≤_, _^_}
 use native.Mathlib.Omega.{arith}
-use lib.Dec.{ltb, leb, eqb}
-use lib.ListN.{length, getD}
-use borrow.Author.Tests.{lt-ltb, le-ltb, ltb-true, ltb-false, eqb-true, leb-true, ne-eqb, lt-leb}
+use lib.Dec.{ltb, eqb}
+use lib.ListN.{getD}
+use borrow.Author.Tests.{lt-ltb, le-ltb, eqb-true, leb-true}
 use Rattle.lists.specs.Choice.{pick, both}
 use Rattle.lists.specs.Lists.{lowest}
-use Rattle.lists.proofs.Laws.{Known, was-true, was-false, known, lt-or-ge, pick-yes, pick-no, both-left, both-right, both-true}
-use Rattle.lists.proofs.Lowest.{Least, lowest-least, lowest-found}
+use Rattle.lists.proofs.Laws.{Known, was-true, was-false, known, lt-or-ge, pick-yes, pick-no, both-right}
+use Rattle.lists.proofs.Lowest.{lowest-least, lowest-found}
 use Rattle.sets.specs.Sets.{setWidth, hasBit, common, dropped}
 use Rattle.sets.proofs.Scan.{has-common, lowest-is, lowest-has, scan-hit, scan-miss, scan-end}
-use Rattle.board.specs.Limits.{maxVertices, maxEdges}
 use Rattle.singular.specs.Singular.{leaves}
 use Rattle.incidence.specs.Incidence.{touchingAt}
 use Rattle.incidence.proofs.Meeting.{touching-is}

@@ -1,4 +1,3 @@
-use mathlib.Core.Path.{_∙_}
 use borrow.Author.Needs.{needs}
 use Rattle.walking.proofs.another.Statement.{statement}
 use Rattle.walking.proofs.another.Tie as tie
