@@ -29,6 +29,10 @@ cycle-made tails heads flows n m v from count s w r same p f e =
     let k : from + count - from ≡ count = omega arith in rw (k, ← p, same) f in
     e ∙ rw part
 
+-- a set of as many vertices
+pub sized : (from to flows : List ℕ) (k n v : ℕ) (s : List Bool) → k ≡ n → s ≡ reached from to flows n v → s ≡ reached from to flows k v
+sized from to flows k n v s e h = rw e h
+
 -- rounds of cancelling
 module _ (tails heads : List ℕ) (n m r : ℕ) (flows : List ℕ) (v : ℕ) (at : v ≡ cycleVertex tails heads n flows) where
   pub round-turn : (k : ℕ) (next : List ℕ) → k ≡ n → next ≡ lowerCycle flows (cycleFrom tails heads k flows v) → r < m → v < n

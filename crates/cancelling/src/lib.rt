@@ -1,30 +1,36 @@
-// Cycle cancelling, over plain slices: edge e goes from tails[e] to heads[e], and a set of vertices has a bool for each.
+// Cycle cancelling, over plain slices: edge e goes from tails[e] to heads[e], and a set of vertices has a bool for each, a row a bit.
 ghost use mathlib.Core.Path.{_≡_};
+ghost use Prim.Native.Nat.{_≤_};
 ghost use lib.ListN.{length};
+ghost use Rattle.sets.specs.Sets.{setWidth};
+ghost use Rattle.graph.specs.Graph.{reached};
+ghost use Rattle.graph.specs.Rows.{column};
 ghost use Rattle.cycles.specs.Cycles.{cycleFrom};
 ghost use Rattle.lowering.specs.Lowering.{lowerCycle};
 ghost use Rattle.cancelling.specs.Cancelling.{acyclicFlows};
 
-// Cancels the cycle that the walk from v finds. The set and the walk are for its use.
+// Cancels the cycle that the walk from v finds: the rows have the vertices that each vertex reaches. The set and the walk are for its use.
 fn cancel_from<'a>(
     tails: &'a [u32],
     heads: &'a [u32],
     flows: &mut [u32],
     v: u32,
+    rows: &'a [u64],
     seen: &mut [bool],
     walk: &mut [usize],
 )
-    requires { ⌜ length (now seen) ≡ length (now walk) ⌝ }
+    requires { ⌜ (length (now seen) ≡ length (now walk)) × (length (now seen) ≡ length (now rows)) ⌝ }
+    requires { ⌜ column (now rows) v ≡ reached (now heads) (now tails) (now flows) (length (now seen)) v ⌝ }
     ensures { λ _. ⌜ now (flows .exit) ≡ lowerCycle (now (flows .entry)) (cycleFrom (now (tails .entry)) (now (heads .entry)) (length (now (seen .entry))) (now (flows .entry)) v) ⌝ }
 {
-    graph::reach(heads, tails, &*flows, v, seen);
+    graph::column(rows, v, seen);
     let span = cycles::follow(tails, heads, &*flows, &*seen, v, walk);
     let from = span.from;
     let to = span.from + span.count;
     lowering::lower_cycle(flows, &walk[from..to]);
 }
 
-// Cancels every cycle, the lowest vertex on one first. The set and the walk are for its use.
+// Cancels every cycle, the lowest vertex on one first. The set, the walk and the rows are for its use.
 pub fn cancel<'a>(
     tails: &'a [u32],
     heads: &'a [u32],
@@ -32,17 +38,18 @@ pub fn cancel<'a>(
     n: u32,
     seen: &mut [bool],
     walk: &mut [usize],
+    rows: &mut [u64],
 )
-    requires { ⌜ (n ≡ length (now seen)) × (n ≡ length (now walk)) ⌝ }
+    requires { ⌜ (n ≡ length (now seen)) × (n ≡ length (now walk)) × (n ≡ length (now rows)) × (n ≤ setWidth) ⌝ }
     ensures { λ _. ⌜ now (flows .exit) ≡ acyclicFlows (now (tails .entry)) (now (heads .entry)) n (now (flows .entry)) ⌝ }
 {
     let mut round: usize = 0;
     while round < flows.len() {
-        let v = cycles::cycle_vertex(tails, heads, &*flows, n, seen);
+        let v = cycles::cycle_vertex(tails, heads, &*flows, n, rows);
         if n <= v {
             return;
         }
-        cancel_from(tails, heads, flows, v, seen, walk);
+        cancel_from(tails, heads, flows, v, &*rows, seen, walk);
         round += 1;
     }
 }

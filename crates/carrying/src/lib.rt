@@ -1,93 +1,174 @@
 // The call `carry`.
 use board::Board;
+use board::EdgeSet;
 use board::Entry;
 use board::Move;
+use board::Network;
 use board::Played;
 use board::Relocation;
+use journal::Change;
 ghost use mathlib.Core.Path.{_≡_};
-ghost use Prim.Native.Nat.{_≤_};
-ghost use lib.Dec.{eqb};
-ghost use Rattle.board.specs.Limits.{maxMoves};
-ghost use Rattle.guard.specs.Parts.{place};
-ghost use Rattle.carrying.specs.Carries.{onBoard, carryRefusal, carried, carryCall};
+ghost use Rattle.journal.specs.Moved.{unchanged};
+ghost use Rattle.opening.specs.Opens.{flowFits};
+ghost use Rattle.carrying.specs.Carries.{carryRefusal, carryCall, carryRefusalIn, carriedIn, carryChange};
 
-// Whether the board has the terminal and the edge.
-fn on_board(board: Board, i: u32, e: u32) -> bool
-    ensures { λ r. ⌜ r ≡ onBoard board i e ⌝ }
+// Whether the flow of an edge allows a carry of that demand.
+fn flow_fits(mark: bool, flow: u32, demand: u32) -> bool
+    ensures { λ r. ⌜ r ≡ flowFits mark flow demand ⌝ }
 {
-    let net = board.network;
-    lists::and(i < net.terminals, e < net.edges)
-}
-
-// Whether terminal i is at the source.
-pub fn is_home(board: Board, i: u32) -> bool
-    ensures { λ r. ⌜ r ≡ eqb (place board i) (board .network .source) ⌝ }
-{
-    let net = board.network;
-    let place = lists::word_at(&board.places, i as usize);
-    place == net.source
+    if mark { flow == demand } else { demand <= flow }
 }
 
 // 20, 6, 21, 22 or 23, in this order; 0 where the carry is accepted.
-pub fn carry_refusal(board: Board, i: u32, e: u32) -> u32
-    ensures { λ r. ⌜ r ≡ carryRefusal board i e ⌝ }
+fn refusal(
+    in_play: bool,
+    net: Network,
+    flows: [u32; Board::MAX_EDGES],
+    marks: EdgeSet,
+    places: [u32; Board::MAX_TERMINALS],
+    i: u32,
+    e: u32,
+) -> u32
+    ensures { λ r. ⌜ r ≡ carryRefusalIn «in_play» net flows marks places i e ⌝ }
 {
-    if !guard::playing(board) {
+    if !in_play {
         return 20;
     }
-    if !on_board(board, i, e) {
+    let on_board = lists::and(i < net.terminals, e < net.edges);
+    if !on_board {
         return 6;
     }
-    if is_home(board, i) {
+    let place = lists::word_at(&places, i as usize);
+    if place == net.source {
         return 21;
     }
-    if !opening::enters(board, i, e) {
+    let head = lists::word_at(&net.heads, e as usize);
+    if head != place {
         return 22;
     }
-    if !opening::fits(board, i, e) {
+    let mark = sets::has(marks, e as usize);
+    let flow = lists::word_at(&flows, e as usize);
+    let demand = lists::word_at(&net.demands, i as usize);
+    if !flow_fits(mark, flow, demand) {
         return 23;
     }
     0
 }
 
-// The board after an accepted carry.
-fn carried(board: Board, i: u32, e: u32) -> Board
-    requires { ⌜ board .moves ≤ maxMoves ⌝ }
-    ensures { λ r. ⌜ r ≡ carried board i e ⌝ }
+// What a refused carry changes: nothing.
+fn refused(
+    number: u32,
+    flows: [u32; Board::MAX_EDGES],
+    marks: EdgeSet,
+    places: [u32; Board::MAX_TERMINALS],
+) -> Change
+    ensures { λ r. ⌜ r ≡ unchanged number flows marks places ⌝ }
 {
-    let net = board.network;
-    let flow = lists::word_at(&board.flows, e as usize);
+    let entry = Entry::blank();
+    Change {
+        answer: number,
+        flows: flows,
+        marks: marks,
+        places: places,
+        entry: entry,
+    }
+}
+
+// What an accepted carry changes.
+fn carried(
+    net: Network,
+    flows: [u32; Board::MAX_EDGES],
+    marks: EdgeSet,
+    places: [u32; Board::MAX_TERMINALS],
+    i: u32,
+    e: u32,
+) -> Change
+    ensures { λ r. ⌜ r ≡ carriedIn net flows marks places i e ⌝ }
+{
+    let flow = lists::word_at(&flows, e as usize);
     let demand = lists::word_at(&net.demands, i as usize);
     let tail = lists::word_at(&net.tails, e as usize);
     let rest = lists::minus(flow, demand);
-    let old_flows = board.flows;
-    let flows = journal::put_flow(old_flows, e as usize, rest);
-    let old_places = board.places;
-    let places = journal::put_place(old_places, i as usize, tail);
+    let new_flows = journal::put_flow(flows, e as usize, rest);
+    let new_places = journal::put_place(places, i as usize, tail);
     let entry = Entry {
         step: Move::Carry(Relocation {
             terminal: i,
             edge: e,
         }),
     };
-    let marks = board.marks;
-    journal::moved(board, flows, marks, places, entry)
+    Change {
+        answer: 0,
+        flows: new_flows,
+        marks: marks,
+        places: new_places,
+        entry: entry,
+    }
+}
+
+// What a carry of terminal i over edge e would change, on a board with these parts.
+pub fn change(
+    in_play: bool,
+    net: Network,
+    flows: [u32; Board::MAX_EDGES],
+    marks: EdgeSet,
+    places: [u32; Board::MAX_TERMINALS],
+    i: u32,
+    e: u32,
+) -> Change
+    ensures { λ r. ⌜ r ≡ carryChange «in_play» net flows marks places i e ⌝ }
+{
+    let number = refusal(in_play, net, flows, marks, places, i, e);
+    if number != 0 {
+        return refused(number, flows, marks, places);
+    }
+    carried(net, flows, marks, places, i, e)
+}
+
+// 20, 6, 21, 22 or 23, in this order; 0 where the carry is accepted.
+pub fn carry_refusal(board: Board, i: u32, e: u32) -> u32
+    ensures { λ r. ⌜ r ≡ carryRefusal board i e ⌝ }
+{
+    let net = board.network;
+    let flows = board.flows;
+    let places = board.places;
+    let in_play = guard::playing(board);
+    refusal(in_play, net, flows, board.marks, places, i, e)
 }
 
 // Relocates terminal i over edge e, to its tail.
 pub fn carry(board: Board, i: u32, e: u32) -> Played
     ensures { λ r. ⌜ r ≡ carryCall board i e ⌝ }
 {
-    let number = carry_refusal(board, i, e);
-    if number != 0 {
-        return Played {
-            answer: number,
-            board: board,
-        };
+    let mut next = board;
+    let net = next.network;
+    let acyclic = next.acyclic;
+    let flows = next.flows;
+    let places = next.places;
+    let k = lists::minus(next.moves, 1) as usize;
+    let mut last = Entry::blank();
+    if k < Board::JOURNAL {
+        last = next.journal[k];
     }
-    let next = carried(board, i, e);
+    let step = last.step;
+    let fits = guard::intact_in(net, acyclic, flows, places, next.moves, step);
+    let in_play = lists::and(next.stage == Board::PLAY, fits);
+    let c = change(in_play, net, flows, next.marks, places, i, e);
+    if c.answer == 0 {
+        let new_flows = c.flows;
+        let new_places = c.places;
+        let entry = c.entry;
+        let m = next.moves as usize;
+        next.flows = new_flows;
+        next.marks = c.marks;
+        next.places = new_places;
+        next.moves = next.moves + 1;
+        if m < Board::JOURNAL {
+            next.journal[m] = entry;
+        }
+    }
     Played {
-        answer: 0,
+        answer: c.answer,
         board: next,
     }
 }

@@ -10,22 +10,12 @@ use lib.Dec.{ltb}
 use lib.ListN.{length, getD, set, take, drop, length-drop, length-set, drop-of-length-le}
 use lib.Seq.{drop-cons, take-all}
 use borrow.Author.Tests.{eq-eqb, ne-eqb, lt-ltb, le-ltb}
-use Rattle.graph.specs.Graph.{reached, onward}
-use Rattle.cycles.specs.Cycles.{onCycle, since, follow}
+use Rattle.graph.specs.Graph.{onward}
+use Rattle.cycles.specs.Cycles.{since, follow}
 
 -- the rest of a slice, as it arrives from `&s[a..]`
 pub rest : {A : Type 0} (s : List A) (a : ℕ) → take (length s - a) (drop a s) ≡ drop a s
 rest s a = take-all (length s - a) (drop a s) (omega (arith, length-drop a s))
-
--- the parts of `onCycle`, one call after the other
-pub on-cycle-made : (tails heads flows : List ℕ) (n v e : ℕ) (s : List Bool) → s ≡ reached heads tails flows n v → e ≡ onward tails heads flows s v
-    → ltb e (length flows) ≡ onCycle tails heads n flows v
-unfolding onCycle
-on-cycle-made tails heads flows n v e s p q = rw (q, p)
-
-pub on-cycle-says : (tails heads flows : List ℕ) (n k v : ℕ) (r b : Bool) → k ≡ n → r ≡ onCycle tails heads k flows v → r ≡ b
-    → onCycle tails heads n flows v ≡ b
-on-cycle-says tails heads flows n k v r b e p q = rw (← e) (sym p ∙ q)
 
 -- a search in a walk that has passed i edges
 module _ (tails : List ℕ) (v : ℕ) (w : List ℕ) (i total : ℕ) (inv : i + since tails v (drop i w) ≡ total) where

@@ -1,9 +1,15 @@
-// Cycles of positive edges, over plain slices: edge e goes from tails[e] to heads[e], and a set of vertices has a bool for each.
+// Cycles of positive edges, over plain slices: edge e goes from tails[e] to heads[e], and a set of vertices has a bool for each, a row a bit.
 ghost use mathlib.Core.Path.{_≡_};
+ghost use mathlib.Core.Bool.{true};
 ghost use mathlib.Core.List.{[]};
-ghost use Prim.Native.Nat.{_+_, _≤_};
+ghost use Prim.Native.Nat.{ℕ, _+_, _≤_, _<_};
+ghost use lib.Dec.{ltb};
 ghost use lib.ListN.{length, take, drop};
-ghost use Rattle.cycles.specs.Cycles.{since, follow, onCycle, cycleVertex};
+ghost use Rattle.lists.specs.Choice.{pick};
+ghost use Rattle.sets.specs.Sets.{setWidth, hasBit, withBit};
+ghost use Rattle.graph.specs.Graph.{reached, onward};
+ghost use Rattle.graph.specs.Rows.{column};
+ghost use Rattle.cycles.specs.Cycles.{since, follow, cycleVertex};
 
 // A part of a slice: where it starts, and how long it is.
 pub struct Span {
@@ -11,39 +17,47 @@ pub struct Span {
     pub count: usize,
 }
 
-// Whether v is on a cycle of positive edges. The set is for its use.
-fn on_cycle<'a>(
-    tails: &'a [u32],
-    heads: &'a [u32],
-    flows: &'a [u32],
-    v: u32,
-    seen: &mut [bool],
-) -> bool
-    ensures { λ r. ⌜ r ≡ onCycle (now (tails .entry)) (now (heads .entry)) (length (now (seen .entry))) (now (flows .entry)) v ⌝ }
+// The set, with v where it is to join.
+fn with_vertex(m: u64, joins: bool, v: usize) -> u64
+    requires { ⌜ (joins ≡ true → v < setWidth) ⌝ }
+    ensures { λ r. ⌜ r ≡ pick joins (withBit m v) m ⌝ }
 {
-    graph::reach(heads, tails, flows, v, seen);
-    graph::onward(tails, heads, flows, &*seen, v) < flows.len()
+    if joins { sets::with(m, true, v) } else { m }
 }
 
-// The lowest vertex on a cycle of positive edges, or the count of vertices.
+// The set of the vertices that a positive edge leaves from whose head they can be reached: the head's row has them.
+fn on_cycles<'a>(tails: &'a [u32], heads: &'a [u32], flows: &'a [u32], rows: &'a [u64]) -> u64
+    ensures { λ r. ⌜ ((v : ℕ) → hasBit r v ≡ ltb (onward (now (tails .entry)) (now (heads .entry)) (now (flows .entry)) (column (now (rows .entry)) v) v) (length (now (flows .entry)))) ⌝ }
+{
+    let mut m: u64 = 0;
+    let mut e: usize = 0;
+    while e < flows.len() {
+        let tail = lists::word_at(tails, e) as usize;
+        let head = lists::word_at(heads, e) as usize;
+        let row = graph::row_at(rows, head);
+        let back = lists::and(0 < flows[e], sets::has(row, tail));
+        m = with_vertex(m, back, tail);
+        e += 1;
+    }
+    m
+}
+
+// The lowest vertex on a cycle of positive edges, or the count of vertices. The rows are left as the vertices that each vertex reaches.
 pub fn cycle_vertex<'a>(
     tails: &'a [u32],
     heads: &'a [u32],
     flows: &'a [u32],
     n: u32,
-    seen: &mut [bool],
+    rows: &mut [u64],
 ) -> u32
-    requires { ⌜ n ≡ length (now seen) ⌝ }
+    requires { ⌜ (n ≡ length (now rows)) × (n ≤ setWidth) ⌝ }
     ensures { λ r. ⌜ r ≡ cycleVertex (now (tails .entry)) (now (heads .entry)) n (now (flows .entry)) ⌝ }
+    ensures { λ _. ⌜ ((v : ℕ) → v < n → column (now (rows .exit)) v ≡ reached (now (heads .entry)) (now (tails .entry)) (now (flows .entry)) n v) ⌝ }
 {
-    let mut v: u32 = 0;
-    while v < n {
-        if on_cycle(tails, heads, flows, v, seen) {
-            return v;
-        }
-        v += 1;
-    }
-    v
+    graph::reach(heads, tails, flows, rows);
+    let on = on_cycles(tails, heads, flows, &*rows);
+    let v = sets::lowest(on);
+    if v < n { v } else { n }
 }
 
 // How many edges of a walk, the latest first, come before the one that left v.

@@ -38,11 +38,11 @@ module _ (b : Board) where
   unfolding stepped
   stepped-home h = sym (pick-yes _ _ _ h)
 
-  away : allHome b ≡ false → call b (nextAct b) ≡ stepped b
+  pub away : allHome b ≡ false → call b (nextAct b) ≡ stepped b
   unfolding stepped
   away h = sym (pick-no _ _ _ h)
 
-  not-playing : (x : Act) → playing b ≡ false → judge b x ≡ 20
+  pub not-playing : (x : Act) → playing b ≡ false → judge b x ≡ 20
   unfolding carryRefusal turnRefusal
   not-playing (relocate i e) p = pick-no _ _ _ p
   not-playing (augment w) p = pick-no _ _ _ p

@@ -1,12 +1,11 @@
 -- The laws that the loops cite: what is left of a run, before and after one turn, each in the code's own shape.
-use mathlib.Core.Path.{_≡_, refl, sym, ap, _∙_}
+use mathlib.Core.Path.{_≡_, refl, _∙_}
 use mathlib.Core.Bool.{Bool, true, false}
-use mathlib.Core.List.{List, [], _∷_, _++_}
+use mathlib.Core.List.{List}
 use Prim.Native.Nat.{ℕ, zero, suc, _+_, _-_, _<_, _≤_}
 use native.Mathlib.Numerals.{add-one}
 use native.Mathlib.Omega.{arith}
-use lib.ListN.{length, getD, set, drop, replicate, length-replicate, length-set}
-use lib.Seq.{set-getD}
+use lib.ListN.{length, getD, set, replicate}
 use Rattle.lists.specs.Choice.{pick}
 use Rattle.graph.specs.Graph.{opens, pass, passes, reached}
 
@@ -15,23 +14,6 @@ step n i h = omega arith
 
 none : (n i : ℕ) → n ≤ i → n - i ≡ 0
 none n i h = omega arith
-
--- filling a list from its front
-pub fill-more : {A : Type 0} (n : ℕ) (v : A) (d : List A) → n < length d → set (replicate n v ++ drop n d) n v ≡ replicate (n + 1) v ++ drop (n + 1) d
-fill-more n v d h = rw (add-one n) (go n d h)
-  where
-    go : (n : ℕ) (d : List _) → n < length d → set (replicate n v ++ drop n d) n v ≡ replicate (suc n) v ++ drop (suc n) d
-    go n [] l = absurd (omega arith)
-    go zero (x ∷ d) l = refl
-    go (suc n) (x ∷ d) l = ap (λ (t : List _). v ∷ t) (go n d (omega arith))
-
-pub filled : {A : Type 0} (d : List A) (v : A) → replicate (length d) v ++ drop (length d) d ≡ replicate (length d) v
-filled [] v = refl
-filled (x ∷ d) v = ap (λ (t : List _). v ∷ t) (filled d v)
-
--- a vertex that is in a set joins it
-pub joined : (s : List Bool) (v : ℕ) → getD s v false ≡ true → set s v true ≡ s
-joined s v h = ap (λ (b : Bool). set s v b) (sym h) ∙ set-getD s v false
 
 -- passes over the edges
 module _ (from to flows : List ℕ) where
@@ -59,10 +41,7 @@ module _ (from to flows : List ℕ) where
   passes-still (suc k) s e = rw e (passes-still k s e)
 
 -- the parts of `reached`, one call after the other
-pub reach-made : (from to flows : List ℕ) (n v : ℕ) (none one r : List Bool) → none ≡ replicate n false → one ≡ set none v true
-    → r ≡ passes from to flows (length one) one → r ≡ reached from to flows n v
+pub reach-made : (from to flows : List ℕ) (n m v : ℕ) (one r : List Bool) → one ≡ set (replicate n false) v true → m ≡ n
+    → r ≡ passes from to flows m one → r ≡ reached from to flows n v
 unfolding reached
-reach-made from to flows n v none one r p q e =
-    let only : one ≡ set (replicate n false) v true = q ∙ ap (λ (s : List Bool). set s v true) p in
-    let long : length one ≡ n = ap length only ∙ length-set (replicate n false) v true ∙ length-replicate n false in
-    e ∙ rw (long, only)
+reach-made from to flows n m v one r p q e = e ∙ rw (q, p)

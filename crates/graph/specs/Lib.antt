@@ -1,1 +1,2 @@
 pub mod Graph
+pub mod Rows

@@ -8,7 +8,7 @@ ghost use mathlib.Core.List.{[], _∷_, _++_};
 ghost use Prim.Native.Nat.{_≤_, _<_};
 ghost use lib.ListN.{length, drop};
 ghost use Rattle.board.specs.Limits.{maxEdges, maxTerminals};
-ghost use Rattle.text.specs.Text.{between, edgeRanges, terminalRanges, withEdges, withTerminals, edgeLines, terminalLines};
+ghost use Rattle.text.specs.Text.{between, edgeRanges, terminalRanges, edgeLines, terminalLines};
 ghost use Rattle.text.specs.Views.{partRead};
 
 // The ranges of `C,tail,head,flow`.
@@ -23,18 +23,6 @@ fn edge_ranges(vertices: u32) -> [Range; 4]
     };
     let none = Range { low: 0, high: 0 };
     [vertex, vertex, flow, none]
-}
-
-// The network with one edge more.
-fn with_edge(net: Network, i: usize, values: [u32; 4]) -> Network
-    requires { ⌜ i < maxEdges ⌝ }
-    ensures { λ r. ⌜ r ≡ withEdges net i (values ∷ []) ⌝ }
-{
-    let mut next = net;
-    next.tails[i] = values[0];
-    next.heads[i] = values[1];
-    next.flows[i] = values[2];
-    next
 }
 
 // The edge lines, from `start` on.
@@ -54,7 +42,9 @@ pub fn edge_lines(s: &[u8], start: usize, net: Network) -> Part
             return Part::refused(l.answer);
         }
         let values = l.values;
-        out = with_edge(out, i, values);
+        out.tails[i] = values[0];
+        out.heads[i] = values[1];
+        out.flows[i] = values[2];
         at += l.used;
         i += 1;
     }
@@ -79,17 +69,6 @@ fn terminal_ranges(vertices: u32) -> [Range; 4]
     [vertex, demand, none, none]
 }
 
-// The network with one terminal more.
-fn with_terminal(net: Network, j: usize, values: [u32; 4]) -> Network
-    requires { ⌜ j < maxTerminals ⌝ }
-    ensures { λ r. ⌜ r ≡ withTerminals net j (values ∷ []) ⌝ }
-{
-    let mut next = net;
-    next.homes[j] = values[0];
-    next.demands[j] = values[1];
-    next
-}
-
 // The terminal lines, from `start` on.
 pub fn terminal_lines(s: &[u8], start: usize, net: Network) -> Part
     requires { ⌜ (start ≤ length (now s)) × (0 < net .vertices) × (net .terminals ≤ maxTerminals) ⌝ }
@@ -107,7 +86,8 @@ pub fn terminal_lines(s: &[u8], start: usize, net: Network) -> Part
             return Part::refused(l.answer);
         }
         let values = l.values;
-        out = with_terminal(out, j, values);
+        out.homes[j] = values[0];
+        out.demands[j] = values[1];
         at += l.used;
         j += 1;
     }

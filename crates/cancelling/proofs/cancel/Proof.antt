@@ -4,25 +4,26 @@ use Prim.Native.Nat.{_-_, _≤_, _<_}
 use native.Mathlib.Nat.{sub-zero}
 use lib.ListN.{length}
 use Rattle.cancelling.specs.Cancelling.{cancelled, acyclicFlows}
-use Rattle.cancelling.proofs.Rounds.{round-turn, round-none, rounds-over}
+use Rattle.cancelling.proofs.Rounds.{sized, round-turn, round-none, rounds-over}
+use borrow.Author.Needs.{needs}
 use native.Mathlib.Omega.{arith}
 use Rattle.cancelling.proofs.cancel.Statement.{statement}
 use Rattle.cancelling.proofs.cancel.Tie as tie
 
 abbrev Inv-loop : tie.InvT-loop
-Inv-loop tails heads flows₀ n seen₀ walk₀ round₀ flows seen walk round =
-    (length flows ≡ length flows₀) × (length seen ≡ n) × (length walk ≡ n)
+Inv-loop tails heads flows₀ n seen₀ walk₀ rows₀ round₀ flows seen walk rows round =
+    (length flows ≡ length flows₀) × (length seen ≡ n) × (length walk ≡ n) × (length rows ≡ n)
     × (cancelled tails heads n (length flows₀ - round) flows ≡ acyclicFlows tails heads n flows₀)
 
 abbrev μ-loop : tie.MeasureT-loop
-μ-loop tails heads flows₀ n seen₀ walk₀ round₀ flows seen walk round = length flows₀ - round
+μ-loop tails heads flows₀ n seen₀ walk₀ rows₀ round₀ flows seen walk rows round = length flows₀ - round
 
 loop-holds : tie.Need-loop-holds Inv-loop μ-loop
 unfolding acyclicFlows
-loop-holds c = (refl, omega arith, omega arith, rw sub-zero)
+loop-holds c = (refl, omega arith, omega arith, omega arith, rw sub-zero)
 
 cycle-vertex-requires : tie.Need-cycle-vertex-requires Inv-loop μ-loop
-cycle-vertex-requires c κs = omega arith
+cycle-vertex-requires c κs = (omega arith, omega arith)
 
 same-length : tie.Need-same-length Inv-loop μ-loop
 same-length c = omega arith
@@ -33,14 +34,21 @@ same-length-2 c = omega arith
 same-length-3 : tie.Need-same-length-3 Inv-loop μ-loop
 same-length-3 c = omega arith
 
+same-length-4 : tie.Need-same-length-4 Inv-loop μ-loop
+same-length-4 c = omega arith
+
 returns : tie.Need-returns Inv-loop μ-loop
 returns c =
     let at-cycle-vertex = c .before .before .before .cycle-vertex in
     let at-loop = c .before .before .before .before .before .before .before .loop in
-    sym (round-none _ _ _ _ _ _ _ (at-cycle-vertex .ensures) (c .if1 .taken)) ∙ at-loop .inv .3
+    sym (round-none _ _ _ _ _ _ _ (at-cycle-vertex .ensures .0) (c .if1 .taken)) ∙ at-loop .inv .4
 
 cancel-from-requires : tie.Need-cancel-from-requires Inv-loop μ-loop
-cancel-from-requires c κs = omega arith
+cancel-from-requires c κs =
+    let at-if1 = c .before .before .before .before .if1 in
+    let at-cycle-vertex = c .before .before .before .before .before .before .before .cycle-vertex in
+    let at-loop = c .before .before .before .before .before .before .before .before .before .before .before .loop in
+    ((omega arith, omega arith), sized _ _ _ _ _ _ _ (at-loop .inv .1) (at-cycle-vertex .ensures .1 _ (at-if1 .left)))
 
 add-round : tie.Need-add-round Inv-loop μ-loop
 add-round c = omega arith
@@ -51,20 +59,17 @@ loop-less c = omega arith
 loop-again : tie.Need-loop-again Inv-loop μ-loop
 loop-again c =
     let at-cancel-from = c .before .before .before .before .before .before .cancel-from in
-    let at-if1 = c .before .before .before .before .before .before .before .before .before .before .if1 in
-    let at-cycle-vertex = c .before .before .before .before .before .before .before .before .before .before .before .before .before .cycle-vertex in
-    let passed = c .before .before .before .before .before .before .before .before .before .before .before .before .before .before .before .before .before .before .before .before .before .before .before .args in
-    let long : length (at-cycle-vertex .last .1 .1 .1 .1 .0) ≡ passed .n = omega arith in
-    let at-loop = c .before .before .before .before .before .before .before .before .before .before .before .before .before .before .before .before .before .loop in
-    let inside : at-loop .round < length (passed .flows .now) = omega arith in (
+    let at-if1 = c .before .before .before .before .before .before .before .before .before .before .before .if1 in
+    let at-cycle-vertex = c .before .before .before .before .before .before .before .before .before .before .before .before .before .before .cycle-vertex in
+    let at-loop = c .before .before .before .before .before .before .before .before .before .before .before .before .before .before .before .before .before .before .loop in
+    let at-args = c .before .before .before .before .before .before .before .before .before .before .before .before .before .before .before .before .before .before .before .before .before .before .before .before .before .args in
+    let inside : at-loop .round < length (at-args .flows .now) = omega arith in (
       omega arith,
       omega arith,
       omega arith,
-      round-turn _ _ _ _ _ _ _ (at-cycle-vertex .ensures) _ _ long (at-cancel-from .ensures) inside (at-if1 .left) ∙ at-loop .inv .3,
+      omega arith,
+      round-turn _ _ _ _ _ _ _ (at-cycle-vertex .ensures .0) _ _ (at-loop .inv .1) (at-cancel-from .ensures) inside (at-if1 .left) ∙ at-loop .inv .4,
     )
-
-same-length-4 : tie.Need-same-length-4 Inv-loop μ-loop
-same-length-4 c = omega arith
 
 same-length-5 : tie.Need-same-length-5 Inv-loop μ-loop
 same-length-5 c = omega arith
@@ -72,10 +77,16 @@ same-length-5 c = omega arith
 same-length-6 : tie.Need-same-length-6 Inv-loop μ-loop
 same-length-6 c = omega arith
 
+same-length-7 : tie.Need-same-length-7 Inv-loop μ-loop
+same-length-7 c = omega arith
+
+same-length-8 : tie.Need-same-length-8 Inv-loop μ-loop
+same-length-8 c = omega arith
+
 returns-2 : tie.Need-returns-2 Inv-loop μ-loop
 returns-2 c =
-    let over : length (c .before .before .before .before .before .before .before .args .flows .now) ≤ c .before .loop .round = omega arith in
-    sym (rounds-over _ _ _ _ _ _ over) ∙ c .before .loop .inv .3
+    let over : length (c .before .before .before .before .before .before .before .before .args .flows .now) ≤ c .before .loop .round = omega arith in
+    sym (rounds-over _ _ _ _ _ _ over) ∙ c .before .loop .inv .4
 
 pub cancel-spec : {M : Type 1} → statement M
 cancel-spec =
@@ -88,12 +99,14 @@ cancel-spec =
     same-length
     same-length-2
     same-length-3
+    same-length-4
     returns
     cancel-from-requires
     add-round
     loop-less
     loop-again
-    same-length-4
     same-length-5
     same-length-6
+    same-length-7
+    same-length-8
     returns-2)

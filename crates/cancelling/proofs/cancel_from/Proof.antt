@@ -1,10 +1,11 @@
+use mathlib.Core.Path.{_∙_}
 use Rattle.cancelling.proofs.Rounds.{cycle-made}
 use borrow.Author.Needs.{needs}
 use Rattle.cancelling.proofs.cancel_from.Statement.{statement}
 use Rattle.cancelling.proofs.cancel_from.Tie as tie
 
-reach-requires : tie.Need-reach-requires
-reach-requires c κs = search needs
+column-requires : tie.Need-column-requires
+column-requires c κs = search needs
 
 follow-requires : tie.Need-follow-requires
 follow-requires c κs = search needs
@@ -39,17 +40,17 @@ same-length-3 c = search needs
 returns : tie.Need-returns
 returns c =
     let at-lower-cycle = c .before .before .lower-cycle in
-    let at-reach = c .before .before .before .before .before .before .before .before .before .before .before .before .before .before .before .reach in
-    let given = c .before .before .before .before .before .before .before .before .before .before .before .before .before .before .before .before .before .before .before .before .before .before .before .pre in
     let at-follow = c .before .before .before .before .before .before .before .before .before .follow in
-    cycle-made _ _ _ _ _ _ (at-follow .result .from) (at-follow .result .count) _ (at-follow .last .1 .1 .1 .1 .1 .0) _ (given) (at-reach .ensures)
-    (at-follow .ensures .1) (at-lower-cycle .ensures)
+    let at-column = c .before .before .before .before .before .before .before .before .before .before .before .before .before .before .before .column in
+    let given = c .before .before .before .before .before .before .before .before .before .before .before .before .before .before .before .before .before .before .before .before .before .before .before .pre in
+    cycle-made _ _ _ _ _ _ (at-follow .result .from) (at-follow .result .count) _ (at-follow .last .1 .1 .1 .1 .1 .0) _ (given .0 .0)
+    (at-column .ensures ∙ given .1) (at-follow .ensures .1) (at-lower-cycle .ensures)
 
 pub cancel-from-spec : {M : Type 1} → statement M
 cancel-from-spec =
     tie.close
     (tie.spec
-    reach-requires
+    column-requires
     follow-requires
     add-to
     mul-lower-cycle

@@ -3,6 +3,9 @@ use borrow.Author.Needs.{needs}
 use Rattle.carrying.proofs.carried.Statement.{statement}
 use Rattle.carrying.proofs.carried.Tie as tie
 
+slice-aggregate-word-at : tie.Need-slice-aggregate-word-at
+slice-aggregate-word-at c = search needs
+
 word-at-requires : tie.Need-word-at-requires
 word-at-requires c κs = search needs
 
@@ -21,27 +24,25 @@ put-flow-requires c κs = search needs
 put-place-requires : tie.Need-put-place-requires
 put-place-requires c κs = search needs
 
-moved-requires : tie.Need-moved-requires
-moved-requires c κs = search needs
-
 returns : tie.Need-returns
 returns c =
-    let at-word-at = c .before .before .before .before .before .before .before .before .before .before .before .before .before .before .word-at in
-    let at-word-at2 = c .before .before .before .before .before .before .before .before .before .before .word-at2 in
-    let at-word-at3 = c .before .before .before .before .before .before .word-at3 in
-    let at-minus = c .before .before .before .before .before .minus in
-    let at-put-flow = c .before .before .before .put-flow in
-    makes-carried _ _ _ _ _ _ _ _ _ _ (at-word-at .ensures) (at-word-at2 .ensures) (at-word-at3 .ensures) (at-minus .ensures) (at-put-flow .ensures) (c .before .put-place .ensures) (c .moved .ensures)
+    let at-flow = c .before .before .before .before .before .before .before .before .before .before .before .word-at in
+    let at-demand = c .before .before .before .before .before .before .before .word-at2 in
+    let at-tail = c .before .before .before .word-at3 in
+    let at-minus = c .before .before .minus in
+    let at-put-flow = c .before .put-flow in
+    let at-args = c .before .before .before .before .before .before .before .before .before .before .before .before .before .args in
+    makes-carried (at-args .t1) (at-args .t2) _ (at-args .places) _ _ _ _ _ _ _ _ (at-flow .ensures) (at-demand .ensures) (at-tail .ensures) (at-minus .ensures) (at-put-flow .ensures) (c .put-place .ensures)
 
 pub carried-spec : {M : Type 1} → statement M
 carried-spec =
     tie.close
     (tie.spec
+    slice-aggregate-word-at
     word-at-requires
     word-at-requires-2
     word-at-requires-3
     minus-requires
     put-flow-requires
     put-place-requires
-    moved-requires
     returns)

@@ -1,48 +1,57 @@
-use native.Mathlib.Omega.{arith}
--- What was stored so far, then the rest of the slice.
+-- The vertices passed are alone in their rows.
 use mathlib.Core.Path.{_≡_, refl, _∙_}
-use mathlib.Core.Bool.{false}
-use mathlib.Core.List.{_++_}
-use Prim.Native.Nat.{_+_, _-_, _≤_, _<_}
-use lib.ListN.{length, replicate, drop, length-set}
-use Rattle.graph.proofs.Turns.{fill-more, filled}
+use Prim.Native.Nat.{ℕ, _-_, _≤_, _<_}
+use lib.ListN.{length, getD, length-set}
+use Rattle.lists.proofs.Laws.{pick-yes}
+use Rattle.sets.specs.Sets.{withBit}
+use Rattle.graph.proofs.Columns.{stored-more, column-alone}
+use borrow.Author.Needs.{needs}
 use native.Mathlib.Omega.{arith}
 use Rattle.graph.proofs.clear.Statement.{statement}
 use Rattle.graph.proofs.clear.Tie as tie
 
 abbrev Inv-loop : tie.InvT-loop
-Inv-loop seen₀ i₀ seen i =
-    (i ≤ length seen₀) × (length seen ≡ length seen₀) × (seen ≡ replicate i false ++ drop i seen₀)
+Inv-loop rows₀ v₀ rows v =
+    (v ≤ length rows₀) × (length rows ≡ length rows₀) × ((k : ℕ) → k < v → getD rows k 0 ≡ withBit 0 k)
 
 abbrev μ-loop : tie.MeasureT-loop
-μ-loop seen₀ i₀ seen i = length seen₀ - i
+μ-loop rows₀ v₀ rows v = length rows₀ - v
 
 loop-holds : tie.Need-loop-holds Inv-loop μ-loop
-loop-holds c = (omega arith, refl, refl)
+loop-holds c = (omega arith, refl, λ k h. absurd (omega arith))
 
-slice-write-seen : tie.Need-slice-write-seen Inv-loop μ-loop
-slice-write-seen c = omega arith
+with-requires : tie.Need-with-requires Inv-loop μ-loop
+with-requires c κs = search needs
 
-add-i : tie.Need-add-i Inv-loop μ-loop
-add-i c = omega arith
+mul-rows : tie.Need-mul-rows Inv-loop μ-loop
+mul-rows c = search needs
+
+slice-write-rows : tie.Need-slice-write-rows Inv-loop μ-loop
+slice-write-rows c = omega arith
+
+add-v : tie.Need-add-v Inv-loop μ-loop
+add-v c = omega arith
 
 loop-less : tie.Need-loop-less Inv-loop μ-loop
 loop-less c = omega arith
 
 loop-again : tie.Need-loop-again Inv-loop μ-loop
 loop-again c =
-    let inv = c .before .loop .inv in
-    let inside : c .before .loop .i < length (c .before .before .args .seen .now) = omega arith in
-    (omega arith, length-set (c .before .loop .seen) (c .before .loop .i) false ∙ inv .1, rw (inv .2) (fill-more _ _ _ inside))
+    let at-with = c .with in
+    let at-loop = c .before .before .loop in
+    let inside : at-loop .v < length (at-loop .rows) = omega arith in (
+      omega arith,
+      length-set (at-loop .rows) (at-loop .v) _ ∙ at-loop .inv .1,
+      stored-more (withBit 0) (at-loop .rows) (at-loop .v) _ 0 inside (at-loop .inv .2) (at-with .ensures ∙ pick-yes _ _ _ refl),
+    )
 
 same-length : tie.Need-same-length Inv-loop μ-loop
 same-length c = c .before .loop .inv .1
 
 returns : tie.Need-returns Inv-loop μ-loop
 returns c =
-    let inv = c .before .loop .inv in
-    let all : c .before .loop .i ≡ length (c .before .before .args .seen .now) = omega arith in
-    inv .2 ∙ rw all (filled (c .before .before .args .seen .now) false)
+    let at-loop = c .before .loop in
+    λ v h. column-alone _ _ v (at-loop .inv .1) (λ k l. at-loop .inv .2 k (omega arith)) h
 
 pub clear-spec : {M : Type 1} → statement M
 clear-spec =
@@ -51,8 +60,10 @@ clear-spec =
     Inv-loop
     μ-loop
     loop-holds
-    slice-write-seen
-    add-i
+    with-requires
+    mul-rows
+    slice-write-rows
+    add-v
     loop-less
     loop-again
     same-length

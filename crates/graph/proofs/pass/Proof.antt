@@ -1,35 +1,48 @@
--- The rest of the pass over the set as it is gives the whole pass over the first set; a set that has not changed is the first.
+-- In each column, the rest of the pass over the rows as they are gives the whole pass over the first rows; rows that have not changed are the first.
 use mathlib.Core.Path.{_≡_, refl, sym, _∙_}
 use mathlib.Core.Bool.{false}
-use Prim.Native.Nat.{_-_}
+use Prim.Native.Nat.{ℕ, _-_}
 use native.Mathlib.Nat.{sub-zero}
 use lib.ListN.{length}
 use Rattle.lists.proofs.Laws.{either-left, either-right}
 use Rattle.graph.specs.Graph.{pass}
+use Rattle.graph.specs.Rows.{column}
 use Rattle.graph.proofs.Turns.{pass-turn, pass-end}
+use Rattle.graph.proofs.Columns.{column-turn}
 use borrow.Author.Needs.{needs}
 use native.Mathlib.Omega.{arith}
 use Rattle.graph.proofs.pass.Statement.{statement}
 use Rattle.graph.proofs.pass.Tie as tie
 
 abbrev Inv-loop : tie.InvT-loop
-Inv-loop from to flows seen₀ changed₀ e₀ seen changed e =
-    (length seen ≡ length seen₀) × (pass from to flows e (length flows - e) seen ≡ pass from to flows 0 (length flows) seen₀) × (changed ≡ false → seen ≡ seen₀)
+Inv-loop from to flows rows₀ changed₀ e₀ rows changed e =
+    (length rows ≡ length rows₀)
+    × ((v : ℕ) → pass from to flows e (length flows - e) (column rows v) ≡ pass from to flows 0 (length flows) (column rows₀ v))
+    × (changed ≡ false → rows ≡ rows₀)
 
 abbrev μ-loop : tie.MeasureT-loop
-μ-loop from to flows seen₀ changed₀ e₀ seen changed e = length flows - e
+μ-loop from to flows rows₀ changed₀ e₀ rows changed e = length flows - e
 
 loop-holds : tie.Need-loop-holds Inv-loop μ-loop
-loop-holds c = (refl, rw sub-zero, λ h. refl)
-
-opens-requires : tie.Need-opens-requires Inv-loop μ-loop
-opens-requires c κs = search needs
+loop-holds c = (refl, λ v. rw sub-zero, λ h. refl)
 
 word-at-requires : tie.Need-word-at-requires Inv-loop μ-loop
 word-at-requires c κs = search needs
 
+cast-start : tie.Need-cast-start Inv-loop μ-loop
+cast-start c = search needs
+
+word-at-requires-2 : tie.Need-word-at-requires-2 Inv-loop μ-loop
+word-at-requires-2 c κs = search needs
+
 cast-end : tie.Need-cast-end Inv-loop μ-loop
 cast-end c = search needs
+
+mul-join : tie.Need-mul-join Inv-loop μ-loop
+mul-join c = search needs
+
+shared-slice-read-join : tie.Need-shared-slice-read-join Inv-loop μ-loop
+shared-slice-read-join c = omega arith
 
 join-requires : tie.Need-join-requires Inv-loop μ-loop
 join-requires c κs = search needs
@@ -45,13 +58,16 @@ loop-less c = omega arith
 
 loop-again : tie.Need-loop-again Inv-loop μ-loop
 loop-again c =
-    let at-loop-test = c .before .before .before .before .before .before .before .before .loop-test in
-    let at-loop = c .before .before .before .before .before .before .before .before .before .loop in
     let at-or = c .or in
     let at-join = c .before .before .before .join in
+    let at-word-at2 = c .before .before .before .before .before .before .word-at2 in
+    let at-word-at = c .before .before .before .before .before .before .before .word-at in
+    let at-loop-test = c .before .before .before .before .before .before .before .before .loop-test in
+    let at-loop = c .before .before .before .before .before .before .before .before .before .loop in
+    let at-args = c .before .before .before .before .before .before .before .before .before .before .before .before .before .before .args in
     let inv = at-loop .inv in (
       omega arith,
-      pass-turn _ _ _ _ _ _ _ (at-loop-test .taken) (c .before .before .before .join .ensures .0 ∙ cc) ∙ inv .1,
+      λ v. pass-turn _ _ _ _ _ _ _ (at-loop-test .taken) (column-turn (at-args .from .now) (at-args .to .now) (at-args .flows .now) (at-loop .rows) _ (at-loop .e) v (at-join .ensures .0 ∙ cc)) ∙ inv .1 v,
       λ h. at-join .ensures .1 (either-right _ _ (sym (at-or .ensures) ∙ h)) ∙ inv .2 (either-left _ _ (sym (at-or .ensures) ∙ h)),
     )
 
@@ -59,7 +75,7 @@ same-length : tie.Need-same-length Inv-loop μ-loop
 same-length c = c .before .loop .inv .0
 
 returns : tie.Need-returns Inv-loop μ-loop
-returns c = (sym (pass-end _ _ _ _ _ _ (c .loop-test .left)) ∙ c .before .loop .inv .1, c .before .loop .inv .2)
+returns c = (λ v. sym (pass-end _ _ _ _ _ _ (c .loop-test .left)) ∙ c .before .loop .inv .1 v, c .before .loop .inv .2)
 
 pub pass-spec : {M : Type 1} → statement M
 pass-spec =
@@ -68,9 +84,12 @@ pass-spec =
     Inv-loop
     μ-loop
     loop-holds
-    opens-requires
     word-at-requires
+    cast-start
+    word-at-requires-2
     cast-end
+    mul-join
+    shared-slice-read-join
     join-requires
     or-requires
     add-e

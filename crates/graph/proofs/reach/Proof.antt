@@ -1,3 +1,4 @@
+use native.Mathlib.Omega.{arith}
 use Rattle.graph.proofs.Turns.{reach-made}
 use borrow.Author.Needs.{needs}
 use Rattle.graph.proofs.reach.Statement.{statement}
@@ -5,9 +6,6 @@ use Rattle.graph.proofs.reach.Tie as tie
 
 clear-requires : tie.Need-clear-requires
 clear-requires c κs = search needs
-
-put-bool-requires : tie.Need-put-bool-requires
-put-bool-requires c κs = search needs
 
 spread-requires : tie.Need-spread-requires
 spread-requires c κs = search needs
@@ -18,10 +16,8 @@ same-length c = search needs
 returns : tie.Need-returns
 returns c =
     let at-spread = c .before .before .spread in
-    let at-put-bool = c .before .before .before .before .before .before .put-bool in
-    let at-clear = c .before .before .before .before .before .before .before .before .before .before .clear in
-    reach-made _ _ _ _ _ _ _ _ (at-clear .ensures) (at-put-bool .ensures) (at-spread .ensures)
+    let at-clear = c .before .before .before .before .before .before .clear in
+    λ v h. reach-made _ _ _ _ _ v _ _ (at-clear .ensures v h) (omega arith) (at-spread .ensures v)
 
 pub reach-spec : {M : Type 1} → statement M
-reach-spec =
-    tie.close (tie.spec clear-requires put-bool-requires spread-requires same-length returns)
+reach-spec = tie.close (tie.spec clear-requires spread-requires same-length returns)

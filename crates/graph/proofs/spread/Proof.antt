@@ -1,11 +1,12 @@
-use native.Mathlib.Omega.{arith}
--- The passes left over the set as it is give all passes over the first set; after a pass that changed nothing, none of them matters.
+-- In each column, the passes left over the rows as they are give all passes over the first rows; after a pass that changed nothing, none of them matters.
 use mathlib.Core.Path.{_≡_, refl, sym, ap, _∙_}
-use Prim.Native.Nat.{_-_, _≤_, _<_}
+use mathlib.Core.List.{List}
+use Prim.Native.Nat.{ℕ, _-_, _≤_, _<_}
 use native.Mathlib.Nat.{sub-zero}
 use lib.ListN.{length}
 use borrow.Author.Tests.{not-true}
 use Rattle.graph.specs.Graph.{passes}
+use Rattle.graph.specs.Rows.{column}
 use Rattle.graph.proofs.Turns.{passes-turn, passes-end, passes-still}
 use borrow.Author.Needs.{needs}
 use native.Mathlib.Omega.{arith}
@@ -13,14 +14,14 @@ use Rattle.graph.proofs.spread.Statement.{statement}
 use Rattle.graph.proofs.spread.Tie as tie
 
 abbrev Inv-loop : tie.InvT-loop
-Inv-loop from to flows seen₀ k₀ seen k =
-    (length seen ≡ length seen₀) × (passes from to flows (length seen₀ - k) seen ≡ passes from to flows (length seen₀) seen₀)
+Inv-loop from to flows rows₀ k₀ rows k =
+    (length rows ≡ length rows₀) × ((v : ℕ) → passes from to flows (length rows₀ - k) (column rows v) ≡ passes from to flows (length rows₀) (column rows₀ v))
 
 abbrev μ-loop : tie.MeasureT-loop
-μ-loop from to flows seen₀ k₀ seen k = length seen₀ - k
+μ-loop from to flows rows₀ k₀ rows k = length rows₀ - k
 
 loop-holds : tie.Need-loop-holds Inv-loop μ-loop
-loop-holds c = (refl, rw sub-zero)
+loop-holds c = (refl, λ v. rw sub-zero)
 
 pass-requires : tie.Need-pass-requires Inv-loop μ-loop
 pass-requires c κs = search needs
@@ -32,7 +33,7 @@ returns : tie.Need-returns Inv-loop μ-loop
 returns c =
     let at-pass = c .before .before .before .pass in
     let same = at-pass .ensures .1 (not-true _ (c .if1 .taken)) in
-    same ∙ sym (passes-still _ _ _ _ _ (sym (at-pass .ensures .0) ∙ same)) ∙ c .before .before .before .before .before .before .loop .inv .1
+    λ v. ap (λ (l : List ℕ). column l v) same ∙ sym (passes-still _ _ _ _ _ (sym (at-pass .ensures .0 v) ∙ ap (λ (l : List ℕ). column l v) same)) ∙ c .before .before .before .before .before .before .loop .inv .1 v
 
 add-k : tie.Need-add-k Inv-loop μ-loop
 add-k c = omega arith
@@ -45,16 +46,16 @@ loop-again c =
     let at-pass = c .before .before .before .pass in
     let at-loop = c .before .before .before .before .before .before .loop in
     let passed = c .before .before .before .before .before .before .before .before .before .before .before .args in
-    let inside : at-loop .k < length (passed .seen .now) = omega arith in
-    (omega arith, ap (passes _ _ _ _) (at-pass .ensures .0) ∙ passes-turn _ _ _ _ _ _ inside ∙ at-loop .inv .1)
+    let inside : at-loop .k < length (passed .rows .now) = omega arith in
+    (omega arith, λ v. ap (passes _ _ _ _) (at-pass .ensures .0 v) ∙ passes-turn _ _ _ _ _ _ inside ∙ at-loop .inv .1 v)
 
 same-length-2 : tie.Need-same-length-2 Inv-loop μ-loop
 same-length-2 c = c .before .loop .inv .0
 
 returns-2 : tie.Need-returns-2 Inv-loop μ-loop
 returns-2 c =
-    let over : length (c .before .before .before .before .before .before .args .seen .now) ≤ c .before .loop .k = omega arith in
-    sym (passes-end _ _ _ _ _ _ over) ∙ c .before .loop .inv .1
+    let over : length (c .before .before .before .before .before .before .args .rows .now) ≤ c .before .loop .k = omega arith in
+    λ v. sym (passes-end _ _ _ _ _ _ over) ∙ c .before .loop .inv .1 v
 
 pub spread-spec : {M : Type 1} → statement M
 spread-spec =

@@ -6,57 +6,57 @@ use borrow.Author.Needs.{needs}
 use Rattle.judging.proofs.judged.Statement.{statement}
 use Rattle.judging.proofs.judged.Tie as tie
 
-all-keep-requires : tie.Need-all-keep-requires
-all-keep-requires c κs = search needs
+all-differ-requires : tie.Need-all-differ-requires
+all-differ-requires c κs = search needs
 
 returns : tie.Need-returns
 unfolding judged pick
-returns c = rw (sym (c .before .all-keep .ensures) ∙ not-true _ (c .if1 .taken))
+returns c = rw (sym (c .before .all-differ .ensures) ∙ not-true _ (c .if1 .taken))
 
-all-keep-requires-2 : tie.Need-all-keep-requires-2
-all-keep-requires-2 c κs = search needs
+all-away-requires : tie.Need-all-away-requires
+all-away-requires c κs = search needs
 
 returns-2 : tie.Need-returns-2
 unfolding judged pick
 returns-2 c =
-    let at-all-keep2 = c .before .all-keep2 in
-    let at-if1 = c .before .before .if1 in
-    let at-all-keep = c .before .before .before .all-keep in
-    rw (sym (at-all-keep .ensures) ∙ not-false _ (at-if1 .left), sym (at-all-keep2 .ensures) ∙ not-true _ (c .if2 .taken))
+    let at-all-away = c .before .all-away in
+    let at-if1 = c .before .before .before .before .before .if1 in
+    let at-all-differ = c .before .before .before .before .before .before .all-differ in
+    rw (sym (at-all-differ .ensures) ∙ not-false _ (at-if1 .left), sym (at-all-away .ensures) ∙ not-true _ (c .if2 .taken))
 
-all-keep-requires-3 : tie.Need-all-keep-requires-3
-all-keep-requires-3 c κs = search needs
+all-balanced-requires : tie.Need-all-balanced-requires
+all-balanced-requires c κs = search needs
 
 returns-3 : tie.Need-returns-3
 unfolding judged pick
 returns-3 c =
-    let at-all-keep3 = c .before .all-keep3 in
+    let at-all-balanced = c .before .all-balanced in
     let at-if2 = c .before .before .if2 in
-    let at-all-keep2 = c .before .before .before .all-keep2 in
-    let at-if1 = c .before .before .before .before .if1 in
-    let at-all-keep = c .before .before .before .before .before .all-keep in
+    let at-all-away = c .before .before .before .all-away in
+    let at-if1 = c .before .before .before .before .before .before .before .if1 in
+    let at-all-differ = c .before .before .before .before .before .before .before .before .all-differ in
     rw
-    (sym (at-all-keep .ensures) ∙ not-false _ (at-if1 .left), sym (at-all-keep2 .ensures) ∙ not-false _ (at-if2 .left), sym (at-all-keep3 .ensures) ∙ not-true _ (c .if3 .taken))
+    (sym (at-all-differ .ensures) ∙ not-false _ (at-if1 .left), sym (at-all-away .ensures) ∙ not-false _ (at-if2 .left), sym (at-all-balanced .ensures) ∙ not-true _ (c .if3 .taken))
 
 returns-4 : tie.Need-returns-4
 unfolding judged pick
 returns-4 c =
-    let at-all-keep3 = c .before .all-keep3 in
+    let at-all-balanced = c .before .all-balanced in
     let at-if2 = c .before .before .if2 in
-    let at-all-keep2 = c .before .before .before .all-keep2 in
-    let at-if1 = c .before .before .before .before .if1 in
-    let at-all-keep = c .before .before .before .before .before .all-keep in
+    let at-all-away = c .before .before .before .all-away in
+    let at-if1 = c .before .before .before .before .before .before .before .if1 in
+    let at-all-differ = c .before .before .before .before .before .before .before .before .all-differ in
     rw
-    (sym (at-all-keep .ensures) ∙ not-false _ (at-if1 .left), sym (at-all-keep2 .ensures) ∙ not-false _ (at-if2 .left), sym (at-all-keep3 .ensures) ∙ not-false _ (c .if3 .left))
+    (sym (at-all-differ .ensures) ∙ not-false _ (at-if1 .left), sym (at-all-away .ensures) ∙ not-false _ (at-if2 .left), sym (at-all-balanced .ensures) ∙ not-false _ (c .if3 .left))
 
 pub judged-spec : {M : Type 1} → statement M
 judged-spec =
     tie.close
     (tie.spec
-    all-keep-requires
+    all-differ-requires
     returns
-    all-keep-requires-2
+    all-away-requires
     returns-2
-    all-keep-requires-3
+    all-balanced-requires
     returns-3
     returns-4)

@@ -1,4 +1,5 @@
 use mathlib.Core.Path.{sym}
+use native.Mathlib.Omega.{arith}
 use lib.Seq.{length-take-le}
 use borrow.Author.Needs.{needs}
 use Rattle.loader.proofs.acyclic_flows.Statement.{statement}
@@ -28,10 +29,16 @@ array-borrow-prefix-walk c = search needs
 slice-aggregate-cancel-5 : tie.Need-slice-aggregate-cancel-5
 slice-aggregate-cancel-5 c = sym (length-take-le _ _ (c .before .before .before .before .before .before .before .before .before .pre))
 
+array-borrow-prefix-rows : tie.Need-array-borrow-prefix-rows
+array-borrow-prefix-rows c = search needs
+
+slice-aggregate-cancel-6 : tie.Need-slice-aggregate-cancel-6
+slice-aggregate-cancel-6 c = sym (length-take-le _ _ (c .before .before .before .before .before .before .before .before .before .before .pre))
+
 cancel-requires : tie.Need-cancel-requires
 cancel-requires c κs =
-    let given = c .before .before .before .before .before .before .before .before .before .pre in
-    (sym (length-take-le _ _ (given)), sym (length-take-le _ _ (given)))
+    let given = c .before .before .before .before .before .before .before .before .before .before .pre in
+    (sym (length-take-le _ _ given), sym (length-take-le _ _ given), sym (length-take-le _ _ given), omega arith)
 
 returns : tie.Need-returns
 returns c = search needs
@@ -48,5 +55,7 @@ acyclic-flows-spec =
     slice-aggregate-cancel-4
     array-borrow-prefix-walk
     slice-aggregate-cancel-5
+    array-borrow-prefix-rows
+    slice-aggregate-cancel-6
     cancel-requires
     returns)

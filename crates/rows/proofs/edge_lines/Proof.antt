@@ -4,7 +4,6 @@ use native.Mathlib.Nat.{sub-zero}
 use native.Mathlib.Omega.{arith}
 use borrow.Author.Needs.{needs}
 use lib.ListN.{length, take, drop}
-use Rattle.board.specs.declared.Network.{Network}
 use Rattle.text.specs.Text.{edgeRanges, edgeLines}
 use Rattle.lines.proofs.Turns.{answered-got, answered-refused, rest-used}
 use Rattle.rows.proofs.Loops.{edge-stop, edge-step, edge-end}
@@ -57,13 +56,39 @@ returns c =
       omega arith,
     )
 
-with-edge-requires : tie.Need-with-edge-requires Inv-loop μ-loop
-with-edge-requires c κs = omega arith
+array-read-out : tie.Need-array-read-out Inv-loop μ-loop
+array-read-out c = search needs
+
+mul-out : tie.Need-mul-out Inv-loop μ-loop
+mul-out c = search needs
+
+element-write-out : tie.Need-element-write-out Inv-loop μ-loop
+element-write-out c = search needs
+
+array-read-out-2 : tie.Need-array-read-out-2 Inv-loop μ-loop
+array-read-out-2 c = search needs
+
+mul-out-2 : tie.Need-mul-out-2 Inv-loop μ-loop
+mul-out-2 c = search needs
+
+element-write-out-2 : tie.Need-element-write-out-2 Inv-loop μ-loop
+element-write-out-2 c = search needs
+
+array-read-out-3 : tie.Need-array-read-out-3 Inv-loop μ-loop
+array-read-out-3 c = search needs
+
+mul-out-3 : tie.Need-mul-out-3 Inv-loop μ-loop
+mul-out-3 c = search needs
+
+element-write-out-3 : tie.Need-element-write-out-3 Inv-loop μ-loop
+element-write-out-3 c = search needs
 
 add-at : tie.Need-add-at Inv-loop μ-loop
 add-at c =
-    let u = rest-used (c .before .before .before .before .before .before .before .before .before .before .before .before .args .s .now) _ _
-    (c .before .before .before .before .before .before .before .before .loop .inv .1) (c .before .before .before .before .before .line .ensures .1) in
+    let at-line = c .before .before .before .before .line in
+    let at-loop = c .before .before .before .before .before .before .before .loop in
+    let at-args = c .before .before .before .before .before .before .before .before .before .before .before .args in
+    let u = rest-used (at-args .s .now) _ _ (at-loop .inv .1) (at-line .ensures .1) in
     omega arith
 
 add-i : tie.Need-add-i Inv-loop μ-loop
@@ -74,19 +99,17 @@ loop-less c = omega arith
 
 loop-again : tie.Need-loop-again Inv-loop μ-loop
 loop-again c =
-    let at-with-edge = c .before .with-edge in
-    let at-if1 = c .before .before .before .if1 in
-    let at-line = c .before .before .before .before .before .line in
-    let at-loop-test = c .before .before .before .before .before .before .before .loop-test in
-    let at-loop = c .before .before .before .before .before .before .before .before .loop in
-    let at-edge-ranges = c .before .before .before .before .before .before .before .before .before .before .edge-ranges in
-    let at-args = c .before .before .before .before .before .before .before .before .before .before .before .before .args in (
+    let at-if1 = c .before .before .if1 in
+    let at-line = c .before .before .before .before .line in
+    let at-loop-test = c .before .before .before .before .before .before .loop-test in
+    let at-loop = c .before .before .before .before .before .before .before .loop in
+    let at-edge-ranges = c .before .before .before .before .before .before .before .before .before .edge-ranges in
+    let at-args = c .before .before .before .before .before .before .before .before .before .before .before .args in (
       omega arith,
       rest-used (at-args .s .now) _ _ (at-loop .inv .1) (at-line .ensures .1),
-      ap (λ (net : Network). net .vertices) (at-with-edge .ensures) ∙ at-loop .inv .2,
-      edge-step (at-loop .out) (at-with-edge .result) (at-edge-ranges .result) _ _ (at-loop .at) (at-args .s .now) _ (at-loop-test .taken)
-          (at-line .result) (at-loop .inv .3) (ap (take 3) (at-edge-ranges .ensures) ∙ ap edgeRanges (sym (at-loop .inv .2))) (at-line .ensures .0)
-          (at-if1 .left) (at-with-edge .ensures),
+      at-loop .inv .2,
+      edge-step (at-loop .out) _ (at-edge-ranges .result) _ _ (at-loop .at) (at-args .s .now) _ (at-loop-test .taken) (at-line .result) (at-loop .inv .3)
+          (ap (take 3) (at-edge-ranges .ensures) ∙ ap edgeRanges (sym (at-loop .inv .2))) (at-line .ensures .0) (at-if1 .left) refl,
     )
 
 returns-2 : tie.Need-returns-2 Inv-loop μ-loop
@@ -107,7 +130,15 @@ edge-lines-spec =
     line-requires
     refused-requires
     returns
-    with-edge-requires
+    array-read-out
+    mul-out
+    element-write-out
+    array-read-out-2
+    mul-out-2
+    element-write-out-2
+    array-read-out-3
+    mul-out-3
+    element-write-out-3
     add-at
     add-i
     loop-less
