@@ -1,63 +1,66 @@
-// Singular edges of a board, and the edges that a turn marks.
+// Singular edges of a board, and the edges that a turn marks. The edges that leave each vertex and the positive edges are sets.
 use board::EdgeSet;
 ghost use mathlib.Core.Path.{_≡_};
-ghost use Prim.Native.Nat.{_≤_};
-ghost use lib.ListN.{length};
 ghost use Rattle.sets.specs.Sets.{setWidth, collect};
-ghost use Rattle.marking.specs.Marking.{singularIn, isFreshIn};
+ghost use Rattle.marking.specs.Marking.{straightBy, singularBy, isFreshBy};
+
+// Whether v and each vertex after it has at most one positive edge leaving, for as many vertices as are left.
+fn straight<'a>(
+    heads: &'a [u32],
+    leaving: &'a [EdgeSet],
+    positive: EdgeSet,
+    left: u32,
+    v: u32,
+) -> bool
+    ensures { λ r. ⌜ r ≡ straightBy (now (heads .entry)) (now (leaving .entry)) positive left v ⌝ }
+{
+    if left == 0 {
+        return true;
+    }
+    let out = incidence::touching(leaving, positive, v);
+    if out == 0 {
+        return true;
+    }
+    let e = sets::lowest(out);
+    if sets::drop(out, e) != 0 {
+        return false;
+    }
+    let next = lists::word_at(heads, e as usize);
+    straight(heads, leaving, positive, left - 1, next)
+}
 
 // Whether the head of edge e, and every vertex reached from it, has at most one positive edge leaving.
-pub fn singular_in<'a>(
-    tails: &'a [u32],
+pub fn singular_by<'a>(
     heads: &'a [u32],
-    flows: &'a [u32],
+    leaving: &'a [EdgeSet],
+    positive: EdgeSet,
     vertices: u32,
     e: usize,
 ) -> bool
-    ensures { λ r. ⌜ r ≡ singularIn (now (tails .entry)) (now (heads .entry)) (now (flows .entry)) vertices e ⌝ }
+    ensures { λ r. ⌜ r ≡ singularBy (now (heads .entry)) (now (leaving .entry)) positive vertices e ⌝ }
 {
     let head = lists::word_at(heads, e);
-    singular::straight(tails, heads, flows, vertices, head)
+    straight(heads, leaving, positive, vertices, head)
 }
 
-// Whether edge e is not marked, positive and singular. The way on from its head is followed last.
-fn is_fresh<'a>(
-    tails: &'a [u32],
+// The edges that are not marked, positive and singular: those that a turn marks newly.
+pub fn fresh_by<'a>(
     heads: &'a [u32],
-    flows: &'a [u32],
-    vertices: u32,
-    marks: EdgeSet,
-    e: usize,
-) -> bool
-    ensures { λ r. ⌜ r ≡ isFreshIn (now (tails .entry)) (now (heads .entry)) (now (flows .entry)) vertices marks e ⌝ }
-{
-    if sets::has(marks, e) {
-        return false;
-    }
-    if lists::word_at(flows, e) == 0 {
-        return false;
-    }
-    singular_in(tails, heads, flows, vertices, e)
-}
-
-// The set of such edges: those that a turn marks newly.
-pub fn fresh_among<'a>(
-    tails: &'a [u32],
-    heads: &'a [u32],
-    flows: &'a [u32],
+    leaving: &'a [EdgeSet],
+    positive: EdgeSet,
     vertices: u32,
     marks: EdgeSet,
 ) -> EdgeSet
-    requires { ⌜ length (now flows) ≤ setWidth ⌝ }
-    ensures { λ r. ⌜ r ≡ collect (isFreshIn (now (tails .entry)) (now (heads .entry)) (now (flows .entry)) vertices marks) 0 0
-        (length (now (flows .entry))) ⌝ }
+    ensures { λ r. ⌜ r ≡ collect (isFreshBy (now (heads .entry)) (now (leaving .entry)) positive vertices marks) 0 0 setWidth ⌝ }
 {
+    let marked = sets::common(positive, marks);
+    let mut rest = sets::without(positive, marked);
     let mut m: EdgeSet = 0;
-    let mut e: usize = 0;
-    while e < flows.len() {
-        let joins = is_fresh(tails, heads, flows, vertices, marks, e);
-        m = sets::with(m, joins, e);
-        e += 1;
+    while rest != 0 {
+        let e = sets::lowest(rest);
+        let joins = singular_by(heads, leaving, positive, vertices, e as usize);
+        m = sets::with(m, joins, e as usize);
+        rest = sets::drop(rest, e);
     }
     m
 }

@@ -1,24 +1,27 @@
 -- Why the tests of a turn's steps can be run byte by byte: the steps from i on are the step at i and those after it, so one turn of the loop leaves the same test.
 -- And why the sets have room: where every step is on the board, each edge is one of the board's, of which there are no more than a set has bits.
-use mathlib.Core.Path.{_≡_, refl}
+use mathlib.Core.Path.{_≡_, refl, ap}
 use mathlib.Core.Bool.{Bool, true, false}
 use mathlib.Core.Logic.{inl, inr}
 use mathlib.Core.List.{List, [], _∷_}
-use Prim.Native.Nat.{ℕ, zero, suc, _+_, _<_, _≤_}
+use Prim.Native.Nat.{ℕ, zero, suc, _+_, _<_, _≤_, _^_}
 use native.Mathlib.Numerals.{add-one}
 use native.Mathlib.Omega.{arith}
 use lib.ListN.{length, getD, drop, drop-of-length-le}
 use lib.Seq.{drop-cons}
 use borrow.Author.Tests.{ltb-true}
 use Rattle.lists.specs.Choice.{pick}
+use Rattle.sets.specs.Sets.{setWidth}
 use Rattle.board.specs.Limits.{maxEdges}
 use Rattle.flows.specs.Trails.{Step, edgeOf}
 use Rattle.flows.proofs.Change.{In}
 use Rattle.steps.specs.Steps.{stepOf, stepsOf, InSets, every, isCycle}
 use Rattle.steps.proofs.Cycled.{every-in}
+use Rattle.marking.specs.Marking.{singularBy, Charted}
+use Rattle.marking.proofs.Following.{singular-same}
 use Rattle.turning.specs.declared.StepRule.{StepRule}
 use Rattle.turning.specs.declared.StepRule.the-variants.{OnBoard, Positive, UpSingular}
-use Rattle.turning.specs.Turns.{meetsBy, stepsRefusal}
+use Rattle.turning.specs.Turns.{meetsIn, meetsBy, stepsRefusal}
 
 -- a test of every step that has passed i of them
 module _ (p : Step → Bool) (s : List ℕ) (i : ℕ) where
@@ -79,3 +82,9 @@ module _ (anyOpen : Bool) (edges : ℕ) (tails heads flows : List ℕ) (vertices
         pub accepted : meet Positive ≡ true → meet UpSingular ≡ true → 0 ≡ stepsRefusal anyOpen edges tails heads flows vertices w
         unfolding stepsRefusal pick
         accepted f u = rw (o, y, s, f, u)
+
+-- the edges of up-steps are singular by the sets where they are by the lists
+pub ups-same : (tails heads flows leaving : List ℕ) (positive : ℕ) → Charted tails heads flows leaving positive → positive < 2 ^ setWidth → (edges vertices : ℕ) (w : List Step)
+    → every (meetsIn UpSingular edges flows (singularBy heads leaving positive vertices)) w ≡ every (meetsBy UpSingular edges tails heads flows vertices) w
+ups-same tails heads flows leaving positive chart fits edges vertices w =
+    ap (λ (single : ℕ → Bool). every (meetsIn UpSingular edges flows single) w) (λ i e. singular-same tails heads flows leaving positive chart fits vertices e i)

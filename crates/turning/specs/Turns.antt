@@ -2,12 +2,12 @@
 use mathlib.Core.Path.{_≡_}
 use mathlib.Core.Bool.{Bool, true, false}
 use mathlib.Core.List.{List}
-use Prim.Native.Nat.{ℕ, _≤_}
+use Prim.Native.Nat.{ℕ, _≤_, _<_}
 use lib.Dec.{ltb, eqb}
 use lib.ListN.{length, getD}
 use Rattle.lists.specs.Choice.{pick}
 use Rattle.sets.specs.Sets.{joined, collect}
-use Rattle.board.specs.Limits.{maxEdges, maxTerminals, maxTotal}
+use Rattle.board.specs.Limits.{maxVertices, maxEdges, maxTerminals, maxTotal}
 use Rattle.board.specs.declared.Board.{Board}
 use Rattle.board.specs.declared.Network.{Network}
 use Rattle.board.specs.declared.Played.{Played}
@@ -96,8 +96,9 @@ turnChange play anyOpen net flows marks places w =
     let number = turnRefusalIn play anyOpen net flows w in
     pick (eqb number 0) (turnedIn net flows marks places w) (unchanged number flows marks places)
 
--- what a turn needs of the parts of a board in play: the sets have room for its edges, and no flow and no demand is large
+-- what a turn needs of the parts of a board in play: the sets have room for its edges, each leads to a vertex, and no flow and no demand is large
 pub record Sound (net : Network) (flows : List ℕ) : Type 0 where
   pub room : net .edges ≤ maxEdges
+  pub headed : length (net .heads) ≡ maxEdges → (e : ℕ) → getD (net .heads) e 0 < maxVertices
   pub small : length flows ≡ maxEdges → AtMost maxTotal flows
   pub asked : length (net .demands) ≡ maxTerminals → AtMost maxTotal (net .demands)

@@ -16,8 +16,9 @@ ghost use Rattle.lists.specs.Choice.{pick};
 ghost use Rattle.flows.specs.Trails.{edgeOf};
 ghost use Rattle.board.specs.Limits.{maxEdges, maxMoves};
 ghost use Rattle.steps.specs.Steps.{stepOf, stepsOf, InSets, isUp, every};
-ghost use Rattle.marking.specs.Marking.{singularIn};
-ghost use Rattle.turning.specs.Turns.{meetsIn, meetsBy, stepsRefusal, turnRefusalIn, turnRefusal, turnedIn, turnChange, turnCall, Sound};
+ghost use Rattle.incidence.specs.Incidence.{Incident, Positive};
+ghost use Rattle.marking.specs.Marking.{singularBy, Charted};
+ghost use Rattle.turning.specs.Turns.{meetsIn, stepsRefusal, turnRefusalIn, turnRefusal, turnedIn, turnChange, turnCall, Sound};
 
 // The rules that each step of a turn keeps.
 pub enum StepRule {
@@ -34,7 +35,7 @@ fn on_board(edges: u32, s: u8) -> bool
 }
 
 // The edge has a flow.
-fn positive(flows: &[u32], s: u8) -> bool
+fn has_flow(flows: &[u32], s: u8) -> bool
     ensures { λ r. ⌜ r ≡ ltb 0 (getD (now (flows .entry)) (edgeOf (stepOf s)) 0) ⌝ }
 {
     let e = steps::edge_of(s) as usize;
@@ -43,37 +44,38 @@ fn positive(flows: &[u32], s: u8) -> bool
 
 // An up-step's edge is singular.
 fn up_singular<'a>(
-    tails: &'a [u32],
     heads: &'a [u32],
-    flows: &'a [u32],
+    leaving: &'a [EdgeSet],
+    positive: EdgeSet,
     vertices: u32,
     s: u8,
 ) -> bool
-    ensures { λ r. ⌜ r ≡ pick (isUp (stepOf s)) (singularIn (now (tails .entry)) (now (heads .entry)) (now (flows .entry)) vertices (edgeOf (stepOf s))) true ⌝ }
+    ensures { λ r. ⌜ r ≡ pick (isUp (stepOf s)) (singularBy (now (heads .entry)) (now (leaving .entry)) positive vertices (edgeOf (stepOf s))) true ⌝ }
 {
     if !steps::is_up(s) {
         return true;
     }
     let e = steps::edge_of(s) as usize;
-    marking::singular_in(tails, heads, flows, vertices, e)
+    marking::singular_by(heads, leaving, positive, vertices, e)
 }
 
+// Whether a step keeps a rule.
 fn meets<'a>(
     rule: StepRule,
     edges: u32,
-    tails: &'a [u32],
     heads: &'a [u32],
     flows: &'a [u32],
+    leaving: &'a [EdgeSet],
+    positive: EdgeSet,
     vertices: u32,
     s: u8,
 ) -> bool
-    ensures { λ r. ⌜ r ≡ meetsIn rule edges (now (flows .entry))
-        (singularIn (now (tails .entry)) (now (heads .entry)) (now (flows .entry)) vertices) (stepOf s) ⌝ }
+    ensures { λ r. ⌜ r ≡ meetsIn rule edges (now (flows .entry)) (singularBy (now (heads .entry)) (now (leaving .entry)) positive vertices) (stepOf s) ⌝ }
 {
     match rule {
         StepRule::OnBoard => on_board(edges, s),
-        StepRule::Positive => positive(flows, s),
-        StepRule::UpSingular => up_singular(tails, heads, flows, vertices, s),
+        StepRule::Positive => has_flow(flows, s),
+        StepRule::UpSingular => up_singular(heads, leaving, positive, vertices, s),
     }
 }
 
@@ -81,17 +83,28 @@ fn meets<'a>(
 fn all_meet<'a>(
     rule: StepRule,
     edges: u32,
-    tails: &'a [u32],
     heads: &'a [u32],
     flows: &'a [u32],
+    leaving: &'a [EdgeSet],
+    positive: EdgeSet,
     vertices: u32,
     steps: &'a [u8],
 ) -> bool
-    ensures { λ r. ⌜ r ≡ every (meetsBy rule edges (now (tails .entry)) (now (heads .entry)) (now (flows .entry)) vertices) (stepsOf (now (steps .entry))) ⌝ }
+    ensures { λ r. ⌜ r ≡ every (meetsIn rule edges (now (flows .entry)) (singularBy (now (heads .entry)) (now (leaving .entry)) positive vertices))
+        (stepsOf (now (steps .entry))) ⌝ }
 {
     let mut i: usize = 0;
     while i < steps.len() {
-        if !meets(rule, edges, tails, heads, flows, vertices, steps[i]) {
+        if !meets(
+            rule,
+            edges,
+            heads,
+            flows,
+            leaving,
+            positive,
+            vertices,
+            steps[i],
+        ) {
             return false;
         }
         i += 1;
@@ -106,18 +119,22 @@ fn steps_refusal<'a>(
     tails: &'a [u32],
     heads: &'a [u32],
     flows: &'a [u32],
+    leaving: &'a [EdgeSet],
+    positive: EdgeSet,
     vertices: u32,
     steps: &'a [u8],
 ) -> u32
     requires { ⌜ edges ≤ maxEdges ⌝ }
+    requires { ⌜ Charted (now tails) (now heads) (now flows) (now leaving) positive ⌝ }
     ensures { λ r. ⌜ r ≡ stepsRefusal «any_open» edges (now (tails .entry)) (now (heads .entry)) (now (flows .entry)) vertices (stepsOf (now (steps .entry))) ⌝ }
 {
     if !all_meet(
         StepRule::OnBoard,
         edges,
-        tails,
         heads,
         flows,
+        leaving,
+        positive,
         vertices,
         steps,
     ) {
@@ -132,9 +149,10 @@ fn steps_refusal<'a>(
     if !all_meet(
         StepRule::Positive,
         edges,
-        tails,
         heads,
         flows,
+        leaving,
+        positive,
         vertices,
         steps,
     ) {
@@ -143,9 +161,10 @@ fn steps_refusal<'a>(
     if !all_meet(
         StepRule::UpSingular,
         edges,
-        tails,
         heads,
         flows,
+        leaving,
+        positive,
         vertices,
         steps,
     ) {
@@ -154,15 +173,19 @@ fn steps_refusal<'a>(
     0
 }
 
-// 20 where the board is not in play, or what the steps are refused with.
-fn refusal(
+// 20 where the board is not in play, or what the steps are refused with. The sets are of the edges that leave each vertex, and of the positive ones.
+fn refusal<'a>(
     in_play: bool,
     any_open: bool,
     net: Network,
     flows: [u32; Board::MAX_EDGES],
-    steps: &[u8],
+    leaving: &'a [EdgeSet],
+    positive: EdgeSet,
+    steps: &'a [u8],
 ) -> u32
-    requires { ⌜ («in_play» ≡ true → net .edges ≤ maxEdges) ⌝ }
+    requires { ⌜ («in_play» ≡ true → Sound net flows) ⌝ }
+    requires { ⌜ Incident (net .tails) (now leaving) ⌝ }
+    requires { ⌜ Positive flows positive ⌝ }
     ensures { λ r. ⌜ r ≡ turnRefusalIn «in_play» «any_open» net flows (stepsOf (now (steps .entry))) ⌝ }
 {
     if !in_play {
@@ -174,6 +197,8 @@ fn refusal(
         &net.tails,
         &net.heads,
         &flows,
+        leaving,
+        positive,
         net.vertices,
         steps,
     )
@@ -188,18 +213,25 @@ pub fn turn_refusal(board: Board, steps: &[u8]) -> u32
     let flows = board.flows;
     let places = board.places;
     let any_open = opening::some_open_in(net, &flows, board.marks, &places);
-    refusal(play, any_open, net, flows, steps)
+    let tails = net.tails;
+    let leaving = incidence::at_vertices(tails);
+    let positive = incidence::positive(flows);
+    refusal(play, any_open, net, flows, &leaving, positive, steps)
 }
 
 // What an accepted turn changes.
-fn turned(
+fn turned<'a>(
     net: Network,
     flows: [u32; Board::MAX_EDGES],
     marks: EdgeSet,
     places: [u32; Board::MAX_TERMINALS],
-    steps: &[u8],
+    leaving: &'a [EdgeSet],
+    positive: EdgeSet,
+    steps: &'a [u8],
 ) -> Change
     requires { ⌜ Sound net flows ⌝ }
+    requires { ⌜ Incident (net .tails) (now leaving) ⌝ }
+    requires { ⌜ Positive flows positive ⌝ }
     requires { ⌜ InSets (now steps) ⌝ }
     ensures { λ r. ⌜ r ≡ turnedIn net flows marks places (stepsOf (now (steps .entry))) ⌝ }
 {
@@ -213,7 +245,7 @@ fn turned(
     );
     let down = steps::gather(false, steps);
     let up = steps::gather(true, steps);
-    let fresh = marking::fresh_among(&net.tails, &net.heads, &flows, net.vertices, marks);
+    let fresh = marking::fresh_by(&net.heads, leaving, positive, net.vertices, marks);
     let shifted = shifting::shifted(amount, down, up, flows);
     let marks = sets::joined(marks, fresh);
     let entry = Entry {
@@ -233,7 +265,39 @@ fn turned(
     }
 }
 
-// What a turn changes on a board of these parts; `in_play` says whether the board is in play, `any_open` whether a carry is open.
+// What a turn changes on a board of these parts; `in_play` says whether the board is in play, `any_open` whether a carry is open. `leaving` has for each vertex
+// the set of the edges that leave it, and `positive` is the set of the positive ones.
+pub fn change_by<'a>(
+    in_play: bool,
+    any_open: bool,
+    net: Network,
+    flows: [u32; Board::MAX_EDGES],
+    marks: EdgeSet,
+    places: [u32; Board::MAX_TERMINALS],
+    leaving: &'a [EdgeSet],
+    positive: EdgeSet,
+    steps: &'a [u8],
+) -> Change
+    requires { ⌜ («in_play» ≡ true → Sound net flows) ⌝ }
+    requires { ⌜ Incident (net .tails) (now leaving) ⌝ }
+    requires { ⌜ Positive flows positive ⌝ }
+    ensures { λ r. ⌜ r ≡ turnChange «in_play» «any_open» net flows marks places (stepsOf (now (steps .entry))) ⌝ }
+{
+    let number = refusal(in_play, any_open, net, flows, leaving, positive, steps);
+    if number != 0 {
+        let blank = Entry::blank();
+        return Change {
+            answer: number,
+            flows: flows,
+            marks: marks,
+            places: places,
+            entry: blank,
+        };
+    }
+    turned(net, flows, marks, places, leaving, positive, steps)
+}
+
+// The same, with the sets made here.
 pub fn change(
     in_play: bool,
     any_open: bool,
@@ -246,18 +310,20 @@ pub fn change(
     requires { ⌜ («in_play» ≡ true → Sound net flows) ⌝ }
     ensures { λ r. ⌜ r ≡ turnChange «in_play» «any_open» net flows marks places (stepsOf (now (steps .entry))) ⌝ }
 {
-    let number = refusal(in_play, any_open, net, flows, steps);
-    if number != 0 {
-        let blank = Entry::blank();
-        return Change {
-            answer: number,
-            flows: flows,
-            marks: marks,
-            places: places,
-            entry: blank,
-        };
-    }
-    turned(net, flows, marks, places, steps)
+    let tails = net.tails;
+    let leaving = incidence::at_vertices(tails);
+    let positive = incidence::positive(flows);
+    change_by(
+        in_play,
+        any_open,
+        net,
+        flows,
+        marks,
+        places,
+        &leaving,
+        positive,
+        steps,
+    )
 }
 
 // Where the journal has the last of so many moves.

@@ -4,7 +4,8 @@ use Prim.Native.Nat.{_-_}
 use lib.ListN.{length, drop}
 use borrow.Author.Tests.{not-true, not-false}
 use Rattle.steps.specs.Steps.{stepsOf, every}
-use Rattle.turning.specs.Turns.{meetsBy}
+use Rattle.marking.specs.Marking.{singularBy}
+use Rattle.turning.specs.Turns.{meetsIn}
 use Rattle.turning.proofs.Passing.{every-hit, every-miss, every-end}
 use borrow.Author.Needs.{needs}
 use native.Mathlib.Omega.{arith}
@@ -12,12 +13,12 @@ use Rattle.turning.proofs.all_meet.Statement.{statement}
 use Rattle.turning.proofs.all_meet.Tie as tie
 
 abbrev Inv-loop : tie.InvT-loop
-Inv-loop rule edges tails heads flows vertices steps i₀ i =
-    every (meetsBy rule edges tails heads flows vertices) (stepsOf (drop i steps))
-    ≡ every (meetsBy rule edges tails heads flows vertices) (stepsOf steps)
+Inv-loop rule edges heads flows leaving positive vertices steps i₀ i =
+    every (meetsIn rule edges flows (singularBy heads leaving positive vertices)) (stepsOf (drop i steps))
+    ≡ every (meetsIn rule edges flows (singularBy heads leaving positive vertices)) (stepsOf steps)
 
 abbrev μ-loop : tie.MeasureT-loop
-μ-loop rule edges tails heads flows vertices steps i₀ i = length steps - i
+μ-loop rule edges heads flows leaving positive vertices steps i₀ i = length steps - i
 
 loop-holds : tie.Need-loop-holds Inv-loop μ-loop
 loop-holds c = refl

@@ -11,8 +11,8 @@ on-board-requires c κs = search needs
 enum-told-2 : tie.Need-enum-told-2
 enum-told-2 c = search needs
 
-positive-requires : tie.Need-positive-requires
-positive-requires c κs = search needs
+has-flow-requires : tie.Need-has-flow-requires
+has-flow-requires c κs = search needs
 
 enum-told-3 : tie.Need-enum-told-3
 enum-told-3 c = search needs
@@ -24,7 +24,7 @@ returns : tie.Need-returns
 returns c = rw (c .before .enum-told .given .1) (c .on-board .ensures)
 
 returns-2 : tie.Need-returns-2
-returns-2 c = rw (c .before .enum-told2 .given .1) (c .positive .ensures)
+returns-2 c = rw (c .before .enum-told2 .given .1) (c .has-flow .ensures)
 
 returns-3 : tie.Need-returns-3
 returns-3 c = rw (c .before .enum-told3 .given .1) (c .up-singular .ensures)
@@ -36,7 +36,7 @@ meets-spec =
     enum-told
     on-board-requires
     enum-told-2
-    positive-requires
+    has-flow-requires
     enum-told-3
     up-singular-requires
     returns

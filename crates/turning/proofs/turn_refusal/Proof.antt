@@ -1,11 +1,10 @@
 -- The parts of a board in play are sound, and its refusal is that of its parts.
 use mathlib.Core.Path.{sym, ap₂, _∙_}
 use denote.Ref.{now}
-use Rattle.guard.proofs.Facts.{playing-edges}
 use Rattle.opening.proofs.Same.{some-same}
 use Rattle.steps.specs.Steps.{stepsOf}
 use Rattle.turning.specs.Turns.{turnRefusalIn}
-use Rattle.turning.proofs.Changes.{refusal-same}
+use Rattle.turning.proofs.Changes.{playing-sound, refusal-same}
 use borrow.Author.Needs.{needs}
 use Rattle.turning.proofs.turn_refusal.Statement.{statement}
 use Rattle.turning.proofs.turn_refusal.Tie as tie
@@ -22,14 +21,25 @@ slice-aggregate-some-open-in-2 c = search needs
 some-open-in-requires : tie.Need-some-open-in-requires
 some-open-in-requires c κs = search needs
 
+at-vertices-requires : tie.Need-at-vertices-requires
+at-vertices-requires c κs = search needs
+
+positive-requires : tie.Need-positive-requires
+positive-requires c κs = search needs
+
+slice-aggregate-refusal : tie.Need-slice-aggregate-refusal
+slice-aggregate-refusal c = search needs
+
 refusal-requires : tie.Need-refusal-requires
-refusal-requires c κs = λ play. playing-edges _ (sym (c .before .before .before .before .before .before .playing .ensures) ∙ play)
+refusal-requires c κs = ((λ play. playing-sound _ (sym (c .before .before .before .before .before .before .before .before .before .before .playing .ensures) ∙ play)), (c .before .before .at-vertices .ensures, c .before .positive .ensures))
 
 returns : tie.Need-returns
 returns c =
-    let board = c .before .before .before .before .before .before .before .before .before .args .board in
-    let w = stepsOf (now (c .before .before .before .before .before .before .before .before .before .args .steps)) in
-    c .refusal .ensures ∙ ap₂ (λ p o. turnRefusalIn p o (board .network) (board .flows) w) (c .before .before .before .before .before .before .before .playing .ensures) (c .before .some-open-in .ensures ∙ some-same board) ∙ refusal-same board w
+    let board = c .before .before .before .before .before .before .before .before .before .before .before .before .before .args .board in
+    let w = stepsOf (now (c .before .before .before .before .before .before .before .before .before .before .before .before .before .args .steps)) in
+    c .refusal .ensures
+    ∙ ap₂ (λ p o. turnRefusalIn p o (board .network) (board .flows) w) (c .before .before .before .before .before .before .before .before .before .before .before .playing .ensures) (c .before .before .before .before .before .some-open-in .ensures ∙ some-same board)
+    ∙ refusal-same board w
 
 pub turn-refusal-spec : {M : Type 1} → statement M
 turn-refusal-spec =
@@ -39,5 +49,8 @@ turn-refusal-spec =
     slice-aggregate-some-open-in
     slice-aggregate-some-open-in-2
     some-open-in-requires
+    at-vertices-requires
+    positive-requires
+    slice-aggregate-refusal
     refusal-requires
     returns)

@@ -18,17 +18,17 @@ edge-of-requires c κs = search needs
 cast-e : tie.Need-cast-e
 cast-e c = search needs
 
-singular-in-requires : tie.Need-singular-in-requires
-singular-in-requires c κs = search needs
+singular-by-requires : tie.Need-singular-by-requires
+singular-by-requires c κs = search needs
 
 returns-2 : tie.Need-returns-2
 unfolding pick
 returns-2 c =
     let at-if1 = c .before .before in
     let rises = sym (at-if1 .before .is-up .ensures) ∙ not-false _ (at-if1 .if1 .left) in
-    rw (c .singular-in .ensures, c .before .edge-of .ensures, rises)
+    rw (c .singular-by .ensures, c .before .edge-of .ensures, rises)
 
 pub up-singular-spec : {M : Type 1} → statement M
 up-singular-spec =
     tie.close
-    (tie.spec is-up-requires returns edge-of-requires cast-e singular-in-requires returns-2)
+    (tie.spec is-up-requires returns edge-of-requires cast-e singular-by-requires returns-2)

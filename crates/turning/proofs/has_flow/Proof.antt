@@ -1,6 +1,6 @@
 use borrow.Author.Needs.{needs}
-use Rattle.turning.proofs.positive.Statement.{statement}
-use Rattle.turning.proofs.positive.Tie as tie
+use Rattle.turning.proofs.has_flow.Statement.{statement}
+use Rattle.turning.proofs.has_flow.Tie as tie
 
 edge-of-requires : tie.Need-edge-of-requires
 edge-of-requires c κs = search needs
@@ -14,5 +14,5 @@ word-at-requires c κs = search needs
 returns : tie.Need-returns
 returns c = cc
 
-pub positive-spec : {M : Type 1} → statement M
-positive-spec = tie.close (tie.spec edge-of-requires cast-e word-at-requires returns)
+pub has-flow-spec : {M : Type 1} → statement M
+has-flow-spec = tie.close (tie.spec edge-of-requires cast-e word-at-requires returns)

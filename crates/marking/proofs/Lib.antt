@@ -1,0 +1,3 @@
+pub mod Ways
+pub mod Gathering
+pub mod Following
