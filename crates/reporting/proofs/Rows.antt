@@ -1,18 +1,19 @@
 -- The lines of the report. A row is filled edge by edge, so its first numbers are those of the row it is to be. The rows over the counts and the rows of a board's moves
 -- are those of its routes and loads, since each route has room in its row.
-use mathlib.Core.Path.{_≡_, refl}
+use mathlib.Core.Path.{_≡_, refl, ap}
 use mathlib.Core.Bool.{true}
-use mathlib.Core.List.{List, _∷_}
+use mathlib.Core.List.{List, [], _∷_}
 use Prim.Native.Nat.{ℕ, zero, suc, _+_, _<_, _≤_}
 use native.Mathlib.Numerals.{add-one}
 use native.Mathlib.Omega.{arith}
 use lib.ListN.{length, getD, set, take}
 use lib.Seq.{take-suc, take-suc-set}
-use Rattle.board.specs.Limits.{maxVertices, maxTerminals}
+use Rattle.board.specs.Limits.{maxVertices, maxEdges, maxTerminals}
 use Rattle.board.specs.declared.Board.{Board}
+use Rattle.board.specs.declared.Network.{Network}
 use Rattle.text.specs.Text.{linesText}
-use Rattle.routing.specs.Tables.{countsOf, rowsOf, routesFit}
-use Rattle.routing.proofs.Read.{counts-route, fits-at, row-route, table-load}
+use Rattle.routing.specs.Tables.{countsOf, rowsOf, routesFit, AreRouteSets, setLoad}
+use Rattle.routing.proofs.Read.{counts-route, fits-at, row-route, table-load, set-load}
 use Rattle.reporting.specs.Reports.{routeRow, loadRow}
 use Rattle.reporting.specs.Rows.{tableRouteRow, tableLoadRow}
 
@@ -28,6 +29,16 @@ lines-same : (x : ℕ) (f g : ℕ → List ℕ) (i k : ℕ) → ((j : ℕ) → j
 unfolding linesText
 lines-same x f g i zero same = refl
 lines-same x f g i (suc k) same = rw (same i (omega arith), lines-same x f g (suc i) k (λ j h. same j (omega arith)))
+
+-- the line of an edge by the sets of the routes, and that those lines are the ones by the rows
+abbrev pub setLoadRow : List ℕ → List ℕ → List ℕ → ℕ → ℕ → List ℕ
+setLoadRow flows demands routes terminals e = e ∷ getD flows e 0 ∷ setLoad routes demands e terminals ∷ []
+
+pub set-lines : (net : Network) (counts : List ℕ) (rows : List (List ℕ)) (routes : List ℕ) → net .edges ≤ maxEdges → AreRouteSets routes counts rows (net .terminals)
+    → linesText 76 (setLoadRow (net .flows) (net .demands) routes (net .terminals)) 0 (net .edges) ≡ linesText 76 (tableLoadRow net counts rows) 0 (net .edges)
+set-lines net counts rows routes few are =
+    lines-same 76 (setLoadRow (net .flows) (net .demands) routes (net .terminals)) (tableLoadRow net counts rows) 0 (net .edges)
+    (λ j h. ap (λ (n : ℕ). j ∷ getD (net .flows) j 0 ∷ n ∷ []) (set-load routes counts rows (net .demands) j (net .terminals) are (omega arith)))
 
 -- the counts and the rows of a board's moves
 abbrev pub countsBy : Board → List ℕ

@@ -109,22 +109,6 @@ fn put_routes(
     to
 }
 
-// The numbers of the line of an edge.
-fn load_row(
-    net: Network,
-    counts: [u32; Board::MAX_TERMINALS],
-    rows: [[u32; Board::MAX_VERTICES as usize]; Board::MAX_TERMINALS],
-    e: u32,
-) -> [u32; 3]
-    requires { ⌜ (net .terminals ≤ maxTerminals) × Moderate (net .demands) ⌝ }
-    ensures { λ r. ⌜ r ≡ tableLoadRow net counts rows e ⌝ }
-{
-    let first = lists::word_at(&net.flows, e as usize);
-    let demands = net.demands;
-    let load = routing::load(counts, rows, demands, net.terminals, e);
-    [e, first, load]
-}
-
 // Writes the lines of the loads.
 fn put_loads(
     buf: &mut [u8],
@@ -139,10 +123,16 @@ fn put_loads(
     ensures { λ r. ⌜ now (buf .exit) ≡ sets (now (buf .entry)) at (linesText 76 (tableLoadRow net counts rows) 0 (net .edges)) ⌝ }
 {
     let edges = net.edges;
+    let terminals = net.terminals;
+    let flows = net.flows;
+    let demands = net.demands;
+    let routes = routing::edge_sets(counts, rows, terminals);
     let mut to = at;
     let mut e: u32 = 0;
     while e < edges {
-        let row = load_row(net, counts, rows, e);
+        let flow = flows[e as usize];
+        let load = routing::load(routes, demands, terminals, e);
+        let row = [e, flow, load];
         to = printing::put_line(buf, to, b'L', &row);
         e += 1;
     }

@@ -13,11 +13,11 @@ use Rattle.lists.specs.Lists.{all}
 use Rattle.lists.specs.Members.{has}
 use Rattle.lists.proofs.Laws.{Known, was-true, was-false, known, all-from}
 use Rattle.lists.proofs.Totals.{total-same}
-use Rattle.board.specs.Limits.{maxVertices, maxTerminals}
+use Rattle.sets.specs.Sets.{hasBit}
+use Rattle.board.specs.Limits.{maxVertices, maxEdges, maxTerminals}
 use Rattle.board.specs.declared.Board.{Board}
 use Rattle.routing.specs.Routes.{route, share, load}
-use Rattle.routing.specs.Tables.{rowOf, countsOf, rowsOf, rowAt, routesFit, tableLoad}
-use Rattle.routing.proofs.Walks.{part}
+use Rattle.routing.specs.Tables.{rowOf, countsOf, rowsOf, rowAt, routesFit, tableLoad, AreRouteSets, setLoad}
 use Rattle.routing.proofs.Filling.{counts-at, rows-at}
 
 -- tests that agree below the bound
@@ -60,7 +60,7 @@ pub table-load : (b : Board) (e : ℕ) → b .network .terminals ≤ maxTerminal
 unfolding tableLoad load
 table-load b e h fit =
     total-same
-    (part (countsOf (take (b .moves) (b .journal))) (rowsOf (take (b .moves) (b .journal))) (b .network .demands) e)
+    (λ i. pick (has e (rowAt (countsOf (take (b .moves) (b .journal))) (rowsOf (take (b .moves) (b .journal))) i)) (getD (b .network .demands) i 0) 0)
     (share b e)
     0
     (b .network .terminals)
@@ -68,3 +68,15 @@ table-load b e h fit =
     let inside : j < b .network .terminals = omega arith in
     let same = row-route b j (omega arith) (fits-at b j fit inside) in
     ap (λ (es : List ℕ). pick (has e es) (getD (b .network .demands) j 0) 0) same)
+
+-- the sets of the routes give the same loads as the rows
+pub set-load : (routes counts : List ℕ) (rows : List (List ℕ)) (demands : List ℕ) (e n : ℕ) → AreRouteSets routes counts rows n → e < maxEdges
+    → setLoad routes demands e n ≡ tableLoad counts rows demands e n
+unfolding setLoad tableLoad
+set-load routes counts rows demands e n are h =
+    total-same
+    (λ i. pick (hasBit (getD routes i 0) e) (getD demands i 0) 0)
+    (λ i. pick (has e (rowAt counts rows i)) (getD demands i 0) 0)
+    0
+    n
+    (λ j a l. ap (λ (t : Bool). pick t (getD demands j 0) 0) (are j (omega arith) e h))

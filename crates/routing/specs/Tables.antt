@@ -1,14 +1,16 @@
 -- The routes as a table: document 01, "a row of channel numbers for each mill".
+use mathlib.Core.Path.{_≡_}
 use mathlib.Core.Bool.{Bool}
 use mathlib.Core.List.{List, [], _∷_}
-use Prim.Native.Nat.{ℕ, zero, suc, _≤_}
+use Prim.Native.Nat.{ℕ, zero, suc, _≤_, _<_}
 use lib.Dec.{leb}
 use lib.ListN.{length, getD, take, replicate}
 use lib.Seq.{sets}
 use Rattle.lists.specs.Choice.{pick}
 use Rattle.lists.specs.Lists.{all, total}
 use Rattle.lists.specs.Members.{has}
-use Rattle.board.specs.Limits.{maxVertices, maxTerminals, maxFlow}
+use Rattle.sets.specs.Sets.{hasBit}
+use Rattle.board.specs.Limits.{maxVertices, maxEdges, maxTerminals, maxFlow}
 use Rattle.board.specs.declared.Board.{Board}
 use Rattle.board.specs.declared.Entry.{Entry}
 use Rattle.routing.specs.Routes.{routeBy, route}
@@ -44,3 +46,15 @@ tableLoad counts rows demands e terminals = total (λ i. pick (has e (rowAt coun
 -- no demand is above the greatest, so that no sum of them wraps
 abbrev pub Moderate : List ℕ → Type 0
 Moderate demands = (i : ℕ) → getD demands i 0 ≤ maxFlow
+
+-- the set has the edges of the list; no other number matters
+abbrev pub IsSetOf : ℕ → List ℕ → Type 0
+IsSetOf set es = (e : ℕ) → e < maxEdges → hasBit set e ≡ has e es
+
+-- a set for each terminal has the edges of its route
+abbrev pub AreRouteSets : List ℕ → List ℕ → List (List ℕ) → ℕ → Type 0
+AreRouteSets routes counts rows terminals = (i : ℕ) → i < terminals → IsSetOf (getD routes i 0) (rowAt counts rows i)
+
+-- "the sum of needs routed over it", over the sets
+unfoldable pub setLoad : List ℕ → List ℕ → ℕ → ℕ → ℕ
+setLoad routes demands e terminals = total (λ i. pick (hasBit (getD routes i 0) e) (getD demands i 0) 0) 0 terminals

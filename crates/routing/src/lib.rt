@@ -1,5 +1,6 @@
 // Routes and loads of a board.
 use board::Board;
+use board::EdgeSet;
 use board::Entry;
 use board::Move;
 ghost use mathlib.Core.Path.{_≡_};
@@ -7,9 +8,8 @@ ghost use Prim.Native.Nat.{_≤_};
 ghost use lib.Dec.{leb};
 ghost use lib.ListN.{getD, take};
 ghost use Rattle.lists.specs.Lists.{all};
-ghost use Rattle.lists.specs.Members.{has};
 ghost use Rattle.board.specs.Limits.{maxVertices, maxTerminals};
-ghost use Rattle.routing.specs.Tables.{rowsOf, countsOf, tableLoad, Moderate};
+ghost use Rattle.routing.specs.Tables.{rowsOf, countsOf, IsSetOf, AreRouteSets, setLoad, Moderate};
 
 // The routes by the first moves of a journal, from the last of them to the first: a row of edges for each terminal, 0 behind them. `counts` gets how many
 // edges each route has; a row holds as many of them as there is room for.
@@ -64,48 +64,68 @@ pub fn routes_fit(counts: [u32; Board::MAX_TERMINALS], terminals: u32) -> bool
     true
 }
 
-// Whether the edges hold e.
-fn holds(edges: &[u32], e: u32) -> bool
-    ensures { λ r. ⌜ r ≡ has e (now (edges .entry)) ⌝ }
+// The edges as a set. A number that is no edge's is left out.
+fn edge_set(edges: &[u32]) -> EdgeSet
+    ensures { λ r. ⌜ IsSetOf r (now (edges .entry)) ⌝ }
 {
+    let mut set: EdgeSet = 0;
     let mut i: usize = 0;
     while i < edges.len() {
-        if edges[i] == e {
-            return true;
+        let e = edges[i] as usize;
+        if e < Board::MAX_EDGES {
+            set = sets::with(set, true, e);
         }
         i += 1;
     }
-    false
+    set
 }
 
-// Whether e is among the first edges of a row, count of them.
-fn among(edges: [u32; Board::MAX_VERTICES as usize], count: usize, e: u32) -> bool
-    ensures { λ r. ⌜ r ≡ has e (take count edges) ⌝ }
+// The first edges of a row, count of them, as a set.
+fn row_set(edges: [u32; Board::MAX_VERTICES as usize], count: usize) -> EdgeSet
+    ensures { λ r. ⌜ IsSetOf r (take count edges) ⌝ }
 {
     if count < Board::MAX_VERTICES as usize {
-        holds(&edges[..count], e)
+        edge_set(&edges[..count])
     } else {
-        holds(&edges, e)
+        edge_set(&edges)
     }
+}
+
+// The route of each terminal as a set, so that whether it holds an edge is one test.
+pub fn edge_sets(
+    counts: [u32; Board::MAX_TERMINALS],
+    rows: [[u32; Board::MAX_VERTICES as usize]; Board::MAX_TERMINALS],
+    terminals: u32,
+) -> [EdgeSet; Board::MAX_TERMINALS]
+    requires { ⌜ terminals ≤ maxTerminals ⌝ }
+    ensures { λ r. ⌜ AreRouteSets r counts rows terminals ⌝ }
+{
+    let mut routes = [0u64; Board::MAX_TERMINALS];
+    let mut i: usize = 0;
+    while i < terminals as usize {
+        let row = rows[i];
+        let count = counts[i];
+        routes[i] = row_set(row, count as usize);
+        i += 1;
+    }
+    routes
 }
 
 // The sum of the demands of the terminals whose routes hold e.
 pub fn load(
-    counts: [u32; Board::MAX_TERMINALS],
-    rows: [[u32; Board::MAX_VERTICES as usize]; Board::MAX_TERMINALS],
+    routes: [EdgeSet; Board::MAX_TERMINALS],
     demands: [u32; Board::MAX_TERMINALS],
     terminals: u32,
     e: u32,
 ) -> u32
     requires { ⌜ (terminals ≤ maxTerminals) × Moderate demands ⌝ }
-    ensures { λ r. ⌜ r ≡ tableLoad counts rows demands e terminals ⌝ }
+    ensures { λ r. ⌜ r ≡ setLoad routes demands e terminals ⌝ }
 {
     let mut sum: u32 = 0;
     let mut i: usize = 0;
     while i < terminals as usize {
-        let row = rows[i];
-        let count = counts[i];
-        if among(row, count as usize, e) {
+        let route = routes[i];
+        if sets::has(route, e as usize) {
             sum += demands[i];
         }
         i += 1;

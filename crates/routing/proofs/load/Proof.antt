@@ -6,69 +6,59 @@ use native.Mathlib.Omega.{arith}
 use borrow.Author.Needs.{needs}
 use Rattle.lists.specs.Lists.{total}
 use Rattle.board.specs.Limits.{maxTerminals, maxFlow}
-use Rattle.routing.specs.Tables.{tableLoad}
+use Rattle.routing.specs.Tables.{setLoad}
 use Rattle.routing.proofs.Walks.{part, load-start, load-turn, total-end}
 use Rattle.routing.proofs.load.Statement.{statement}
 use Rattle.routing.proofs.load.Tie as tie
 
 abbrev Inv-loop : tie.InvT-loop
-Inv-loop terminals e counts rows demands sum₀ i₀ sum i =
-    (sum ≤ i * maxFlow) × (sum + total (part counts rows demands e) i (terminals - i) ≡ total (part counts rows demands e) 0 terminals)
+Inv-loop terminals e routes demands sum₀ i₀ sum i =
+    (sum ≤ i * maxFlow) × (sum + total (part routes demands e) i (terminals - i) ≡ total (part routes demands e) 0 terminals)
 
 abbrev μ-loop : tie.MeasureT-loop
-μ-loop terminals e counts rows demands sum₀ i₀ sum i = terminals - i
+μ-loop terminals e routes demands sum₀ i₀ sum i = terminals - i
 
 loop-holds : tie.Need-loop-holds Inv-loop μ-loop
 loop-holds c = load-start _ _
 
-mul-row : tie.Need-mul-row Inv-loop μ-loop
-mul-row c = search needs
+mul-route : tie.Need-mul-route Inv-loop μ-loop
+mul-route c = search needs
 
-array-copy-out-row : tie.Need-array-copy-out-row Inv-loop μ-loop
-array-copy-out-row c = omega (arith, c .before .before .pre .0, c .loop-test .taken)
+array-read-route : tie.Need-array-read-route Inv-loop μ-loop
+array-read-route c = omega (arith, c .before .before .pre .0, c .loop-test .taken)
 
-mul-count : tie.Need-mul-count Inv-loop μ-loop
-mul-count c = search needs
-
-array-read-count : tie.Need-array-read-count Inv-loop μ-loop
-array-read-count c = omega (arith, c .before .before .before .pre .0, c .before .loop-test .taken)
-
-cast-among : tie.Need-cast-among Inv-loop μ-loop
-cast-among c = search needs
-
-among-requires : tie.Need-among-requires Inv-loop μ-loop
-among-requires c κs = search needs
+has-requires : tie.Need-has-requires Inv-loop μ-loop
+has-requires c κs = search needs
 
 mul-sum : tie.Need-mul-sum Inv-loop μ-loop
 mul-sum c = search needs
 
 array-read-sum : tie.Need-array-read-sum Inv-loop μ-loop
-array-read-sum c = omega (arith, c .before .before .before .before .before .pre .0, c .before .before .before .loop-test .taken)
+array-read-sum c = omega (arith, c .before .before .before .before .pre .0, c .before .before .loop-test .taken)
 
 add-sum : tie.Need-add-sum Inv-loop μ-loop
 add-sum c =
-    let start = c .before .before .before .before .before in
-    let at-loop = c .before .before .before .before .loop in
+    let start = c .before .before .before .before in
+    let at-loop = c .before .before .before .loop in
     let small = start .pre .1 (at-loop .i) in
-    let room : at-loop .i < maxTerminals = omega (arith, start .pre .0, c .before .before .before .loop-test .taken) in
+    let room : at-loop .i < maxTerminals = omega (arith, start .pre .0, c .before .before .loop-test .taken) in
     omega (arith, at-loop .inv .0)
 
 add-i : tie.Need-add-i Inv-loop μ-loop
 add-i c = search needs
 
 loop-less : tie.Need-loop-less Inv-loop μ-loop
-loop-less c = omega (arith, c .before .before .before .loop-test .taken)
+loop-less c = omega (arith, c .before .before .loop-test .taken)
 
 loop-again : tie.Need-loop-again Inv-loop μ-loop
 loop-again c =
-    let at-among = c .before .among in
-    let at-loop-test = c .before .before .before .loop-test in
-    let at-loop = c .before .before .before .before .loop in
-    let start = c .before .before .before .before .before in
+    let at-has = c .before .has in
+    let at-loop-test = c .before .before .loop-test in
+    let at-loop = c .before .before .before .loop in
+    let start = c .before .before .before .before in
     load-turn
     (start .args .t1)
     (start .args .t2)
-    (start .args .t3)
     (start .args .e)
     (start .args .terminals)
     (at-loop .i)
@@ -77,13 +67,13 @@ loop-again c =
     _
     _
     (at-loop-test .taken)
-    (at-among .ensures)
+    (at-has .ensures)
     (⊎-elim (λ w. inl (w .0 .taken, w .1)) (λ w. inr (w .0 .left, w .1)) (c .if1 .came))
     (start .pre .1 (at-loop .i))
     (at-loop .inv)
 
 returns : tie.Need-returns Inv-loop μ-loop
-unfolding tableLoad
+unfolding setLoad
 returns c = total-end _ _ _ _ _ (c .loop-test .left) (c .before .loop .inv .1)
 
 pub load-spec : {M : Type 1} → statement M
@@ -93,12 +83,9 @@ load-spec =
     Inv-loop
     μ-loop
     loop-holds
-    mul-row
-    array-copy-out-row
-    mul-count
-    array-read-count
-    cast-among
-    among-requires
+    mul-route
+    array-read-route
+    has-requires
     mul-sum
     array-read-sum
     add-sum

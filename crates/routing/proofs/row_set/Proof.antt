@@ -5,8 +5,8 @@ use lib.Seq.{length-take-le, take-all}
 use native.Mathlib.Omega.{arith}
 use borrow.Author.Needs.{needs}
 use Rattle.board.specs.Limits.{maxVertices}
-use Rattle.routing.proofs.among.Statement.{statement}
-use Rattle.routing.proofs.among.Tie as tie
+use Rattle.routing.proofs.row_set.Statement.{statement}
+use Rattle.routing.proofs.row_set.Tie as tie
 
 cast-if1 : tie.Need-cast-if1
 cast-if1 c = search needs
@@ -14,20 +14,20 @@ cast-if1 c = search needs
 array-share-prefix-edges : tie.Need-array-share-prefix-edges
 array-share-prefix-edges c = search needs
 
-slice-aggregate-holds : tie.Need-slice-aggregate-holds
-slice-aggregate-holds c =
+slice-aggregate-edge-set : tie.Need-slice-aggregate-edge-set
+slice-aggregate-edge-set c =
     let start = c .before .before in
     let long : length (start .args .t1) ≡ maxVertices = search needs in
     sym (length-take-le _ _ (omega (arith, c .before .if1 .taken)))
 
-holds-requires : tie.Need-holds-requires
-holds-requires c κs = search needs
+edge-set-requires : tie.Need-edge-set-requires
+edge-set-requires c κs = search needs
 
-slice-aggregate-holds-2 : tie.Need-slice-aggregate-holds-2
-slice-aggregate-holds-2 c = search needs
+slice-aggregate-edge-set-2 : tie.Need-slice-aggregate-edge-set-2
+slice-aggregate-edge-set-2 c = search needs
 
-holds-requires-2 : tie.Need-holds-requires-2
-holds-requires-2 c κs = search needs
+edge-set-requires-2 : tie.Need-edge-set-requires-2
+edge-set-requires-2 c κs = search needs
 
 returns : tie.Need-returns
 returns c = search needs
@@ -36,17 +36,17 @@ returns-2 : tie.Need-returns-2
 returns-2 c =
     let start = c .before .before .before in
     let long : length (start .args .t1) ≡ maxVertices = search needs in
-    rw (take-all (start .args .count) (start .args .t1) (omega (arith, c .before .before .if1 .left))) (c .holds2 .ensures)
+    rw (take-all (start .args .count) (start .args .t1) (omega (arith, c .before .before .if1 .left))) (c .edge-set2 .ensures)
 
-pub among-spec : {M : Type 1} → statement M
-among-spec =
+pub row-set-spec : {M : Type 1} → statement M
+row-set-spec =
     tie.close
     (tie.spec
     cast-if1
     array-share-prefix-edges
-    slice-aggregate-holds
-    holds-requires
-    slice-aggregate-holds-2
-    holds-requires-2
+    slice-aggregate-edge-set
+    edge-set-requires
+    slice-aggregate-edge-set-2
+    edge-set-requires-2
     returns
     returns-2)
