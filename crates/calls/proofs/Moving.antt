@@ -20,10 +20,9 @@ use Rattle.journal.specs.declared.Change.{Change}
 use Rattle.journal.specs.Moved.{lastEntry}
 use Rattle.guard.specs.Guard.{playing}
 use Rattle.carrying.specs.Carries.{carryChange}
-use Rattle.carrying.proofs.Parts.{change-stored, change-refused}
+use Rattle.journal.proofs.Stores.{change-stored, change-refused, back-stored, back-refused}
 use Rattle.carrying.proofs.Makes.{carry-by-change, carry-room}
 use Rattle.undoing.specs.Undone.{undoChange}
-use Rattle.undoing.proofs.Parts.{back-stored, back-refused}
 use Rattle.undoing.proofs.Makes.{undo-by-change, undo-room, undo-blanks}
 use Rattle.calls.specs.declared.Reply.{Reply}
 use Rattle.calls.specs.Calls.{carry, undo, made, played, answers, isHint, plain, Replied, adviceCode, behind}

@@ -9,15 +9,7 @@ use board::Relocation;
 use journal::Change;
 ghost use mathlib.Core.Path.{_≡_};
 ghost use Rattle.journal.specs.Moved.{unchanged};
-ghost use Rattle.opening.specs.Opens.{flowFits};
 ghost use Rattle.carrying.specs.Carries.{carryRefusal, carryCall, carryRefusalIn, carriedIn, carryChange};
-
-// Whether the flow of an edge allows a carry of that demand.
-fn flow_fits(mark: bool, flow: u32, demand: u32) -> bool
-    ensures { λ r. ⌜ r ≡ flowFits mark flow demand ⌝ }
-{
-    if mark { flow == demand } else { demand <= flow }
-}
 
 // 20, 6, 21, 22 or 23, in this order; 0 where the carry is accepted.
 fn refusal(
@@ -49,7 +41,7 @@ fn refusal(
     let mark = sets::has(marks, e as usize);
     let flow = lists::word_at(&flows, e as usize);
     let demand = lists::word_at(&net.demands, i as usize);
-    if !flow_fits(mark, flow, demand) {
+    if !opening::flow_fits(mark, flow, demand) {
         return 23;
     }
     0

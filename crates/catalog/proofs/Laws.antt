@@ -10,7 +10,7 @@ use lib.Seq.{sets, sets-eq, drop-drop, drop-length}
 use borrow.Author.Tests.{le-leb, lt-leb}
 use Rattle.lists.specs.Choice.{pick}
 use Rattle.text.specs.Text.{lineText, linesText}
-use Rattle.lines.proofs.Turns.{rest-part}
+use Rattle.lists.proofs.Laws.{rest-part}
 use Rattle.printing.proofs.Writing.{Left, left-part, left-none}
 use Rattle.catalog.specs.Catalog.{boards, span, boardsFrom, tableRow, boardText, catalogText, catalogCall, catalogued}
 

@@ -10,13 +10,12 @@ use lib.ListN.{length, take, drop, length-drop}
 use lib.Seq.{take-append-seam}
 use borrow.Author.Tests.{leb-true, eqb-true}
 use Rattle.lists.specs.Lists.{indexOf, keyed}
-use Rattle.lists.proofs.Laws.{both-left, both-right, lt-or-ge}
+use Rattle.lists.proofs.Laws.{both-left, both-right, lt-or-ge, rest-part}
 use Rattle.decimal.specs.Decimal.{decimal, numberOf}
 use Rattle.text.specs.Text.{numbersText}
 use Rattle.text.specs.Results.{readText}
 use Rattle.catalog.specs.Table.{table}
 use Rattle.catalog.specs.Catalog.{boards, span, boardsFrom, boardText, catalogText, catalogCall, catalogued, accepted, allAccepted}
-use Rattle.lines.proofs.Turns.{rest-part}
 use Rattle.catalog.proofs.Laws.{call-none, call-short, call-done}
 
 pub all-accepted : allAccepted boards table ≡ true

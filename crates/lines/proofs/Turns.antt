@@ -7,12 +7,12 @@ use native.Mathlib.Numerals.{add-one}
 use native.Mathlib.Omega.{arith}
 use lib.Dec.{leb, ltb}
 use lib.ListN.{length, getD, take, drop, set, length-drop, drop-of-length-le}
-use lib.Seq.{drop-cons, take-suc-set, drop-drop, take-all, length-take-le, getD-take}
+use lib.Seq.{drop-cons, take-suc-set, drop-drop, length-take-le, getD-take}
 use borrow.Author.Tests.{lt-ltb, le-ltb, eq-eqb, ne-eqb}
 use Rattle.lists.specs.Choice.{pick, both}
 use Rattle.lists.specs.Lists.{indexOf}
 use Rattle.text.proofs.Ends.{end-after}
-use Rattle.lists.proofs.Laws.{pick-yes, pick-no}
+use Rattle.lists.proofs.Laws.{pick-yes, pick-no, rest-part}
 use Rattle.decimal.specs.declared.Number.{Number}
 use Rattle.decimal.specs.declared.Number.the-variants.{Value, Malformed}
 use Rattle.decimal.specs.Decimal.{numberOf}
@@ -121,10 +121,6 @@ pub two-bytes : (s : List ℕ) → getD s 1 0 ≡ 44 → 2 ≤ length s
 two-bytes [] h = absurd (omega arith)
 two-bytes (a ∷ []) h = absurd (omega arith)
 two-bytes (a ∷ b ∷ s) h = omega arith
-
--- the part of a slice from `at` on, as the code lends it
-pub rest-part : (s : List ℕ) (at : ℕ) → take (length s - at) (drop at s) ≡ drop at s
-rest-part s at = take-all (length s - at) (drop at s) (let e = length-drop at s in omega arith)
 
 pub rest-used : (s : List ℕ) (at used : ℕ) → at ≤ length s → used ≤ length (take (length s - at) (drop at s)) → at + used ≤ length s
 rest-used s at used h u = let e = ap length (rest-part s at) in let d = length-drop at s in omega arith

@@ -8,8 +8,8 @@ use native.Mathlib.Numerals.{add-one}
 use native.Mathlib.Nat.{zero-add, add-zero}
 use native.Mathlib.Omega.{arith}
 use lib.Dec.{ltb, eqb}
-use lib.ListN.{length, getD, drop, drop-of-length-le}
-use lib.Seq.{drop-cons}
+use lib.ListN.{length, getD, take, drop, length-drop, drop-of-length-le}
+use lib.Seq.{drop-cons, take-all}
 use borrow.Author.Tests.{ltb-true, ltb-false, eqb-true, eqb-false, eq-eqb, ne-eqb}
 use Rattle.lists.specs.Choice.{pick, both, either}
 use Rattle.lists.specs.Lists.{indexOf, all, lowest, keyed, sumAt}
@@ -180,3 +180,7 @@ sum-turn ks xs v i sum total x h e ex inv =
 pub sum-end : (ks xs : List ℕ) (v i sum total : ℕ) → length ks ≤ i → sum + sumAt (drop i ks) (drop i xs) v ≡ total → sum ≡ total
 unfolding sumAt
 sum-end ks xs v i sum total h inv = sym (add-zero sum) ∙ rw (drop-of-length-le ks h) at inv
+
+-- the rest of a slice, as it arrives from `&s[a..]`
+pub rest-part : {A : Type 0} (s : List A) (a : ℕ) → take (length s - a) (drop a s) ≡ drop a s
+rest-part s a = take-all (length s - a) (drop a s) (omega (arith, length-drop a s))

@@ -55,15 +55,6 @@ pub fn put_byte(s: &mut [u8], i: usize, b: u8)
     }
 }
 
-// Stores a bool at i, and nothing past the end.
-pub fn put_bool(s: &mut [bool], i: usize, b: bool)
-    ensures { λ r. ⌜ now (s .exit) ≡ set (now (s .entry)) i b ⌝ }
-{
-    if i < s.len() {
-        s[i] = b;
-    }
-}
-
 // Stores a number at i, and nothing past the end.
 pub fn put_word(s: &mut [u32], i: usize, x: u32)
     ensures { λ r. ⌜ now (s .exit) ≡ set (now (s .entry)) i x ⌝ }

@@ -6,34 +6,13 @@ ghost use mathlib.Core.Path.{_≡_};
 ghost use lib.Dec.{ltb};
 ghost use lib.ListN.{getD};
 ghost use Rattle.lists.specs.Lists.{lowest};
-ghost use Rattle.guard.specs.Parts.{flow, demand, marked};
-ghost use Rattle.opening.specs.Opens.{flowFits, enters, openEdge, openTerminal, isOpenAt, hasOpenIn, someOpenIn};
+ghost use Rattle.opening.specs.Opens.{flowFits, isOpenAt, hasOpenIn, someOpenIn};
 
-fn flow_fits(mark: bool, flow: u32, demand: u32) -> bool
+// Whether the flow of an edge allows a carry of that demand.
+pub fn flow_fits(mark: bool, flow: u32, demand: u32) -> bool
     ensures { λ r. ⌜ r ≡ flowFits mark flow demand ⌝ }
 {
     if mark { flow == demand } else { demand <= flow }
-}
-
-// Whether the flow of edge e allows a carry of terminal i.
-pub fn fits(board: Board, i: u32, e: u32) -> bool
-    ensures { λ r. ⌜ r ≡ flowFits (marked board e) (flow board e) (demand board i) ⌝ }
-{
-    let net = board.network;
-    let mark = sets::has(board.marks, e as usize);
-    let flow = lists::word_at(&board.flows, e as usize);
-    let demand = lists::word_at(&net.demands, i as usize);
-    flow_fits(mark, flow, demand)
-}
-
-// Whether edge e enters the vertex that terminal i is at.
-pub fn enters(board: Board, i: u32, e: u32) -> bool
-    ensures { λ r. ⌜ r ≡ enters board i e ⌝ }
-{
-    let net = board.network;
-    let head = lists::word_at(&net.heads, e as usize);
-    let place = lists::word_at(&board.places, i as usize);
-    head == place
 }
 
 // Whether the carry over edge e is open for a terminal with that place and demand.
@@ -75,23 +54,6 @@ fn lowest_open<'a>(
     e
 }
 
-// The lowest edge of an open carry of terminal i, or the count of edges.
-pub fn open_edge(board: Board, i: u32) -> u32
-    ensures { λ r. ⌜ r ≡ openEdge board i ⌝ }
-{
-    let net = board.network;
-    let place = lists::word_at(&board.places, i as usize);
-    let demand = lists::word_at(&net.demands, i as usize);
-    lowest_open(
-        &net.heads,
-        &board.flows,
-        board.marks,
-        place,
-        demand,
-        net.edges,
-    )
-}
-
 // Whether terminal i has an open carry.
 fn has_open<'a>(
     heads: &'a [u32],
@@ -123,14 +85,6 @@ fn lowest_terminal<'a>(net: Network, flows: &'a [u32], marks: EdgeSet, places: &
         i += 1;
     }
     i
-}
-
-// The lowest terminal with an open carry, or the count of terminals.
-pub fn open_terminal(board: Board) -> u32
-    ensures { λ r. ⌜ r ≡ openTerminal board ⌝ }
-{
-    let net = board.network;
-    lowest_terminal(net, &board.flows, board.marks, &board.places)
 }
 
 // Whether some carry is open on a network with these flows, marks and places.

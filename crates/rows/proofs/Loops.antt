@@ -14,7 +14,8 @@ use Rattle.text.specs.declared.Line.{Line}
 use Rattle.board.specs.declared.Network.{Network}
 use Rattle.text.specs.Views.{lineRead, headerPart}
 use Rattle.text.specs.Text.{Read, refused, got, then, line, lines, headRanges, edgeRanges, terminalRanges, header, headed, withEdges, withTerminals, edgeLines, terminalLines}
-use Rattle.lines.proofs.Turns.{rest-part, answered-got, answered-refused, lines-turn, lines-stop}
+use Rattle.lists.proofs.Laws.{rest-part}
+use Rattle.lines.proofs.Turns.{answered-got, answered-refused, lines-turn, lines-stop}
 
 -- a run of k lines of which i are read, and the line read next
 module _ (x n : ℕ) (rs : List Range) (k i at : ℕ) (s : List ℕ) (f : List (List ℕ) → List ℕ → Read Network) (total : Read Network)

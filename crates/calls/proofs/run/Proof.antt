@@ -14,7 +14,7 @@ use Rattle.board.specs.Limits.{maxEdges, maxTerminals}
 use Rattle.board.specs.declared.Board.{Board}
 use Rattle.journal.specs.Moved.{lastEntry}
 use Rattle.guard.specs.Guard.{playing}
-use Rattle.carrying.proofs.Parts.{last-read, in-play}
+use Rattle.guard.proofs.Parts.{last-read, in-play}
 use Rattle.undoing.proofs.Makes.{undo-small}
 use Rattle.calls.specs.Calls.{made, plain}
 use Rattle.calls.specs.Codes.{callOf}

@@ -9,7 +9,8 @@ use Rattle.board.specs.declared.Board.{Board}
 use Rattle.journal.specs.Moved.{lastEntry, changed}
 use Rattle.guard.specs.Guard.{playing}
 use Rattle.carrying.specs.Carries.{carryCall}
-use Rattle.carrying.proofs.Parts.{last-read, in-play, change-stored, change-past, change-refused}
+use Rattle.journal.proofs.Stores.{change-stored, change-past, change-refused}
+use Rattle.guard.proofs.Parts.{last-read, in-play}
 use Rattle.carrying.proofs.Makes.{carry-by-change, carry-room}
 use borrow.Author.Needs.{needs}
 use Rattle.carrying.proofs.carry.Statement.{statement}

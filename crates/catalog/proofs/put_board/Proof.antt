@@ -4,7 +4,7 @@ use Prim.Native.Nat.{_+_, _*_}
 use native.Mathlib.Omega.{arith}
 use lib.ListN.{length, length-take, length-drop}
 use lib.Seq.{length-take-le}
-use Rattle.lines.proofs.Turns.{rest-part}
+use Rattle.lists.proofs.Laws.{rest-part}
 use Rattle.catalog.proofs.Laws.{board-written}
 use borrow.Author.Needs.{needs}
 use Rattle.catalog.proofs.put_board.Statement.{statement}

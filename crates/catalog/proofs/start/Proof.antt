@@ -7,7 +7,7 @@ use native.Mathlib.Omega.{arith}
 use lib.ListN.{length, drop}
 use lib.Seq.{getD-drop}
 use Rattle.catalog.specs.Catalog.{span, boardsFrom}
-use Rattle.lines.proofs.Turns.{rest-part}
+use Rattle.lists.proofs.Laws.{rest-part}
 use Rattle.catalog.proofs.Laws.{boards-turned, boards-reached}
 use Rattle.catalog.proofs.start.Statement.{statement}
 use Rattle.catalog.proofs.start.Tie as tie

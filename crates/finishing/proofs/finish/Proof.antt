@@ -6,7 +6,7 @@ use lib.ListN.{length, length-map}
 use borrow.Author.Tests.{not-true, not-false}
 use Rattle.board.specs.Limits.{maxMoves}
 use Rattle.guard.specs.Guard.{playing}
-use Rattle.carrying.proofs.Parts.{last-read, in-play}
+use Rattle.guard.proofs.Parts.{last-read, in-play}
 use Rattle.choosing.specs.Choosing.{allHome}
 use Rattle.finishing.proofs.Stepping.{finish-closed, finish-stuck, finish-made}
 use Rattle.finishing.proofs.Following.{home-same}

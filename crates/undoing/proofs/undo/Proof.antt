@@ -8,7 +8,8 @@ use Rattle.board.specs.Limits.{maxEdges, maxTerminals, maxMoves}
 use Rattle.board.specs.declared.Board.{Board}
 use Rattle.journal.specs.Moved.{lastEntry}
 use Rattle.guard.specs.Guard.{playing}
-use Rattle.undoing.proofs.Parts.{last-read, in-play, back-stored, back-past, back-refused}
+use Rattle.journal.proofs.Stores.{back-stored, back-past, back-refused}
+use Rattle.guard.proofs.Parts.{last-read, in-play}
 use Rattle.undoing.proofs.Makes.{undo-by-change, undo-small}
 use borrow.Author.Needs.{needs, length-unmapped}
 use Rattle.undoing.proofs.undo.Statement.{statement}

@@ -1,0 +1,53 @@
+-- A call by the parts of its board: what the code stores is the board that the change names. A store past the end of the journal changes nothing.
+use mathlib.Core.Path.{_≡_, refl, sym, ap, _∙_}
+use mathlib.Core.List.{List}
+use mathlib.Core.Logic.{_≢_}
+use Prim.Native.Nat.{ℕ, _+_, _-_, _≤_}
+use lib.ListN.{length, set}
+use lib.Seq.{set-out}
+use Rattle.board.specs.Record.{blank}
+use Rattle.board.specs.declared.Board.{Board}
+use Rattle.board.specs.declared.Entry.{Entry}
+use Rattle.board.specs.declared.Played.{Played}
+use Rattle.journal.specs.declared.Change.{Change}
+use Rattle.journal.specs.Moved.{moved, changed, changedBack}
+use Rattle.journal.proofs.Answers.{answered-yes, answered-no}
+
+module _ (b : Board) (c : Change) where
+  -- what the code stores where the number is 0: the changed parts, a journal and a count of moves
+  abbrev stored : List Entry → ℕ → Played
+  stored journal moves = record {
+    answer = c .answer;
+    board = record {
+      stage = b .stage;
+      network = b .network;
+      acyclic = b .acyclic;
+      flows = c .flows;
+      marks = c .marks;
+      places = c .places;
+      journal = journal;
+      moves = moves;
+      «finish_from» = b .«finish_from»;
+    };
+  }
+
+  -- one more move
+  pub change-stored : c .answer ≡ 0 → stored (moved b (c .flows) (c .marks) (c .places) (c .entry) .journal) (b .moves + 1) ≡ changed b c
+  change-stored h = rw h (sym (answered-yes 0 b _ refl))
+
+  pub change-past : c .answer ≡ 0 → length (b .journal) ≤ b .moves → stored (b .journal) (b .moves + 1) ≡ changed b c
+  change-past h past = ap (λ (journal : List Entry). stored journal (b .moves + 1)) (sym (set-out (b .journal) (b .moves) (c .entry) past)) ∙ change-stored h
+
+  pub change-refused : c .answer ≢ 0 → record { answer = c .answer; board = b } ≡ changed b c
+  change-refused h = sym (answered-no (c .answer) b _ h)
+
+  -- one less
+  module _ (rest : ℕ) (nothing : Entry) (er : rest ≡ b .moves - 1) (en : nothing ≡ blank) (h : c .answer ≡ 0) where
+    pub back-stored : stored (set (b .journal) rest nothing) rest ≡ changedBack b c
+    back-stored = rw (er, en, h) (sym (answered-yes 0 b _ refl))
+
+    pub back-past : length (b .journal) ≤ rest → stored (b .journal) rest ≡ changedBack b c
+    back-past past = ap (λ (journal : List Entry). stored journal rest) (sym (set-out (b .journal) rest nothing past)) ∙ back-stored
+
+  pub back-refused : c .answer ≢ 0 → record { answer = c .answer; board = b } ≡ changedBack b c
+  back-refused h = sym (answered-no (c .answer) b _ h)
