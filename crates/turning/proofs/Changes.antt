@@ -32,7 +32,7 @@ use Rattle.marking.specs.Marking.{singular, isFresh, fresh, Charted}
 use Rattle.amounts.specs.Amounts.{amountFrom, amount}
 use Rattle.turning.proofs.Passing.{in-sets}
 use Rattle.turning.specs.declared.StepRule.the-variants.{OnBoard}
-use Rattle.turning.specs.Turns.{meetsBy, stepsRefusal, turnRefusalIn, turnRefusal, turned, turnedIn, turnChange, turnCall, Sound}
+use Rattle.turning.specs.Turns.{meetsOn, stepsRefusal, turnRefusalIn, turnRefusal, turned, turnedIn, turnChange, turnCall, Sound}
 
 -- a board in play is sound: the end of an edge is one of its vertices, and that of a place past the edges is 0
 module _ (b : Board) (play : playing b ≡ true) where
@@ -131,7 +131,7 @@ module _ (play anyOpen : Bool) (net : Network) (flows : List ℕ) where
   unfolding turnRefusalIn stepsRefusal
   accepted-sets s h sound =
       let now = sound (accepted-plays (stepsOf s) h) in
-      let on = pick-passed (every (meetsBy OnBoard (net .edges) (net .tails) (net .heads) flows (net .vertices)) (stepsOf s)) _ 5 (pick-passed play _ 19 h .1) .0 in
+      let on = pick-passed (every (meetsOn OnBoard (net .edges) (net .tails) (net .heads) flows (net .vertices)) (stepsOf s)) _ 5 (pick-passed play _ 19 h .1) .0 in
       (now, in-sets (net .edges) (net .tails) (net .heads) flows (net .vertices) (now .room) s on)
 
 -- what the call changes on a board

@@ -21,7 +21,7 @@ use Rattle.marking.specs.Marking.{singularBy, Charted}
 use Rattle.marking.proofs.Following.{singular-same}
 use Rattle.turning.specs.declared.StepRule.{StepRule}
 use Rattle.turning.specs.declared.StepRule.the-variants.{OnBoard, Positive, UpSingular}
-use Rattle.turning.specs.Turns.{meetsIn, meetsBy, stepsRefusal}
+use Rattle.turning.specs.Turns.{meetsIn, meetsOn, stepsRefusal}
 
 -- a test of every step that has passed i of them
 module _ (p : Step → Bool) (s : List ℕ) (i : ℕ) where
@@ -45,16 +45,16 @@ in-steps (x ∷ s) (suc i) h = inr (in-steps s i (omega arith))
 
 -- where every step is on the board
 module _ (edges : ℕ) (tails heads flows : List ℕ) (vertices : ℕ) (room : edges ≤ maxEdges) where
-  pub in-sets : (s : List ℕ) → every (meetsBy OnBoard edges tails heads flows vertices) (stepsOf s) ≡ true → InSets s
+  pub in-sets : (s : List ℕ) → every (meetsOn OnBoard edges tails heads flows vertices) (stepsOf s) ≡ true → InSets s
   in-sets s on i h =
       let there : edgeOf (stepOf (getD s i 0)) < edges =
-      ltb-true _ _ (every-in (meetsBy OnBoard edges tails heads flows vertices) (stepsOf s) (stepOf (getD s i 0)) on (in-steps s i h)) in
+      ltb-true _ _ (every-in (meetsOn OnBoard edges tails heads flows vertices) (stepsOf s) (stepOf (getD s i 0)) on (in-steps s i h)) in
       omega arith
 
 -- the tests in their order, each with the number it refuses with
 module _ (anyOpen : Bool) (edges : ℕ) (tails heads flows : List ℕ) (vertices : ℕ) (w : List Step) where
   abbrev meet : StepRule → Bool
-  meet rule = every (meetsBy rule edges tails heads flows vertices) w
+  meet rule = every (meetsOn rule edges tails heads flows vertices) w
 
   pub refused-6 : meet OnBoard ≡ false → 6 ≡ stepsRefusal anyOpen edges tails heads flows vertices w
   unfolding stepsRefusal pick
@@ -85,6 +85,6 @@ module _ (anyOpen : Bool) (edges : ℕ) (tails heads flows : List ℕ) (vertices
 
 -- the edges of up-steps are singular by the sets where they are by the lists
 pub ups-same : (tails heads flows leaving : List ℕ) (positive : ℕ) → Charted tails heads flows leaving positive → positive < 2 ^ setWidth → (edges vertices : ℕ) (w : List Step)
-    → every (meetsIn UpSingular edges flows (singularBy heads leaving positive vertices)) w ≡ every (meetsBy UpSingular edges tails heads flows vertices) w
+    → every (meetsIn UpSingular edges flows (singularBy heads leaving positive vertices)) w ≡ every (meetsOn UpSingular edges tails heads flows vertices) w
 ups-same tails heads flows leaving positive chart fits edges vertices w =
     ap (λ (single : ℕ → Bool). every (meetsIn UpSingular edges flows single) w) (λ i e. singular-same tails heads flows leaving positive chart fits vertices e i)

@@ -46,14 +46,14 @@ turnRefusal b w =
     20
 
 -- the rules of a step, and the tests of the steps in their order, by the lists of a network with these flows; `anyOpen` says whether a carry is open
-abbrev pub meetsBy : StepRule → ℕ → List ℕ → List ℕ → List ℕ → ℕ → Step → Bool
-meetsBy rule edges tails heads flows vertices s = meetsIn rule edges flows (singularIn tails heads flows vertices) s
+abbrev pub meetsOn : StepRule → ℕ → List ℕ → List ℕ → List ℕ → ℕ → Step → Bool
+meetsOn rule edges tails heads flows vertices s = meetsIn rule edges flows (singularIn tails heads flows vertices) s
 
 unfoldable pub stepsRefusal : Bool → ℕ → List ℕ → List ℕ → List ℕ → ℕ → List Step → ℕ
 stepsRefusal anyOpen edges tails heads flows vertices w =
-    pick (every (meetsBy OnBoard edges tails heads flows vertices) w)
+    pick (every (meetsOn OnBoard edges tails heads flows vertices) w)
     (pick (isCycle tails heads w)
-    (pick anyOpen 24 (pick (every (meetsBy Positive edges tails heads flows vertices) w) (pick (every (meetsBy UpSingular edges tails heads flows vertices) w) 0 26) 25))
+    (pick anyOpen 24 (pick (every (meetsOn Positive edges tails heads flows vertices) w) (pick (every (meetsOn UpSingular edges tails heads flows vertices) w) 0 26) 25))
     7)
     6
 
