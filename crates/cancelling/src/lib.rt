@@ -1,6 +1,6 @@
 // Cycle cancelling, over plain slices: edge e goes from tails[e] to heads[e], and a set of vertices has a bool for each, a row a bit.
 ghost use mathlib.Core.Path.{_≡_};
-ghost use Prim.Native.Nat.{_≤_};
+ghost use Prim.Native.Nat.{_≤_, _<_};
 ghost use lib.ListN.{length};
 ghost use Rattle.sets.specs.Sets.{setWidth};
 ghost use Rattle.graph.specs.Graph.{reached};
@@ -9,22 +9,24 @@ ghost use Rattle.cycles.specs.Cycles.{cycleFrom};
 ghost use Rattle.lowering.specs.Lowering.{lowerCycle};
 ghost use Rattle.cancelling.specs.Cancelling.{acyclicFlows};
 
-// Cancels the cycle that the walk from v finds: the rows have the vertices that each vertex reaches. The set and the walk are for its use.
+// Cancels the cycle that the walk from v finds: the rows have the vertices that each vertex reaches. The set, the walk and then the rows are for
+// its use.
 fn cancel_from<'a>(
     tails: &'a [u32],
     heads: &'a [u32],
     flows: &mut [u32],
     v: u32,
-    rows: &'a [u64],
     seen: &mut [bool],
     walk: &mut [usize],
+    rows: &mut [u64],
 )
-    requires { ⌜ (length (now seen) ≡ length (now walk)) × (length (now seen) ≡ length (now rows)) ⌝ }
+    requires { ⌜ (length (now heads) ≤ length (now flows)) × (length (now flows) ≤ setWidth) ⌝ }
+    requires { ⌜ (length (now seen) ≡ length (now walk)) × (length (now seen) ≡ length (now rows)) × (v < length (now rows)) ⌝ }
     requires { ⌜ column (now rows) v ≡ reached (now heads) (now tails) (now flows) (length (now seen)) v ⌝ }
     ensures { λ _. ⌜ now (flows .exit) ≡ lowerCycle (now (flows .entry)) (cycleFrom (now (tails .entry)) (now (heads .entry)) (length (now (seen .entry))) (now (flows .entry)) v) ⌝ }
 {
-    graph::column(rows, v, seen);
-    let span = cycles::follow(tails, heads, &*flows, &*seen, v, walk);
+    graph::column(&*rows, v, seen);
+    let span = cycles::follow(tails, heads, &*flows, &*seen, v, walk, rows);
     let from = span.from;
     let to = span.from + span.count;
     lowering::lower_cycle(flows, &walk[from..to]);
@@ -40,6 +42,7 @@ pub fn cancel<'a>(
     walk: &mut [usize],
     rows: &mut [u64],
 )
+    requires { ⌜ (length (now heads) ≤ length (now flows)) × (length (now flows) ≤ setWidth) ⌝ }
     requires { ⌜ (n ≡ length (now seen)) × (n ≡ length (now walk)) × (n ≡ length (now rows)) × (n ≤ setWidth) ⌝ }
     ensures { λ _. ⌜ now (flows .exit) ≡ acyclicFlows (now (tails .entry)) (now (heads .entry)) n (now (flows .entry)) ⌝ }
 {
@@ -49,7 +52,7 @@ pub fn cancel<'a>(
         if n <= v {
             return;
         }
-        cancel_from(tails, heads, flows, v, &*rows, seen, walk);
+        cancel_from(tails, heads, flows, v, seen, walk, rows);
         round += 1;
     }
 }

@@ -13,13 +13,12 @@ use borrow.Author.Tests.{eq-eqb, ne-eqb, lt-ltb, le-ltb}
 use Rattle.lists.specs.Choice.{pick, both, either}
 use Rattle.lists.specs.Lists.{lowest}
 use Rattle.lists.proofs.Laws.{Known, was-true, was-false, known, eq-or-ne, pick-yes, pick-no, lowest-hit, lowest-miss, lowest-end}
-use Rattle.lists.proofs.Lowest.{Least, lowest-least}
 use Rattle.sets.specs.Sets.{setWidth, hasBit, withBit}
 use Rattle.sets.proofs.Bits.{has-none, has-with-same, has-with-other}
-use Rattle.sets.proofs.Scan.{lowest-is}
 use Rattle.graph.specs.Graph.{reached, leads, onward}
 use Rattle.graph.specs.Rows.{column}
 use Rattle.graph.proofs.Columns.{column-at, either-true, either-false}
+use Rattle.graph.proofs.Onwards.{cut-found, cut-none}
 use Rattle.cycles.specs.Cycles.{onCycle, cycleVertex}
 
 module _ (tails heads flows rows : List ℕ) where
@@ -89,21 +88,13 @@ module _ (tails heads flows rows : List ℕ) (n m v : ℕ) (fits : n ≤ setWidt
   unfolding onCycle
   same u h = on u ∙ rw (rest u h)
 
-  least : Least (hasBit m) 0 setWidth v
-  least = rw low (lowest-least (hasBit m) 0 setWidth)
-
   pub vertex-found : v < n → v ≡ cycleVertex tails heads n flows
   unfolding cycleVertex
-  vertex-found h =
-      sym
-      (lowest-is (onCycle tails heads n flows) n v (omega arith) (λ l. sym (same v l) ∙ least .hit (omega arith))
-      (λ u l. sym (same u (omega arith)) ∙ least .miss u (omega arith) l))
+  vertex-found h = cut-found (onCycle tails heads n flows) (hasBit m) n setWidth v fits same low h
 
   pub vertex-none : n ≤ v → n ≡ cycleVertex tails heads n flows
   unfolding cycleVertex
-  vertex-none h =
-      sym
-      (lowest-is (onCycle tails heads n flows) n n (omega arith) (λ l. absurd (omega arith)) (λ u l. sym (same u l) ∙ least .miss u (omega arith) (omega arith)))
+  vertex-none h = cut-none (onCycle tails heads n flows) (hasBit m) n setWidth v fits same low h
 
 -- the rows of as many vertices as there are rows
 pub counted : (from to flows rows : List ℕ) (n k : ℕ) → n ≡ k → ((v : ℕ) → v < k → column rows v ≡ reached from to flows k v) → (v : ℕ) → v < n

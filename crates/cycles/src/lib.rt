@@ -75,7 +75,8 @@ fn since<'a>(tails: &'a [u32], v: u32, walk: &'a [usize]) -> usize
     i
 }
 
-// Walks from `start` until a vertex comes a second time, filling `walk` from its end; answers the part since that vertex was left.
+// Walks from `start` until a vertex comes a second time, filling `walk` from its end; answers the part since that vertex was left. The rows are for
+// its use.
 pub fn follow<'a>(
     tails: &'a [u32],
     heads: &'a [u32],
@@ -83,14 +84,19 @@ pub fn follow<'a>(
     seen: &'a [bool],
     start: u32,
     walk: &mut [usize],
+    rows: &mut [u64],
 ) -> Span
+    requires { ⌜ (length (now heads) ≤ length (now flows)) × (length (now flows) ≤ setWidth) ⌝ }
+    requires { ⌜ (length (now seen) ≡ length (now rows)) × (start < length (now rows)) ⌝ }
     ensures { λ r. ⌜ r .from + r .count ≤ length (now (walk .exit)) ⌝ }
     ensures { λ r. ⌜ take (r .count) (drop (r .from) (now (walk .exit))) ≡ follow (now (tails .entry)) (now (heads .entry)) (now (flows .entry)) (now (seen .entry)) (length (now (walk .entry))) [] start ⌝ }
 {
+    graph::leaving(tails, heads, flows, seen, rows);
     let mut v = start;
     let mut at = walk.len();
     while 0 < at {
-        let e = graph::onward(tails, heads, flows, seen, v);
+        let row = graph::row_at(&*rows, v as usize);
+        let e = graph::lowest_edge(row, flows.len());
         at -= 1;
         lists::put_index(walk, at, e);
         v = lists::word_at(heads, e);

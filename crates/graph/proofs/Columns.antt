@@ -4,9 +4,10 @@ use mathlib.Core.Path.{_≡_, refl, sym, ap, _∙_}
 use mathlib.Core.Bool.{Bool, true, false}
 use mathlib.Core.List.{List, [], _∷_}
 use mathlib.Core.Logic.{_⊎_, inl, inr, _≢_}
-use Prim.Native.Nat.{ℕ, zero, suc, _+_, _<_}
+use Prim.Native.Nat.{ℕ, zero, suc, _+_, _<_, _≤_}
 use native.Mathlib.Omega.{arith}
 use lib.Dec.{ltb}
+use borrow.Author.Tests.{lt-ltb, le-ltb}
 use lib.ListN.{length, getD, set, replicate, length-set, length-replicate, getD-replicate}
 use lib.Seq.{getD-set-same, getD-set-other, set-getD, ext-getD}
 use Rattle.lists.specs.Choice.{pick, both, either}
@@ -111,3 +112,11 @@ column-made rows v seen size same =
 -- a row that is stored anew stays the same
 pub stored-same : (rows : List ℕ) (u x : ℕ) → x ≡ getD rows u 0 → set rows u x ≡ rows
 stored-same rows u x e = ap (λ (r : ℕ). set rows u r) e ∙ set-getD rows u 0
+
+-- an edge that is crossed: only a positive one
+module _ {A : Type 0} (x : ℕ) (a b : A) where
+  pub crossed : (x ≡ 0 → ⊥) → a ≡ pick (ltb 0 x) a b
+  crossed h = let above : 0 < x = omega (arith, h) in sym (pick-yes _ _ _ (lt-ltb 0 x above))
+
+  pub crossed-zero : x ≡ 0 → b ≡ pick (ltb 0 x) a b
+  crossed-zero h = let none : x ≤ 0 = omega arith in sym (pick-no _ _ _ (le-ltb 0 x none))

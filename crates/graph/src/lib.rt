@@ -2,10 +2,12 @@
 ghost use mathlib.Core.Path.{_≡_};
 ghost use mathlib.Core.Bool.{true, false};
 ghost use Prim.Native.Nat.{ℕ, _<_, _≤_};
+ghost use lib.Dec.{ltb};
 ghost use lib.ListN.{getD, set, length, replicate};
 ghost use Rattle.lists.specs.Choice.{pick};
-ghost use Rattle.sets.specs.Sets.{setWidth, joined};
-ghost use Rattle.graph.specs.Graph.{pass, passes, reached, leads, onward};
+ghost use Rattle.lists.specs.Lists.{lowest};
+ghost use Rattle.sets.specs.Sets.{setWidth, hasBit, withBit, joined, collect};
+ghost use Rattle.graph.specs.Graph.{pass, passes, reached, leads};
 ghost use Rattle.graph.specs.Rows.{column};
 
 // The row of v, and the empty set past the end.
@@ -24,14 +26,11 @@ fn put_row(rows: &mut [u64], v: usize, row: u64)
     }
 }
 
-// Where an edge is positive, the row of its end takes in the row of its start. Answers whether the rows changed.
-fn join(rows: &mut [u64], positive: bool, start: usize, end: usize) -> bool
-    ensures { λ _. ⌜ now (rows .exit) ≡ pick positive (set (now (rows .entry)) end (joined (getD (now (rows .entry)) end 0) (getD (now (rows .entry)) start 0))) (now (rows .entry)) ⌝ }
+// The row of `end` takes in the row of `start`. Answers whether the rows changed.
+fn join(rows: &mut [u64], start: usize, end: usize) -> bool
+    ensures { λ _. ⌜ now (rows .exit) ≡ set (now (rows .entry)) end (joined (getD (now (rows .entry)) end 0) (getD (now (rows .entry)) start 0)) ⌝ }
     ensures { λ r. ⌜ (r ≡ false → now (rows .exit) ≡ now (rows .entry)) ⌝ }
 {
-    if !positive {
-        return false;
-    }
     let old = row_at(&*rows, end);
     let more = row_at(&*rows, start);
     let new = sets::joined(old, more);
@@ -42,6 +41,19 @@ fn join(rows: &mut [u64], positive: bool, start: usize, end: usize) -> bool
     true
 }
 
+// Where edge e is positive, the row of its end takes in the row of its start. Answers whether the rows changed.
+fn cross<'a>(from: &'a [u32], to: &'a [u32], flows: &'a [u32], rows: &mut [u64], e: usize) -> bool
+    ensures { λ _. ⌜ now (rows .exit) ≡ pick (ltb 0 (getD (now (flows .entry)) e 0)) (set (now (rows .entry)) (getD (now (to .entry)) e 0) (joined (getD (now (rows .entry)) (getD (now (to .entry)) e 0) 0) (getD (now (rows .entry)) (getD (now (from .entry)) e 0) 0))) (now (rows .entry)) ⌝ }
+    ensures { λ r. ⌜ (r ≡ false → now (rows .exit) ≡ now (rows .entry)) ⌝ }
+{
+    if lists::word_at(flows, e) == 0 {
+        return false;
+    }
+    let start = lists::word_at(from, e) as usize;
+    let end = lists::word_at(to, e) as usize;
+    join(rows, start, end)
+}
+
 // One pass over the edges, for every vertex at once. Answers whether the rows changed.
 fn pass<'a>(from: &'a [u32], to: &'a [u32], flows: &'a [u32], rows: &mut [u64]) -> bool
     ensures { λ _. ⌜ ((v : ℕ) → column (now (rows .exit)) v ≡ pass (now (from .entry)) (now (to .entry)) (now (flows .entry)) 0 (length (now (flows .entry))) (column (now (rows .entry)) v)) ⌝ }
@@ -50,9 +62,7 @@ fn pass<'a>(from: &'a [u32], to: &'a [u32], flows: &'a [u32], rows: &mut [u64]) 
     let mut changed = false;
     let mut e: usize = 0;
     while e < flows.len() {
-        let start = lists::word_at(from, e) as usize;
-        let end = lists::word_at(to, e) as usize;
-        let joined = join(rows, 0 < flows[e], start, end);
+        let joined = cross(from, to, flows, rows, e);
         changed = lists::or(changed, joined);
         e += 1;
     }
@@ -105,39 +115,64 @@ pub fn column(rows: &[u64], v: u32, seen: &mut [bool])
     }
 }
 
-// Whether edge e is positive, starts from v, and leads into the set.
-fn leads<'a>(
-    from: &'a [u32],
-    to: &'a [u32],
-    flows: &'a [u32],
-    seen: &'a [bool],
-    v: u32,
-    e: usize,
-) -> bool
-    ensures { λ r. ⌜ r ≡ leads (now (from .entry)) (now (to .entry)) (now (flows .entry)) (now (seen .entry)) v e ⌝ }
+// The empty set for each vertex.
+fn empty(rows: &mut [u64])
+    ensures { λ _. ⌜ ((v : ℕ) → v < length (now (rows .entry)) → getD (now (rows .exit)) v 0 ≡ 0) ⌝ }
 {
-    let end = lists::word_at(to, e) as usize;
-    let inside = lists::bool_at(seen, end);
-    let here = lists::and(lists::word_at(from, e) == v, inside);
-    lists::and(0 < lists::word_at(flows, e), here)
+    let mut v: usize = 0;
+    while v < rows.len() {
+        rows[v] = 0;
+        v += 1;
+    }
 }
 
-// The lowest such edge, or the count of edges.
-pub fn onward<'a>(
+// Where edge e is positive and leads into the set, it joins the row of the vertex that it leaves.
+fn leave<'a>(
     from: &'a [u32],
     to: &'a [u32],
     flows: &'a [u32],
     seen: &'a [bool],
-    v: u32,
-) -> usize
-    ensures { λ r. ⌜ r ≡ onward (now (from .entry)) (now (to .entry)) (now (flows .entry)) (now (seen .entry)) v ⌝ }
+    rows: &mut [u64],
+    e: usize,
+)
+    requires { ⌜ e < setWidth ⌝ }
+    ensures { λ _. ⌜ ((v : ℕ) → v < length (now (rows .entry)) → getD (now (rows .exit)) v 0 ≡ pick (leads (now (from .entry)) (now (to .entry)) (now (flows .entry)) (now (seen .entry)) v e) (withBit (getD (now (rows .entry)) v 0) e) (getD (now (rows .entry)) v 0)) ⌝ }
 {
+    if lists::word_at(flows, e) == 0 {
+        return;
+    }
+    let head = lists::word_at(to, e) as usize;
+    if !lists::bool_at(seen, head) {
+        return;
+    }
+    let tail = lists::word_at(from, e) as usize;
+    let row = sets::with(row_at(&*rows, tail), true, e);
+    put_row(rows, tail, row);
+}
+
+// The row of each vertex: the positive edges that leave it and lead into the set.
+pub fn leaving<'a>(
+    from: &'a [u32],
+    to: &'a [u32],
+    flows: &'a [u32],
+    seen: &'a [bool],
+    rows: &mut [u64],
+)
+    requires { ⌜ length (now flows) ≤ setWidth ⌝ }
+    ensures { λ _. ⌜ ((v : ℕ) → v < length (now (rows .entry)) → getD (now (rows .exit)) v 0 ≡ collect (leads (now (from .entry)) (now (to .entry)) (now (flows .entry)) (now (seen .entry)) v) 0 0 (length (now (flows .entry)))) ⌝ }
+{
+    empty(rows);
     let mut e: usize = 0;
     while e < flows.len() {
-        if leads(from, to, flows, seen, v, e) {
-            return e;
-        }
+        leave(from, to, flows, seen, rows, e);
         e += 1;
     }
-    e
+}
+
+// The lowest edge of a row, or the count of edges.
+pub fn lowest_edge(row: u64, count: usize) -> usize
+    ensures { λ r. ⌜ r ≡ pick (ltb (lowest (hasBit row) 0 setWidth) count) (lowest (hasBit row) 0 setWidth) count ⌝ }
+{
+    let e = sets::lowest(row) as usize;
+    if e < count { e } else { count }
 }

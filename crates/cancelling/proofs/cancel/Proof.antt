@@ -47,8 +47,10 @@ cancel-from-requires : tie.Need-cancel-from-requires Inv-loop μ-loop
 cancel-from-requires c κs =
     let at-if1 = c .before .before .before .before .if1 in
     let at-cycle-vertex = c .before .before .before .before .before .before .before .cycle-vertex in
-    let at-loop = c .before .before .before .before .before .before .before .before .before .before .before .loop in
-    ((omega arith, omega arith), sized _ _ _ _ _ _ _ (at-loop .inv .1) (at-cycle-vertex .ensures .1 _ (at-if1 .left)))
+    let at-loop = c .before .before .before .before .before .before .before .before .before .before .before .loop in (
+      (omega arith, omega arith),
+      ((omega arith, omega arith, omega arith), sized _ _ _ _ _ _ _ (at-loop .inv .1) (at-cycle-vertex .ensures .1 _ (at-if1 .left))),
+    )
 
 add-round : tie.Need-add-round Inv-loop μ-loop
 add-round c = omega arith
@@ -58,11 +60,11 @@ loop-less c = omega arith
 
 loop-again : tie.Need-loop-again Inv-loop μ-loop
 loop-again c =
-    let at-cancel-from = c .before .before .before .before .before .before .cancel-from in
-    let at-if1 = c .before .before .before .before .before .before .before .before .before .before .before .if1 in
-    let at-cycle-vertex = c .before .before .before .before .before .before .before .before .before .before .before .before .before .before .cycle-vertex in
-    let at-loop = c .before .before .before .before .before .before .before .before .before .before .before .before .before .before .before .before .before .before .loop in
-    let at-args = c .before .before .before .before .before .before .before .before .before .before .before .before .before .before .before .before .before .before .before .before .before .before .before .before .before .args in
+    let at-cancel-from = c .before .before .before .before .before .before .before .before .cancel-from in
+    let at-if1 = c .before .before .before .before .before .before .before .before .before .before .before .before .before .if1 in
+    let at-cycle-vertex = c .before .before .before .before .before .before .before .before .before .before .before .before .before .before .before .before .cycle-vertex in
+    let at-loop = c .before .before .before .before .before .before .before .before .before .before .before .before .before .before .before .before .before .before .before .before .loop in
+    let at-args = c .before .before .before .before .before .before .before .before .before .before .before .before .before .before .before .before .before .before .before .before .before .before .before .before .before .before .before .args in
     let inside : at-loop .round < length (at-args .flows .now) = omega arith in (
       omega arith,
       omega arith,

@@ -26,26 +26,8 @@ abbrev μ-loop : tie.MeasureT-loop
 loop-holds : tie.Need-loop-holds Inv-loop μ-loop
 loop-holds c = (refl, λ v. rw sub-zero, λ h. refl)
 
-word-at-requires : tie.Need-word-at-requires Inv-loop μ-loop
-word-at-requires c κs = search needs
-
-cast-start : tie.Need-cast-start Inv-loop μ-loop
-cast-start c = search needs
-
-word-at-requires-2 : tie.Need-word-at-requires-2 Inv-loop μ-loop
-word-at-requires-2 c κs = search needs
-
-cast-end : tie.Need-cast-end Inv-loop μ-loop
-cast-end c = search needs
-
-mul-join : tie.Need-mul-join Inv-loop μ-loop
-mul-join c = search needs
-
-shared-slice-read-join : tie.Need-shared-slice-read-join Inv-loop μ-loop
-shared-slice-read-join c = omega arith
-
-join-requires : tie.Need-join-requires Inv-loop μ-loop
-join-requires c κs = search needs
+cross-requires : tie.Need-cross-requires Inv-loop μ-loop
+cross-requires c κs = search needs
 
 or-requires : tie.Need-or-requires Inv-loop μ-loop
 or-requires c κs = search needs
@@ -59,16 +41,15 @@ loop-less c = omega arith
 loop-again : tie.Need-loop-again Inv-loop μ-loop
 loop-again c =
     let at-or = c .or in
-    let at-join = c .before .before .before .join in
-    let at-word-at2 = c .before .before .before .before .before .before .word-at2 in
-    let at-word-at = c .before .before .before .before .before .before .before .word-at in
-    let at-loop-test = c .before .before .before .before .before .before .before .before .loop-test in
-    let at-loop = c .before .before .before .before .before .before .before .before .before .loop in
-    let at-args = c .before .before .before .before .before .before .before .before .before .before .before .before .before .before .args in
+    let at-cross = c .before .before .before .cross in
+    let at-loop-test = c .before .before .before .before .before .loop-test in
+    let at-loop = c .before .before .before .before .before .before .loop in
+    let at-args = c .before .before .before .before .before .before .before .before .before .before .before .args in
     let inv = at-loop .inv in (
       omega arith,
-      λ v. pass-turn _ _ _ _ _ _ _ (at-loop-test .taken) (column-turn (at-args .from .now) (at-args .to .now) (at-args .flows .now) (at-loop .rows) _ (at-loop .e) v (at-join .ensures .0 ∙ cc)) ∙ inv .1 v,
-      λ h. at-join .ensures .1 (either-right _ _ (sym (at-or .ensures) ∙ h)) ∙ inv .2 (either-left _ _ (sym (at-or .ensures) ∙ h)),
+      λ v. pass-turn _ _ _ _ _ _ _ (at-loop-test .taken)
+          (column-turn (at-args .from .now) (at-args .to .now) (at-args .flows .now) (at-loop .rows) _ (at-loop .e) v (at-cross .ensures .0)) ∙ inv .1 v,
+      λ h. at-cross .ensures .1 (either-right _ _ (sym (at-or .ensures) ∙ h)) ∙ inv .2 (either-left _ _ (sym (at-or .ensures) ∙ h)),
     )
 
 same-length : tie.Need-same-length Inv-loop μ-loop
@@ -84,13 +65,7 @@ pass-spec =
     Inv-loop
     μ-loop
     loop-holds
-    word-at-requires
-    cast-start
-    word-at-requires-2
-    cast-end
-    mul-join
-    shared-slice-read-join
-    join-requires
+    cross-requires
     or-requires
     add-e
     loop-less

@@ -1,7 +1,9 @@
-use mathlib.Core.Path.{sym}
+use mathlib.Core.Path.{_≡_, sym}
+use lib.ListN.{length}
 use native.Mathlib.Omega.{arith}
 use lib.Seq.{length-take-le}
 use borrow.Author.Needs.{needs}
+use Rattle.board.specs.Limits.{maxEdges}
 use Rattle.loader.proofs.acyclic_flows.Statement.{statement}
 use Rattle.loader.proofs.acyclic_flows.Tie as tie
 
@@ -38,7 +40,10 @@ slice-aggregate-cancel-6 c = sym (length-take-le _ _ (c .before .before .before 
 cancel-requires : tie.Need-cancel-requires
 cancel-requires c κs =
     let given = c .before .before .before .before .before .before .before .before .before .before .pre in
-    (sym (length-take-le _ _ given), sym (length-take-le _ _ given), sym (length-take-le _ _ given), omega arith)
+    let net = c .before .before .before .before .before .before .before .before .before .before .args .net in
+    let heads : length (net .heads) ≡ maxEdges = search needs in
+    let flows : length (net .flows) ≡ maxEdges = search needs in
+    ((omega arith, omega arith), (sym (length-take-le _ _ given), sym (length-take-le _ _ given), sym (length-take-le _ _ given), omega arith))
 
 returns : tie.Need-returns
 returns c = search needs

@@ -1,0 +1,61 @@
+-- The rows passed are empty.
+use mathlib.Core.Path.{_≡_, refl, _∙_}
+use Prim.Native.Nat.{ℕ, _-_, _≤_, _<_}
+use lib.ListN.{length, getD, length-set}
+use Rattle.graph.proofs.Columns.{stored-more}
+use borrow.Author.Needs.{needs}
+use native.Mathlib.Omega.{arith}
+use Rattle.graph.proofs.empty.Statement.{statement}
+use Rattle.graph.proofs.empty.Tie as tie
+
+abbrev Inv-loop : tie.InvT-loop
+Inv-loop rows₀ v₀ rows v =
+    (v ≤ length rows₀) × (length rows ≡ length rows₀) × ((k : ℕ) → k < v → getD rows k 0 ≡ 0)
+
+abbrev μ-loop : tie.MeasureT-loop
+μ-loop rows₀ v₀ rows v = length rows₀ - v
+
+loop-holds : tie.Need-loop-holds Inv-loop μ-loop
+loop-holds c = (omega arith, refl, λ k h. absurd (omega arith))
+
+mul-rows : tie.Need-mul-rows Inv-loop μ-loop
+mul-rows c = search needs
+
+slice-write-rows : tie.Need-slice-write-rows Inv-loop μ-loop
+slice-write-rows c = omega arith
+
+add-v : tie.Need-add-v Inv-loop μ-loop
+add-v c = omega arith
+
+loop-less : tie.Need-loop-less Inv-loop μ-loop
+loop-less c = omega arith
+
+loop-again : tie.Need-loop-again Inv-loop μ-loop
+loop-again c =
+    let at-loop = c .before .loop in
+    let inside : at-loop .v < length (at-loop .rows) = omega arith in (
+      omega arith,
+      length-set (at-loop .rows) (at-loop .v) 0 ∙ at-loop .inv .1,
+      stored-more (λ (k : ℕ). 0) (at-loop .rows) (at-loop .v) 0 0 inside (at-loop .inv .2) refl,
+    )
+
+same-length : tie.Need-same-length Inv-loop μ-loop
+same-length c = c .before .loop .inv .1
+
+returns : tie.Need-returns Inv-loop μ-loop
+returns c = λ k h. c .before .loop .inv .2 k (omega arith)
+
+pub empty-spec : {M : Type 1} → statement M
+empty-spec =
+    tie.close
+    (tie.spec
+    Inv-loop
+    μ-loop
+    loop-holds
+    mul-rows
+    slice-write-rows
+    add-v
+    loop-less
+    loop-again
+    same-length
+    returns)
