@@ -8,14 +8,11 @@ use native.Mathlib.Nat.{add-zero}
 use native.Mathlib.Omega.{arith}
 use lib.Dec.{ltb}
 use lib.ListN.{length, getD, set, take, drop, length-drop, length-set, drop-of-length-le}
-use lib.Seq.{drop-cons, take-all}
+use lib.Seq.{drop-cons}
 use borrow.Author.Tests.{eq-eqb, ne-eqb, lt-ltb, le-ltb}
 use Rattle.graph.specs.Graph.{onward}
+use Rattle.lists.proofs.Laws.{rest-part}
 use Rattle.cycles.specs.Cycles.{since, follow}
-
--- the rest of a slice, as it arrives from `&s[a..]`
-pub rest : {A : Type 0} (s : List A) (a : ℕ) → take (length s - a) (drop a s) ≡ drop a s
-rest s a = take-all (length s - a) (drop a s) (omega (arith, length-drop a s))
 
 -- a search in a walk that has passed i edges
 module _ (tails : List ℕ) (v : ℕ) (w : List ℕ) (i total : ℕ) (inv : i + since tails v (drop i w) ≡ total) where
@@ -53,7 +50,7 @@ module _ (tails heads flows : List ℕ) (s : List Bool) (w r : List ℕ) (at v u
       ∙ ap (λ (k : ℕ). onward tails heads flows s v ∷ drop k w) (sym one-less)
 
   since-it : b ≡ since tails (getD heads (onward tails heads flows s v) 0) (onward tails heads flows s v ∷ drop at w)
-  since-it = rw (← next, ← walked, ← rest r (at - 1)) back
+  since-it = rw (← next, ← walked, ← rest-part r (at - 1)) back
 
   size : suc (length (drop at w)) ≡ length r - (at - 1)
   size = omega (arith, length-drop at w, ap length put, length-set w (at - 1) (onward tails heads flows s v))
