@@ -26,7 +26,8 @@ use Rattle.turning.specs.Turns.{turnRefusal, turned, turnRefusalIn, turnedIn, t
 use Rattle.turning.proofs.Changes.{refusal-same, turned-same, change-accepted, change-refused}
 use Rattle.choosing.specs.Choosing.{isHome, allHome, chosenEdge, nextCycle}
 use Rattle.choosing.proofs.Advised.{terminal-found, edge-found}
-use Rattle.finishing.specs.Finishes.{stepped, allSmall, allHomeIn, openTerminalIn, carryStep, turnStep, stepChange}
+use Rattle.finishing.specs.Finishes.{stepped}
+use Rattle.finishing.specs.Run.{allSmall, allHomeIn, openTerminalIn, carryStep, turnStep, stepChange}
 use Rattle.finishing.proofs.Staying.{carry-stays, turn-stays}
 use Rattle.finishing.proofs.Making.{home-stops, step-stuck, carry-accepted, step-carry, step-turn, step-refused}
 

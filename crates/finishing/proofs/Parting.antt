@@ -24,7 +24,7 @@ use Rattle.journal.specs.Moved.{unchanged}
 use Rattle.carrying.specs.Carries.{carriedIn}
 use Rattle.carrying.proofs.Makes.{makes-carried}
 use Rattle.finishing.specs.declared.Made.{Made}
-use Rattle.finishing.specs.Finishes.{allSmall, positiveAfter, carryStep, Makes}
+use Rattle.finishing.specs.Run.{allSmall, positiveAfter, carryStep, Makes}
 use Rattle.finishing.proofs.Staying.{fall-small}
 
 module _ (m e k : ℕ) where

@@ -21,7 +21,8 @@ use Rattle.guard.specs.Guard.{playing}
 use Rattle.journal.specs.Moved.{moved}
 use Rattle.journal.specs.declared.Change.{Change}
 use Rattle.finishing.specs.declared.Made.{Made}
-use Rattle.finishing.specs.Finishes.{steppedOn, playedOut, stepChange, Sized, InPlay, Makes, leftAfter}
+use Rattle.finishing.specs.Finishes.{steppedOn, playedOut}
+use Rattle.finishing.specs.Run.{stepChange, Sized, InPlay, Makes, leftAfter}
 use Rattle.finishing.proofs.Making.{on-stops, on-goes, closed-stops}
 use Rattle.finishing.proofs.Following.{Follows, follows}
 

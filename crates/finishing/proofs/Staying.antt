@@ -49,7 +49,7 @@ use Rattle.opening.specs.Opens.{someOpen}
 use Rattle.turning.specs.declared.StepRule.the-variants.{OnBoard, Positive}
 use Rattle.turning.specs.Turns.{meets, turnRefusal, turned}
 use Rattle.amounts.proofs.Raising.{amount-small}
-use Rattle.finishing.specs.Finishes.{allSmall}
+use Rattle.finishing.specs.Run.{allSmall}
 
 -- what a store leaves at a place
 set-at : (xs : List ℕ) (i j x : ℕ) → (getD (set xs i x) j 0 ≡ getD xs j 0) ⊎ ((j ≡ i) × (getD (set xs i x) j 0 ≡ x))

@@ -11,19 +11,8 @@ ghost use mathlib.Core.Bool.{true};
 ghost use Rattle.incidence.specs.Incidence.{Incident, Positive};
 ghost use Rattle.journal.specs.Moved.{unchanged};
 ghost use Rattle.guard.specs.Guard.{playing};
-ghost use Rattle.finishing.specs.Finishes.{
-  playedOut,
-  allSmall,
-  allHomeIn,
-  positiveAfter,
-  carryStep,
-  turnStep,
-  stepChange,
-  InPlay,
-  Makes,
-  leftAfter,
-  finishCall,
-};
+ghost use Rattle.finishing.specs.Finishes.{playedOut, finishCall};
+ghost use Rattle.finishing.specs.Run.{allSmall, allHomeIn, positiveAfter, carryStep, turnStep, stepChange, InPlay, Makes, leftAfter};
 
 // What a finish gives: 0, how many moves it made, and the board at the end; or the number that it is refused with, and the board as it was.
 pub struct Finished {

@@ -1,4 +1,4 @@
-use Rattle.finishing.specs.Finishes.{openTerminalIn}
+use Rattle.finishing.specs.Run.{openTerminalIn}
 use Rattle.finishing.proofs.Ready.{ready-searched, step-carries, step-turns}
 use borrow.Author.Needs.{needs}
 use Rattle.finishing.proofs.advance.Statement.{statement}

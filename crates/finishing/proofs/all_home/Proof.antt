@@ -7,7 +7,7 @@ use lib.Dec.{eqb}
 use lib.ListN.{getD}
 use Rattle.lists.specs.Lists.{all}
 use Rattle.lists.proofs.Laws.{all-hit, all-miss, all-end}
-use Rattle.finishing.specs.Finishes.{allHomeIn}
+use Rattle.finishing.specs.Run.{allHomeIn}
 use borrow.Author.Needs.{needs}
 use native.Mathlib.Omega.{arith}
 use Rattle.finishing.proofs.all_home.Statement.{statement}

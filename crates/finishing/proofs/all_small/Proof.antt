@@ -10,7 +10,7 @@ use borrow.Author.Tests.{le-leb, lt-leb}
 use Rattle.lists.specs.Lists.{all}
 use Rattle.lists.proofs.Laws.{all-hit, all-miss, all-end}
 use Rattle.board.specs.Limits.{maxEdges, maxTotal}
-use Rattle.finishing.specs.Finishes.{allSmall}
+use Rattle.finishing.specs.Run.{allSmall}
 use Rattle.finishing.proofs.all_small.Statement.{statement}
 use Rattle.finishing.proofs.all_small.Tie as tie
 

@@ -1,6 +1,6 @@
 use mathlib.Core.Path.{sym, _∙_}
 use Rattle.lists.proofs.Laws.{pick-yes, pick-no}
-use Rattle.finishing.specs.Finishes.{leftAfter}
+use Rattle.finishing.specs.Run.{leftAfter}
 use borrow.Author.Needs.{needs}
 use Rattle.finishing.proofs.left_after.Statement.{statement}
 use Rattle.finishing.proofs.left_after.Tie as tie

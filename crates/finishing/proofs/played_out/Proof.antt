@@ -3,7 +3,8 @@ use mathlib.Core.Logic.{⊎-elim}
 use Prim.Native.Nat.{ℕ, _+_}
 use lib.ListN.{length, length-map}
 use Rattle.board.specs.Limits.{maxEdges, maxTerminals, maxMoves}
-use Rattle.finishing.specs.Finishes.{steppedOn, Sized}
+use Rattle.finishing.specs.Finishes.{steppedOn}
+use Rattle.finishing.specs.Run.{Sized}
 use native.Mathlib.Omega.{arith}
 use Rattle.guard.proofs.Facts.{playing-moves}
 use borrow.Author.Needs.{needs, length-unmapped}

@@ -1,7 +1,7 @@
 use mathlib.Core.Path.{sym, _∙_}
 use borrow.Author.Tests.{eq-eqb, ne-eqb}
 use Rattle.lists.proofs.Laws.{pick-yes, pick-no}
-use Rattle.finishing.specs.Finishes.{positiveAfter}
+use Rattle.finishing.specs.Run.{positiveAfter}
 use borrow.Author.Needs.{needs}
 use Rattle.finishing.proofs.positive_after.Statement.{statement}
 use Rattle.finishing.proofs.positive_after.Tie as tie
