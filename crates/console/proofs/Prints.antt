@@ -1,6 +1,7 @@
 -- A number on a line of its own is its digits and a line feed, stored one behind the other. What is printed is one text of three, by the tests that the code makes.
 -- How many lines a text wants follows from its first line: where that is refused nothing follows it, and else its counts are those of the network that it opens.
-use mathlib.Core.Path.{_≡_, refl, sym, _∙_}
+use mathlib.Core.Path.{_≡_, refl, sym, ap, _∙_}
+use mathlib.Core.Bool.{true, false}
 use mathlib.Core.List.{List, [], _∷_}
 use Prim.Native.Nat.{ℕ, _+_}
 use native.Mathlib.Omega.{arith}
@@ -16,6 +17,7 @@ use Rattle.board.specs.declared.Network.{Network}
 use Rattle.text.specs.Text.{Read, refused, got, then, header, headed, numbersText}
 use Rattle.text.specs.Views.{partRead, headerPart}
 use Rattle.text.specs.declared.Part.{Part}
+use Rattle.text.specs.declared.Written.{Written}
 use Rattle.lines.proofs.Turns.{answered-got, answered-refused}
 use Rattle.printing.proofs.Writing.{sets-append}
 use Rattle.console.specs.Inputs.{linesOf, linesWanted}
@@ -23,7 +25,7 @@ use Rattle.loader.specs.declared.Loaded.{Loaded}
 use Rattle.loader.specs.Load.{loadText}
 use Rattle.finishing.specs.declared.Finished.{Finished}
 use Rattle.finishing.specs.Finishes.{finishCall}
-use Rattle.reporting.specs.Reports.{reportText, unreported}
+use Rattle.reporting.specs.Reports.{unreported, putCall, putIn}
 use Rattle.console.specs.Outputs.{numberLine, reportOf, finishOutput, sheetOutput}
 
 -- ---- a number on its line
@@ -36,13 +38,23 @@ number-put buf b1 b2 at end n p e f =
 
 -- ---- a report, or its number
 
-pub report-refused : (b : Board) (n : ℕ) → n ≡ unreported b → (n ≡ 0 → ⊥) → numberLine n ≡ reportOf b
-unfolding reportOf
-report-refused b n e z = rw e (sym (pick-no _ _ _ (ne-eqb (unreported b) 0 (λ q. z (e ∙ q)))))
+-- what the writing of the report answers, and leaves in the buffer
+module _ (b : Board) (buf out : List ℕ) (at : ℕ) (w : Written) (e : w ≡ putCall b false (length buf)) (o : out ≡ putIn b false buf at) where
+  number-so : w .answer ≡ unreported b
+  unfolding pick
+  number-so = ap (λ (x : Written). x .answer) e
 
-pub report-given : (b : Board) → unreported b ≡ 0 → reportText b ≡ reportOf b
-unfolding reportOf
-report-given b e = sym (pick-yes _ _ _ (eq-eqb (unreported b) 0 e))
+  pub report-refused : (w .answer ≡ 0 → ⊥) → (numberLine (w .answer) ≡ reportOf b) × (out ≡ buf)
+  unfolding reportOf pick
+  report-refused some =
+      let none : eqb (unreported b) 0 ≡ false = ne-eqb _ _ (λ z. some (number-so ∙ z)) in
+      (rw (number-so, none), o ∙ rw none)
+
+  pub report-given : w .answer ≡ 0 → (w .used ≡ length (reportOf b)) × (out ≡ sets buf at (reportOf b))
+  unfolding reportOf pick
+  report-given z =
+      let all-of : eqb (unreported b) 0 ≡ true = eq-eqb _ _ (sym number-so ∙ z) in
+      (ap (λ (x : Written). x .used) e ∙ rw all-of, o ∙ rw all-of)
 
 -- ---- what is printed of an input that was loaded, and finished
 

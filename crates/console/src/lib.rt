@@ -26,11 +26,11 @@ pub fn put_report(buf: &mut [u8], at: usize, board: Board) -> usize
     ensures { λ r. ⌜ r ≤ at + 8280 ⌝ }
     ensures { λ r. ⌜ now (buf .exit) ≡ sets (now (buf .entry)) at (reportOf board) ⌝ }
 {
-    let number = reporting::unreported(board);
-    if number != 0 {
-        return put_number(buf, at, number);
+    let written = reporting::put_sheet(buf, at, false, board);
+    if written.answer != 0 {
+        return put_number(buf, at, written.answer);
     }
-    reporting::put_report(buf, at, board)
+    at + written.used
 }
 
 // Writes what the program `sheet` prints for an input, and answers how many bytes.

@@ -1,61 +1,61 @@
 -- What the call answers, from the tests of the code: each is a test of the definition. A board that is not intact is refused whatever its routes are.
 use mathlib.Core.Path.{_≡_, refl, sym, ap, _∙_}
 use mathlib.Core.Bool.{Bool, true, false}
+use mathlib.Core.Logic.{_⊎_, inl, inr}
 use mathlib.Core.List.{List, [], _∷_, _++_, append-nil}
-use Prim.Native.Nat.{ℕ, _+_, _<_, _≤_}
+use Prim.Native.Nat.{ℕ, zero, suc, _+_, _-_, _<_, _≤_}
 use native.Mathlib.Nat.{zero-add}
-use lib.Dec.{leb, eqb}
-use lib.ListN.{length, getD}
+use native.Mathlib.Omega.{arith}
+use lib.Dec.{leb, ltb, eqb}
+use lib.ListN.{length, getD, drop, List·getD-eq-default}
 use lib.Seq.{sets, sets-eq}
-use borrow.Author.Tests.{eq-eqb, ne-eqb, le-leb, lt-leb}
+use borrow.Author.Tests.{eq-eqb, ne-eqb, eqb-true, eqb-false, le-leb, leb-true, ltb-false}
 use Rattle.lists.specs.Choice.{pick, both}
 use Rattle.lists.specs.Lists.{all}
-use Rattle.lists.proofs.Laws.{pick-yes, pick-no, pick-passed, both-left, both-right}
-use Rattle.board.specs.Limits.{maxVertices, maxEdges, maxTerminals}
-use Rattle.board.specs.Record.{playStage, finishedStage}
+use Rattle.lists.proofs.Laws.{Known, was-true, was-false, known, pick-yes, pick-no, pick-passed, both-left, both-right}
+use Rattle.board.specs.Limits.{maxVertices, maxEdges, maxTerminals, maxMoves}
+use Rattle.board.specs.Record.{blank}
 use Rattle.board.specs.declared.Board.{Board}
+use Rattle.board.specs.declared.Entry.{Entry}
+use Rattle.board.specs.declared.Network.{Network}
 use Rattle.text.specs.Text.{lineText, linesText}
-use Rattle.guard.specs.Guard.{intact}
-use Rattle.guard.proofs.Facts.{intact-edges, intact-terminals}
+use Rattle.journal.specs.Moved.{lastEntry}
+use Rattle.guard.specs.Guard.{intactIn, intact}
+use Rattle.guard.proofs.Facts.{intact-edges, intact-terminals, intact-demand}
 use Rattle.printing.proofs.Writing.{Left, left-part, left-none}
 use Rattle.routing.specs.Tables.{routesFit}
 use Rattle.routing.proofs.Read.{fits-route}
-use Rattle.reporting.specs.Reports.{reportText, started, unreported, sheetRefusal, sheetCall, sheeted}
-use Rattle.reporting.specs.Rows.{tableRouteRow, tableLoadRow}
-use Rattle.reporting.proofs.Rows.{countsBy, rowsBy, route-lines, load-lines}
+use Rattle.reporting.specs.Reports.{reportText, started, unreported, numberOf, sheetRefusal, sheetCall, sheeted, putRefusal, putCall, putIn}
+use Rattle.reporting.specs.Rows.{tableRouteRow, tableLoadRow, tableText, Printable}
+use Rattle.reporting.proofs.Rows.{countsBy, rowsBy, counts-small, route-lines, load-lines}
+
+-- inside a list it does not matter what is past its end
+inside : (l : List Entry) (k : ℕ) (a d : Entry) → k < length l → getD l k a ≡ getD l k d
+inside [] k a d h = absurd (omega arith)
+inside (x ∷ l) zero a d h = refl
+inside (x ∷ l) (suc k) a d h = inside l k a d (omega arith)
 
 module _ (b : Board) where
-  -- the board is in play or finished
-  abbrev staged : Bool
-  staged = both (leb playStage (b .stage)) (leb (b .stage) finishedStage)
+  -- the entry that the code reads
+  pub last-read : (k : ℕ) (last z : Entry) → length (b .journal) ≡ maxMoves → k ≡ b .moves - 1
+      → ((k < maxMoves) × (last ≡ getD (b .journal) k z)) ⊎ ((maxMoves ≤ k) × (last ≡ blank)) → last ≡ lastEntry b
+  last-read k last z long e (inl (h, r)) = rw (← e) (r ∙ inside (b .journal) k z blank (omega arith))
+  last-read k last z long e (inr (h, r)) = rw (← e) (r ∙ sym (List·getD-eq-default (b .journal) blank (omega (arith, long))))
 
-  before-routes : (s i f : Bool) → both s (both i f) ≡ both (both s i) f
-  unfolding both
-  before-routes true i f = refl
-  before-routes false i f = refl
+  -- the number by the parts is the number of the board: where the board is not intact, its routes do not matter
+  pub number-made : (last : Entry) (sound fit : Bool) (n : ℕ) → last ≡ lastEntry b
+      → sound ≡ intactIn (b .network) (b .acyclic) (b .flows) (b .places) (b .moves) (last .step)
+      → fit ≡ all (λ i. leb (getD (countsBy b) i 0) maxVertices) 0 (b .network .terminals)
+      → n ≡ numberOf (b .stage) sound fit → n ≡ unreported b
+  unfolding unreported started intact both
+  number-made last sound fit n el es ef en = en ∙ go (known (intact b))
+    where
+      same : sound ≡ intact b
+      same = rw (es, el)
 
-  pub started-no : both staged (intact b) ≡ false → false ≡ started b
-  unfolding started both
-  started-no h = sym (before-routes staged (intact b) (routesFit b) ∙ ap (λ (t : Bool). both t (routesFit b)) h)
-
-  pub started-yes : both staged (intact b) ≡ true → (fit : Bool)
-      → fit ≡ all (λ i. leb (getD (countsBy b) i 0) maxVertices) 0 (b .network .terminals) → fit ≡ started b
-  unfolding started both
-  started-yes h fit e =
-      let few = intact-terminals b (both-right staged (intact b) h) in
-      e ∙ fits-route b few ∙ sym (before-routes staged (intact b) (routesFit b) ∙ ap (λ (t : Bool). both t (routesFit b)) h)
-
-  pub number-closed : started b ≡ false → 29 ≡ unreported b
-  unfolding unreported
-  number-closed h = sym (pick-no _ _ _ h)
-
-  pub number-done : started b ≡ true → b .stage ≡ finishedStage → 0 ≡ unreported b
-  unfolding unreported
-  number-done h e = sym (pick-yes _ _ _ h ∙ pick-yes _ _ _ (eq-eqb _ _ e))
-
-  pub number-open : started b ≡ true → (b .stage ≡ finishedStage → ⊥) → 28 ≡ unreported b
-  unfolding unreported
-  number-open h n = sym (pick-yes _ _ _ h ∙ pick-no _ _ _ (ne-eqb _ _ n))
+      go : Known (intact b) → numberOf (b .stage) sound fit ≡ unreported b
+      go (was-true t) = rw (same, ef, fits-route b (intact-terminals b t))
+      go (was-false t) = rw (same, t)
 
 -- a board with a report
 module _ (b : Board) (reported : unreported b ≡ 0) where
@@ -63,62 +63,128 @@ module _ (b : Board) (reported : unreported b ≡ 0) where
   unfolding unreported
   tests = pick-passed _ _ 28 reported .0
 
-  pub report-intact : intact b ≡ true
+  report-intact : intact b ≡ true
   unfolding started
   report-intact = both-left _ _ (both-right _ _ tests)
 
-  pub report-fits : routesFit b ≡ true
+  report-fits : routesFit b ≡ true
   unfolding started
   report-fits = both-right _ _ (both-right _ _ tests)
 
-  pub report-terminals : b .network .terminals ≤ maxTerminals
+  report-terminals : b .network .terminals ≤ maxTerminals
   report-terminals = intact-terminals b report-intact
 
-  pub report-edges : b .network .edges ≤ maxEdges
-  report-edges = intact-edges b report-intact
+  pub report-printable : (counts : List ℕ) → counts ≡ countsBy b → length (b .network .demands) ≡ maxTerminals → Printable (b .network) counts
+  report-printable counts e long = rw e (record {
+    edges = intact-edges b report-intact;
+    terminals = report-terminals;
+    demands = intact-demand b report-intact long;
+    steps = counts-small b report-terminals report-fits;
+  })
 
-  -- the three parts of the report, one behind the other
-  module _ (buf b1 b2 b3 : List ℕ) (at p1 p2 p3 : ℕ) where
-    abbrev head : List ℕ
-    head = lineText 82 (b .network .terminals ∷ b .network .edges ∷ [])
+  -- the text over the tables that were filled is the text of the board
+  pub report-text : (counts : List ℕ) (rows : List (List ℕ)) → counts ≡ countsBy b → rows ≡ rowsBy b → tableText (b .network) counts rows ≡ reportText b
+  unfolding tableText reportText
+  report-text counts rows e r = rw (e, r, route-lines b report-terminals report-fits, load-lines b report-terminals report-fits)
 
-    abbrev routes : List ℕ
-    routes = linesText 77 (tableRouteRow (countsBy b) (rowsBy b)) 0 (b .network .terminals)
+-- the three parts of the report, one behind the other
+module _ (net : Network) (counts : List ℕ) (rows : List (List ℕ)) (buf b1 b2 b3 : List ℕ) (at p1 p2 p3 : ℕ) where
+  abbrev head : List ℕ
+  head = lineText 82 (net .terminals ∷ net .edges ∷ [])
 
-    abbrev loads : List ℕ
-    loads = linesText 76 (tableLoadRow (b .network) (countsBy b) (rowsBy b)) 0 (b .network .edges)
+  abbrev routes : List ℕ
+  routes = linesText 77 (tableRouteRow counts rows) 0 (net .terminals)
 
-    pub report-written : p1 ≡ at + length head → b1 ≡ sets buf at head → p2 ≡ p1 + length routes → b2 ≡ sets b1 p1 routes → p3 ≡ p2 + length loads
-        → b3 ≡ sets b2 p2 loads → (p3 ≡ at + length (reportText b)) × (b3 ≡ sets buf at (reportText b))
-    unfolding reportText
-    report-written q1 e1 q2 e2 q3 e3 =
-        let parts : head ++ (routes ++ loads) ≡ reportText b = rw (route-lines b report-terminals report-fits, load-lines b report-terminals report-fits) in
-        let whole : Left buf (sets buf at (reportText b)) at (at + length (reportText b)) (head ++ (routes ++ loads)) =
-        rw parts (record { size = refl; gives = refl }) in
-        let behind-head = left-part head (routes ++ loads) b1 p1 whole e1 q1 in
-        let behind-routes = left-part routes loads b2 p2 behind-head e2 q2 in
-        left-none (left-part loads [] b3 p3 (rw append-nil behind-routes) e3 q3)
+  abbrev loads : List ℕ
+  loads = linesText 76 (tableLoadRow net counts rows) 0 (net .edges)
 
--- the call's three answers
-module _ (b : Board) (buf : List ℕ) where
-  pub sheet-refused : (n : ℕ) → n ≡ unreported b → (n ≡ 0 → ⊥) → (record { answer = n; used = 0 } ≡ sheetCall b (length buf)) × (buf ≡ sheeted b buf)
-  unfolding sheetCall sheeted sheetRefusal pick
-  sheet-refused n e some =
-      let no : eqb (unreported b) 0 ≡ false = ne-eqb _ _ (λ z. some (e ∙ z)) in
-      (rw (no, no, e), rw (no, no))
+  pub tables-written : p1 ≡ at + length head → b1 ≡ sets buf at head → p2 ≡ p1 + length routes → b2 ≡ sets b1 p1 routes → p3 ≡ p2 + length loads
+      → b3 ≡ sets b2 p2 loads → (p3 ≡ at + length (tableText net counts rows)) × (b3 ≡ sets buf at (tableText net counts rows))
+  unfolding tableText
+  tables-written q1 e1 q2 e2 q3 e3 =
+      let whole : Left buf (sets buf at (tableText net counts rows)) at (at + length (tableText net counts rows)) (head ++ (routes ++ loads)) =
+      record { size = refl; gives = refl } in
+      let behind-head = left-part head (routes ++ loads) b1 p1 whole e1 q1 in
+      let behind-routes = left-part routes loads b2 p2 behind-head e2 q2 in
+      left-none (left-part loads [] b3 p3 (rw append-nil behind-routes) e3 q3)
 
+-- a buffer that needs no measuring
+pub long-buffer : (whole : Bool) (n : ℕ) → both whole (ltb n 8280) ≡ false → whole ≡ true → 8280 ≤ n
+unfolding both
+long-buffer true n h w = ltb-false n 8280 h
+long-buffer false n h w = let z : _≡_ {A = ℕ} 0 1 = cc in absurd (omega arith)
+
+-- the answers: the number of a board without a report, 8 where a text that is to be whole has no room, and the text
+module _ (b : Board) (whole : Bool) (buf : List ℕ) (at : ℕ) where
+  abbrev Answered : ℕ → ℕ → List ℕ → Type 0
+  Answered answer used out = (record { answer = answer; used = used } ≡ putCall b whole (length buf)) × ((used ≤ 8280) × (out ≡ putIn b whole buf at))
+
+  refused-so : (n : ℕ) → n ≡ putRefusal b whole (length buf) → (n ≡ 0 → ⊥) → Answered n 0 buf
+  refused-so n p some =
+      let no : eqb (putRefusal b whole (length buf)) 0 ≡ false = ne-eqb _ _ (λ z. some (p ∙ z)) in
+      (λ i. record { answer = p i; used = sym (pick-no _ (length (reportText b)) 0 no) i }, (omega arith, sym (pick-no _ _ _ no)))
+
+  pub put-refused : (n : ℕ) → n ≡ unreported b → (n ≡ 0 → ⊥) → Answered n 0 buf
+  unfolding pick sheetRefusal
+  put-refused n e some = refused-so n (e ∙ go whole) some
+    where
+      no : eqb (unreported b) 0 ≡ false
+      no = ne-eqb _ _ (λ z. some (e ∙ z))
+
+      go : (w : Bool) → unreported b ≡ putRefusal b w (length buf)
+      go true = rw no
+      go false = refl
+
+  -- a board with a report
   module _ (reported : unreported b ≡ 0) where
-    yes : eqb (unreported b) 0 ≡ true
-    yes = eq-eqb _ _ reported
+    -- a text that is to be whole, in a buffer that is shorter than the longest of them
+    pub put-short : whole ≡ true → leb (length (reportText b)) (length buf) ≡ false → Answered 8 0 buf
+    unfolding sheetRefusal
+    put-short w less =
+        let p : 8 ≡ putRefusal b whole (length buf) = sym (pick-yes _ _ _ w ∙ pick-yes _ _ _ (eq-eqb _ _ reported) ∙ pick-no _ _ _ less) in
+        refused-so 8 p (λ z. omega (arith, z))
 
-    pub sheet-short : length buf < length (reportText b) → (record { answer = 8; used = 0 } ≡ sheetCall b (length buf)) × (buf ≡ sheeted b buf)
-    unfolding sheetCall sheeted sheetRefusal pick
-    sheet-short less = let e = lt-leb (length (reportText b)) (length buf) less in (rw (yes, e), rw (yes, e))
+    pub put-done : (used : ℕ) (out : List ℕ) → (whole ≡ true → length (reportText b) ≤ length buf) → used ≡ length (reportText b) → used ≤ 8280
+        → out ≡ sets buf at (reportText b) → Answered 0 used out
+    unfolding sheetRefusal
+    put-done used out room len small stored = (λ i. record { answer = p i; used = (len ∙ sym (pick-yes _ (length (reportText b)) 0 none)) i }, (small, stored ∙ sym (pick-yes _ _ _ none)))
+      where
+        go : Known whole → putRefusal b whole (length buf) ≡ 0
+        go (was-true w) = pick-yes _ _ _ w ∙ pick-yes _ _ _ (eq-eqb _ _ reported) ∙ pick-yes _ _ _ (le-leb _ _ (room w))
+        go (was-false w) = pick-no _ _ _ w ∙ reported
 
-    pub sheet-done : (n : ℕ) (out : List ℕ) → length (reportText b) ≤ length buf → n ≡ length (reportText b) → out ≡ sets buf 0 (reportText b)
-        → (record { answer = 0; used = n } ≡ sheetCall b (length buf)) × (out ≡ sheeted b buf)
-    unfolding sheetCall sheeted sheetRefusal pick
-    sheet-done n out fits p q =
-        let e = le-leb (length (reportText b)) (length buf) fits in
-        let all-of = sets-eq (reportText b) buf 0 (rw zero-add fits) in
-        (rw (yes, e, p), rw (yes, e) (q ∙ (rw zero-add at all-of)))
+        p : 0 ≡ putRefusal b whole (length buf)
+        p = sym (go (known whole))
+
+        none : eqb (putRefusal b whole (length buf)) 0 ≡ true
+        none = eq-eqb _ _ (sym p)
+
+-- the call `sheet` is the writing of a whole text at the front of the buffer
+module _ (b : Board) (buf : List ℕ) where
+  roomy : sheetRefusal b (length buf) ≡ 0 → length (reportText b) ≤ length buf
+  unfolding sheetRefusal
+  roomy h = go (known (eqb (unreported b) 0))
+    where
+      go : Known (eqb (unreported b) 0) → length (reportText b) ≤ length buf
+      go (was-true t) =
+          let inner : _≡_ {A = ℕ} (pick (leb (length (reportText b)) (length buf)) 0 8) 0 = sym (pick-yes _ _ _ t) ∙ h in
+          leb-true _ _ (pick-passed (leb (length (reportText b)) (length buf)) 0 7 inner .0)
+      go (was-false t) = absurd (eqb-false _ _ t (sym (pick-no _ _ _ t) ∙ h))
+
+  pub sheet-call : putCall b true (length buf) ≡ sheetCall b (length buf)
+  unfolding sheetCall pick
+  sheet-call = go (known (eqb (sheetRefusal b (length buf)) 0))
+    where
+      go : Known (eqb (sheetRefusal b (length buf)) 0) → putCall b true (length buf) ≡ sheetCall b (length buf)
+      go (was-true t) = rw (t, eqb-true (sheetRefusal b (length buf)) 0 t)
+      go (was-false t) = rw t
+
+  pub sheet-buffer : putIn b true buf 0 ≡ sheeted b buf
+  unfolding sheeted pick
+  sheet-buffer = go (known (eqb (sheetRefusal b (length buf)) 0))
+    where
+      go : Known (eqb (sheetRefusal b (length buf)) 0) → putIn b true buf 0 ≡ sheeted b buf
+      go (was-true t) =
+          let all-of = sets-eq (reportText b) buf 0 (rw zero-add (roomy (eqb-true _ _ t))) in
+          rw t (rw zero-add at all-of)
+      go (was-false t) = rw t

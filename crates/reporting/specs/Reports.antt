@@ -4,6 +4,7 @@ use mathlib.Core.List.{List, [], _∷_, _++_}
 use Prim.Native.Nat.{ℕ}
 use lib.Dec.{leb, eqb}
 use lib.ListN.{length, getD, drop}
+use lib.Seq.{sets}
 use Rattle.lists.specs.Choice.{pick, both}
 use Rattle.board.specs.Record.{playStage, finishedStage}
 use Rattle.board.specs.declared.Board.{Board}
@@ -35,6 +36,11 @@ started b = both (both (leb playStage (b .stage)) (leb (b .stage) finishedStage)
 unfoldable pub unreported : Board → ℕ
 unreported b = pick (started b) (pick (eqb (b .stage) finishedStage) 0 28) 29
 
+-- the same by the stage, whether the board is intact, and whether its routes have room
+abbrev pub numberOf : ℕ → Bool → Bool → ℕ
+numberOf stage sound fit =
+    pick (both (both (leb playStage stage) (leb stage finishedStage)) (both sound fit)) (pick (eqb stage finishedStage) 0 28) 29
+
 -- "Sheet: 29, 28, 8", for a buffer of n bytes
 unfoldable pub sheetRefusal : Board → ℕ → ℕ
 sheetRefusal b n = pick (eqb (unreported b) 0) (pick (leb (length (reportText b)) n) 0 8) (unreported b)
@@ -47,3 +53,13 @@ sheetCall b n =
 -- the buffer then: the text with the bytes past it kept, or as it was
 unfoldable pub sheeted : Board → List ℕ → List ℕ
 sheeted b buf = pick (eqb (sheetRefusal b (length buf)) 0) (reportText b ++ drop (length (reportText b)) buf) buf
+
+-- the same with the text at a place of the buffer, by stores that drop what is past its end; only a text that is to be whole needs room
+abbrev pub putRefusal : Board → Bool → ℕ → ℕ
+putRefusal b whole n = pick whole (sheetRefusal b n) (unreported b)
+
+abbrev pub putCall : Board → Bool → ℕ → Written
+putCall b whole n = record { answer = putRefusal b whole n; used = pick (eqb (putRefusal b whole n) 0) (length (reportText b)) 0 }
+
+abbrev pub putIn : Board → Bool → List ℕ → ℕ → List ℕ
+putIn b whole buf at = pick (eqb (putRefusal b whole (length buf)) 0) (sets buf at (reportText b)) buf

@@ -1,49 +1,36 @@
 // The call `sheet`: the route report.
 use board::Board;
+use board::Entry;
 use board::Network;
 use text::Written;
 ghost use mathlib.Core.Path.{_≡_};
 ghost use mathlib.Core.List.{_∷_};
 ghost use Prim.Native.Nat.{ℕ, _+_, _*_, _≤_, _<_};
+ghost use lib.Dec.{leb};
 ghost use lib.ListN.{length, getD, take};
 ghost use lib.Seq.{sets};
 ghost use Rattle.board.specs.Limits.{maxVertices, maxEdges, maxTerminals};
 ghost use Rattle.text.specs.Text.{lineText, linesText};
 ghost use Rattle.routing.specs.Tables.{Moderate};
-ghost use Rattle.reporting.specs.Reports.{reportText, started, unreported, sheetCall, sheeted};
-ghost use Rattle.reporting.specs.Rows.{tableRouteRow, tableLoadRow};
+ghost use Rattle.reporting.specs.Reports.{numberOf, sheetCall, sheeted, putCall, putIn};
+ghost use Rattle.reporting.specs.Rows.{tableRouteRow, tableLoadRow, tableText, Printable};
 
 // How many numbers the line of a route has at most: the terminal, how many edges, and the edges.
 const ROUTE_NUMBERS: usize = Board::MAX_VERTICES as usize + 2;
 
-// Whether a load gave the board, and its routes have room in their rows.
-fn started(board: Board) -> bool
-    ensures { λ r. ⌜ r ≡ started board ⌝ }
-{
-    let staged = lists::and(Board::PLAY <= board.stage, board.stage <= Board::FINISHED);
-    let sound = guard::intact(board);
-    if !lists::and(staged, sound) {
-        return false;
-    }
-    let journal = board.journal;
-    let net = board.network;
-    let mut counts = [0u32; Board::MAX_TERMINALS];
-    routing::fill(journal, board.moves, &mut counts);
-    routing::routes_fit(counts, net.terminals)
-}
+// A report has at most so many bytes: a line of 2 numbers, one of ROUTE_NUMBERS for each terminal, and one of 3 for each edge.
+const REPORT_BYTES: usize = 8280;
 
-// 29 or 28, in this order; 0 where there is a report.
-pub fn unreported(board: Board) -> u32
-    ensures { λ r. ⌜ r ≡ unreported board ⌝ }
+// 29 or 28, in this order; 0 where there is a report. `sound`: the board is intact; `fit`: its routes have room in their rows.
+fn number_of(stage: u32, sound: bool, fit: bool) -> u32
+    ensures { λ r. ⌜ r ≡ numberOf stage sound fit ⌝ }
 {
-    if !started(board) {
+    let staged = lists::and(Board::PLAY <= stage, stage <= Board::FINISHED);
+    let whole = lists::and(sound, fit);
+    if !lists::and(staged, whole) {
         return 29;
     }
-    if board.stage == Board::FINISHED {
-        0
-    } else {
-        28
-    }
+    if stage == Board::FINISHED { 0 } else { 28 }
 }
 
 // The numbers of a route's line, and 0 behind them.
@@ -139,21 +126,80 @@ fn put_loads(
     to
 }
 
-// Writes the report of a board at a place of the buffer, and answers the place behind it. A byte past the end of the buffer is dropped.
-pub fn put_report(buf: &mut [u8], at: usize, board: Board) -> usize
-    requires { ⌜ (at ≤ 65536) × (unreported board ≡ 0) ⌝ }
-    ensures { λ r. ⌜ r ≡ at + length (reportText board) ⌝ }
+// Writes the report by the routes at a place of the buffer, and answers the place behind it. A byte past the end of the buffer is dropped.
+fn put_tables(
+    buf: &mut [u8],
+    at: usize,
+    net: Network,
+    counts: [u32; Board::MAX_TERMINALS],
+    rows: [[u32; Board::MAX_VERTICES as usize]; Board::MAX_TERMINALS],
+) -> usize
+    requires { ⌜ (at ≤ 65536) × Printable net counts ⌝ }
+    ensures { λ r. ⌜ r ≡ at + length (tableText net counts rows) ⌝ }
     ensures { λ r. ⌜ r ≤ at + 8280 ⌝ }
-    ensures { λ r. ⌜ now (buf .exit) ≡ sets (now (buf .entry)) at (reportText board) ⌝ }
+    ensures { λ r. ⌜ now (buf .exit) ≡ sets (now (buf .entry)) at (tableText net counts rows) ⌝ }
 {
-    let journal = board.journal;
-    let mut counts = [0u32; Board::MAX_TERMINALS];
-    let rows = routing::fill(journal, board.moves, &mut counts);
-    let net = board.network;
     let sizes = [net.terminals, net.edges];
     let head = printing::put_line(buf, at, b'R', &sizes);
     let routes = put_routes(buf, head, counts, rows, net.terminals);
     put_loads(buf, routes, net, counts, rows)
+}
+
+// Whether the report has room in so many bytes: it is measured by writing it into a buffer that drops it.
+fn has_room(
+    room: usize,
+    net: Network,
+    counts: [u32; Board::MAX_TERMINALS],
+    rows: [[u32; Board::MAX_VERTICES as usize]; Board::MAX_TERMINALS],
+) -> bool
+    requires { ⌜ Printable net counts ⌝ }
+    ensures { λ r. ⌜ r ≡ leb (length (tableText net counts rows)) room ⌝ }
+{
+    let mut none = [0u8; 1];
+    let length = put_tables(&mut none, 0, net, counts, rows);
+    length <= room
+}
+
+// Writes the report of a board at a place of the buffer, and answers its length, or the number that it is refused with. A byte past the end of the buffer is
+// dropped; where the report is to be whole, a buffer that is too short for it is refused.
+pub fn put_sheet(buf: &mut [u8], at: usize, whole: bool, board: Board) -> Written
+    requires { ⌜ at ≤ 65536 ⌝ }
+    ensures { λ r. ⌜ r ≡ putCall board whole (length (now (buf .entry))) ⌝ }
+    ensures { λ r. ⌜ r .used ≤ 8280 ⌝ }
+    ensures { λ _. ⌜ now (buf .exit) ≡ putIn board whole (now (buf .entry)) at ⌝ }
+{
+    let net = board.network;
+    let acyclic = board.acyclic;
+    let flows = board.flows;
+    let places = board.places;
+    let k = lists::minus(board.moves, 1) as usize;
+    let mut last = Entry::blank();
+    if k < Board::JOURNAL {
+        last = board.journal[k];
+    }
+    let step = last.step;
+    let sound = guard::intact_in(net, acyclic, flows, places, board.moves, step);
+    let journal = board.journal;
+    let mut counts = [0u32; Board::MAX_TERMINALS];
+    let rows = routing::fill(journal, board.moves, &mut counts);
+    let fit = routing::routes_fit(counts, net.terminals);
+    let number = number_of(board.stage, sound, fit);
+    if number != 0 {
+        return Written {
+            answer: number,
+            used: 0,
+        };
+    }
+    if lists::and(whole, buf.len() < REPORT_BYTES) {
+        if !has_room(buf.len(), net, counts, rows) {
+            return Written { answer: 8, used: 0 };
+        }
+    }
+    let end = put_tables(buf, at, net, counts, rows);
+    Written {
+        answer: 0,
+        used: end - at,
+    }
 }
 
 // Writes the route report: 29 where no board was loaded, 28 before a finish, then 8 where the buffer is too short for the text.
@@ -161,21 +207,5 @@ pub fn sheet(board: Board, buf: &mut [u8]) -> Written
     ensures { λ r. ⌜ r ≡ sheetCall board (length (now (buf .entry))) ⌝ }
     ensures { λ _. ⌜ now (buf .exit) ≡ sheeted board (now (buf .entry)) ⌝ }
 {
-    let number = unreported(board);
-    if number != 0 {
-        return Written {
-            answer: number,
-            used: 0,
-        };
-    }
-    let mut none = [0u8; 1];
-    let length = put_report(&mut none, 0, board);
-    if buf.len() < length {
-        return Written { answer: 8, used: 0 };
-    }
-    let used = put_report(buf, 0, board);
-    Written {
-        answer: 0,
-        used: used,
-    }
+    put_sheet(buf, 0, true, board)
 }
