@@ -34,11 +34,8 @@ fn join(rows: &mut [u64], start: usize, end: usize) -> bool
     let old = row_at(&*rows, end);
     let more = row_at(&*rows, start);
     let new = sets::joined(old, more);
-    if new == old {
-        return false;
-    }
     put_row(rows, end, new);
-    true
+    new != old
 }
 
 // Where edge e is positive, the row of its end takes in the row of its start. Answers whether the rows changed.

@@ -1,5 +1,5 @@
-use mathlib.Core.Path.{refl, sym, _∙_}
-use mathlib.Core.Bool.{true≢false}
+use mathlib.Core.Path.{_∙_}
+use borrow.Author.Tests.{eqb-true, not-false}
 use Rattle.graph.proofs.Columns.{stored-same}
 use borrow.Author.Needs.{needs}
 use Rattle.graph.proofs.join.Statement.{statement}
@@ -14,29 +14,19 @@ row-at-requires-2 c κs = search needs
 joined-requires : tie.Need-joined-requires
 joined-requires c κs = search needs
 
+put-row-requires : tie.Need-put-row-requires
+put-row-requires c κs = search needs
+
 same-length : tie.Need-same-length
 same-length c = search needs
 
 returns : tie.Need-returns
 returns c =
-    let at-joined = c .before .joined in
-    let at-row-at2 = c .before .before .row-at2 in
-    let at-row-at = c .before .before .before .before .row-at in
-    (sym (stored-same _ _ _ (cc)), λ h. refl)
-
-put-row-requires : tie.Need-put-row-requires
-put-row-requires c κs = search needs
-
-same-length-2 : tie.Need-same-length-2
-same-length-2 c = search needs
-
-returns-2 : tie.Need-returns-2
-returns-2 c =
     let at-put-row = c .before .before .put-row in
-    let at-joined = c .before .before .before .before .before .joined in
-    let at-row-at2 = c .before .before .before .before .before .before .row-at2 in
-    let at-row-at = c .before .before .before .before .before .before .before .before .row-at in
-    (at-put-row .ensures ∙ cc, λ h. absurd (true≢false h))
+    let at-joined = c .before .before .before .before .joined in
+    let at-row-at2 = c .before .before .before .before .before .row-at2 in
+    let at-row-at = c .before .before .before .before .before .before .before .row-at in
+    (at-put-row .ensures ∙ cc, λ h. at-put-row .ensures ∙ stored-same _ _ _ (eqb-true _ _ (not-false _ h) ∙ at-row-at .ensures))
 
 pub join-spec : {M : Type 1} → statement M
 join-spec =
@@ -45,8 +35,6 @@ join-spec =
     row-at-requires
     row-at-requires-2
     joined-requires
-    same-length
-    returns
     put-row-requires
-    same-length-2
-    returns-2)
+    same-length
+    returns)
