@@ -125,12 +125,12 @@ module _ (b : Board) (play : playing b ≡ true) where
   playing-walkable = walkable (b .network) (b .acyclic) (b .flows) (b .places) (b .moves) (lastEntry b .step) parts
 
 -- with the sets
-module _ (net : Network) (flows : List ℕ) (positive : ℕ) (wet : Positive flows positive) (long : length flows ≡ maxEdges) where
+module _ (net : Network) (flows : List ℕ) (positive : ℕ) (is-positive : Positive flows positive) (long : length flows ≡ maxEdges) where
   pub searched : (places entering : List ℕ) → Searchable net flows places → Incident (net .heads) entering
       → Searched (net .heads) entering (net .demands) (net .terminals) (net .edges) flows positive places
   searched places entering s at = record {
     enter = at;
-    wet = wet;
+    is-positive = is-positive;
     all = long;
     few = s .few;
     past = s .past;
@@ -140,4 +140,4 @@ module _ (net : Network) (flows : List ℕ) (positive : ℕ) (wet : Positive flo
 
   pub charted : (leaving entering : List ℕ) → Walkable net → Incident (net .tails) leaving → Incident (net .heads) entering
       → Charted (net .tails) (net .heads) flows leaving entering positive
-  charted leaving entering w leave enter = record { leave = leave; enter = enter; wet = wet; all = long; tailed = w .tailed; headed = w .headed }
+  charted leaving entering w leave enter = record { leave = leave; enter = enter; is-positive = is-positive; all = long; tailed = w .tailed; headed = w .headed }

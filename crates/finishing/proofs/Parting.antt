@@ -47,7 +47,7 @@ module _ (m e k : ℕ) where
 pub positive-falls : (flows : List ℕ) (positive e rest : ℕ) → length flows ≡ maxEdges → Positive flows positive → rest ≤ getD flows e 0
     → Positive (set flows e rest) (positiveAfter positive rest e)
 unfolding positiveAfter
-positive-falls flows positive e rest long wet less k h = go (known (eqb rest 0)) (eq-or-ne k e)
+positive-falls flows positive e rest long is-positive less k h = go (known (eqb rest 0)) (eq-or-ne k e)
   where
     go : Known (eqb rest 0) → (k ≡ e) ⊎ (k ≢ e) → hasBit (pick (eqb rest 0) (dropped positive e) positive) k ≡ ltb 0 (getD (set flows e rest) k 0)
     go (was-true t) (inl q) =
@@ -59,17 +59,17 @@ positive-falls flows positive e rest long wet less k h = go (known (eqb rest 0))
         let own : getD (set flows e rest) k 0 ≡ rest = rw q (getD-set-same flows e rest 0 (omega (arith, q, h, long))) in
         let same : getD flows e 0 ≡ getD flows k 0 = ap (λ (j : ℕ). getD flows j 0) (sym q) in
         rw (pick-no _ (dropped positive e) positive t)
-        (wet k h ∙ lt-ltb 0 (getD flows k 0) (omega (arith, n, same, less)) ∙ sym (lt-ltb 0 (getD (set flows e rest) k 0) (omega (arith, own, n))))
+        (is-positive k h ∙ lt-ltb 0 (getD flows k 0) (omega (arith, n, same, less)) ∙ sym (lt-ltb 0 (getD (set flows e rest) k 0) (omega (arith, own, n))))
     go (was-true t) (inr n) =
-        rw (pick-yes _ (dropped positive e) positive t, getD-set-other flows e k rest 0 n) (dropped-other positive e k n ∙ wet k h)
-    go (was-false t) (inr n) = rw (pick-no _ (dropped positive e) positive t, getD-set-other flows e k rest 0 n) (wet k h)
+        rw (pick-yes _ (dropped positive e) positive t, getD-set-other flows e k rest 0 n) (dropped-other positive e k n ∙ is-positive k h)
+    go (was-false t) (inr n) = rw (pick-no _ (dropped positive e) positive t, getD-set-other flows e k rest 0 n) (is-positive k h)
 
 -- no move
 pub stop-made : (answer : ℕ) (flows : List ℕ) (marks : ℕ) (places : List ℕ) (positive : ℕ) (entry : Entry) → Positive flows positive → allSmall flows ≡ true
     → entry ≡ blank
     → Makes (unchanged answer flows marks places)
     (record { change = record { answer = answer; flows = flows; marks = marks; places = places; entry = entry }; positive = positive; small = true })
-stop-made answer flows marks places positive entry wet small e = record { changes = rw e; wet = wet; smalls = sym small }
+stop-made answer flows marks places positive entry is-positive small e = record { changes = rw e; is-positive = is-positive; smalls = sym small }
 
 -- a carry, by whether its terminal is at the source
 module _ (net : Network) (flows : List ℕ) (marks : ℕ) (places : List ℕ) (positive i e p : ℕ) (hp : p ≡ getD places i 0) where
@@ -77,20 +77,20 @@ module _ (net : Network) (flows : List ℕ) (marks : ℕ) (places : List ℕ) (p
   unfolding carryStep
   carry-stopped r home m = rw (pick-yes (eqb (getD places i 0) (net .source)) (unchanged 21 flows marks places) (carriedIn net flows marks places i e) (eq-eqb _ _ (sym hp ∙ home))) m
 
-  pub carry-made : (f d t rest wet : ℕ) (flows' places' : List ℕ) → p ≢ net .source → f ≡ getD flows e 0 → d ≡ getD (net .demands) i 0
-      → t ≡ getD (net .tails) e 0 → rest ≡ f - d → flows' ≡ set flows e rest → places' ≡ set places i t → wet ≡ positiveAfter positive rest e
+  pub carry-made : (f d t rest after : ℕ) (flows' places' : List ℕ) → p ≢ net .source → f ≡ getD flows e 0 → d ≡ getD (net .demands) i 0
+      → t ≡ getD (net .tails) e 0 → rest ≡ f - d → flows' ≡ set flows e rest → places' ≡ set places i t → after ≡ positiveAfter positive rest e
       → length flows ≡ maxEdges → Positive flows positive → allSmall flows ≡ true
       → Makes (carryStep net flows marks places i e)
       (record {
         change = record { answer = 0; flows = flows'; marks = marks; places = places'; entry = record { step = Carry (record { terminal = i; edge = e }) } };
-        positive = wet;
+        positive = after;
         small = true;
       })
   unfolding carryStep
-  carry-made f d t rest wet flows' places' out hf hd ht hr hfs hps hw long was small = record {
+  carry-made f d t rest after flows' places' out hf hd ht hr hfs hps hw long was small = record {
     changes =
         makes-carried net flows marks places i e f d t rest flows' places' hf hd ht hr hfs hps
         ∙ sym (pick-no (eqb (getD places i 0) (net .source)) _ _ (ne-eqb _ _ (λ q. out (hp ∙ q))));
-    wet = rw (hfs, hw) (positive-falls flows positive e rest long was (omega (arith, hr, hf)));
+    is-positive = rw (hfs, hw) (positive-falls flows positive e rest long was (omega (arith, hr, hf)));
     smalls = sym (rw hfs (fall-small flows e rest (omega (arith, hr, hf)) small));
   }

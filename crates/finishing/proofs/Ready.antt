@@ -45,14 +45,14 @@ module _ (net : Network) (flows : List ℕ) (marks : ℕ) (places : List ℕ) (p
   pub ready-walks : Walkable net
   ready-walks = rw (p .its-network) at (playing-walkable (p .board) (p .play) (rw (p .its-network) (p .sized .tails)) (rw (p .its-network) (p .sized .heads)))
 
-  module _ (positive : ℕ) (wet : Positive flows positive) where
+  module _ (positive : ℕ) (is-positive : Positive flows positive) where
     pub ready-searched : (entering : List ℕ) → Incident (net .heads) entering
         → Searched (net .heads) entering (net .demands) (net .terminals) (net .edges) flows positive places
-    ready-searched entering at = searched net flows positive wet (p .long) places entering searchable at
+    ready-searched entering at = searched net flows positive is-positive (p .long) places entering searchable at
 
     pub ready-charted : (leaving entering : List ℕ) → Incident (net .tails) leaving → Incident (net .heads) entering
         → Charted (net .tails) (net .heads) flows leaving entering positive
-    ready-charted leaving entering leave enter = charted net flows positive wet (p .long) leaving entering ready-walks leave enter
+    ready-charted leaving entering leave enter = charted net flows positive is-positive (p .long) leaving entering ready-walks leave enter
 
   -- the solver's cycle has room in a walk, and the walk says it back
   abbrev cycle : List Step

@@ -71,7 +71,7 @@ pub record Run (whole : Board) (net : Network) (last : Board) (flows : List ℕ)
   pub run : steppedOn left (standing last flows marks places moves) ≡ playedOut whole
   pub play : left ≢ 0 → playing (standing last flows marks places moves) ≡ true
   pub network : last .network ≡ net
-  pub wet : Positive flows positive
+  pub is-positive : Positive flows positive
   pub long : length flows ≡ maxEdges
   pub sized : Sized net
   pub room : length (last .journal) ≡ maxMoves
@@ -80,8 +80,8 @@ pub run-starts : (b : Board) (positive : ℕ) → playing b ≡ true → Positiv
     → Sized (b .network) → length (b .journal) ≡ maxMoves
     → Run b (b .network) b (b .flows) (b .marks) (b .places) (b .moves) positive maxMoves
 unfolding playedOut
-run-starts b positive play wet long sized room =
-    record { run = refl; play = λ n. play; network = refl; wet = wet; long = long; sized = sized; room = room }
+run-starts b positive play is-positive long sized room =
+    record { run = refl; play = λ n. play; network = refl; is-positive = is-positive; long = long; sized = sized; room = room }
 
 module _ (whole : Board) (net : Network) (last : Board) (flows : List ℕ) (marks : ℕ) (places : List ℕ) (moves positive left : ℕ)
     (r : Run whole net last flows marks places moves positive left) (n : left ≢ 0) where
@@ -98,7 +98,7 @@ module _ (whole : Board) (net : Network) (last : Board) (flows : List ℕ) (mark
       run = sym (on-stops left (standing last flows marks places moves) (fol .refused s)) ∙ r .run;
       play = λ z. absurd (z refl);
       network = r .network;
-      wet = r .wet;
+      is-positive = r .is-positive;
       long = r .long;
       sized = r .sized;
       room = r .room;
@@ -133,12 +133,12 @@ module _ (whole : Board) (net : Network) (last : Board) (flows : List ℕ) (mark
             (pick (both (leb (moves + 1) maxMoves) (made .small)) (left - 1) 0)
         go (was-true t) =
             rw (pick-yes _ (left - 1) 0 t)
-            (record { run = rest; play = λ q. goes-on ∙ t; network = r .network; wet = a .wet; long = long; sized = r .sized; room = room })
+            (record { run = rest; play = λ q. goes-on ∙ t; network = r .network; is-positive = a .is-positive; long = long; sized = r .sized; room = room })
         go (was-false t) = rw (pick-no _ (left - 1) 0 t) (record {
           run = sym (on-stops (left - 1) next (closed-stops next (goes-on ∙ t))) ∙ rest;
           play = λ q. absurd (q refl);
           network = r .network;
-          wet = a .wet;
+          is-positive = a .is-positive;
           long = long;
           sized = r .sized;
           room = room;

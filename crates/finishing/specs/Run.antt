@@ -78,7 +78,7 @@ pub record InPlay (net : Network) (flows : List ℕ) (marks : ℕ) (places : Lis
 -- a move of the solver is this change, with the wet channels after it, and whether the flows are small then
 pub record Makes (change : Change) (made : Made) : Type 0 where
   pub changes : made .change ≡ change
-  pub wet : Positive (made .change .flows) (made .positive)
+  pub is-positive : Positive (made .change .flows) (made .positive)
   pub smalls : made .small ≡ allSmall (made .change .flows)
 
 -- the moves that are left of a run where the board is in play after one of them, else none

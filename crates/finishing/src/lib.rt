@@ -128,7 +128,7 @@ fn carried(
     let rest = lists::minus(flow, demand);
     let new_flows = journal::put_flow(flows, e as usize, rest);
     let new_places = journal::put_place(places, i as usize, tail);
-    let wet = positive_after(positive, rest, e);
+    let after = positive_after(positive, rest, e);
     let change = Change {
         answer: 0,
         flows: new_flows,
@@ -143,7 +143,7 @@ fn carried(
     };
     Made {
         change: change,
-        positive: wet,
+        positive: after,
         small: true,
     }
 }
@@ -181,11 +181,11 @@ fn turned<'a>(
     let count = walk.count as usize;
     let change = turning::change(true, false, net, flows, marks, places, &steps[..count]);
     let new_flows = change.flows;
-    let wet = incidence::positive(new_flows);
+    let after = incidence::positive(new_flows);
     let small = all_small(new_flows);
     Made {
         change: change,
-        positive: wet,
+        positive: after,
         small: small,
     }
 }

@@ -31,13 +31,13 @@ dropped-most m c = go (known (hasBit m c))
     go (was-true t) = rw (pick-yes (hasBit m c) (m - 2 ^ c) m t) (omega arith)
     go (was-false t) = rw (pick-no (hasBit m c) (m - 2 ^ c) m t) (omega arith)
 
-module _ (ends flows edges : List ℕ) (positive v : ℕ) (at : Incident ends edges) (wet : Positive flows positive) (small : v < maxVertices)
+module _ (ends flows edges : List ℕ) (positive v : ℕ) (at : Incident ends edges) (is-positive : Positive flows positive) (small : v < maxVertices)
     (fits : positive < 2 ^ setWidth) (long : length flows ≡ maxEdges) where
   abbrev here : ℕ
   here = touchingAt edges positive v
 
   bits : (e : ℕ) → hasBit here e ≡ leaves ends flows v e
-  bits = touching-is ends flows edges positive v at wet small fits long
+  bits = touching-is ends flows edges positive v at is-positive small fits long
 
   here-fits : here < 2 ^ setWidth
   here-fits = omega (arith, fits, and-le-r (getD edges v 0) positive)

@@ -31,10 +31,10 @@ pub leaves-past : (ends flows : List ℕ) (v e : ℕ) → length flows ≤ e →
 unfolding leaves both
 leaves-past ends flows v e h = rw (List·getD-eq-default flows 0 h, le-ltb 0 0 (omega arith))
 
-module _ (ends flows edges : List ℕ) (positive v : ℕ) (at : Incident ends edges) (wet : Positive flows positive) (small : v < maxVertices) where
+module _ (ends flows edges : List ℕ) (positive v : ℕ) (at : Incident ends edges) (is-positive : Positive flows positive) (small : v < maxVertices) where
   pub touching-at : (e : ℕ) → e < maxEdges → hasBit (touchingAt edges positive v) e ≡ leaves ends flows v e
   unfolding leaves
-  touching-at e h = has-common (getD edges v 0) positive e ∙ rw (at v e small h, wet e h) (both-swap (eqb (getD ends e 0) v) (ltb 0 (getD flows e 0)))
+  touching-at e h = has-common (getD edges v 0) positive e ∙ rw (at v e small h, is-positive e h) (both-swap (eqb (getD ends e 0) v) (ltb 0 (getD flows e 0)))
 
   pub touching-is : positive < 2 ^ setWidth → length flows ≡ maxEdges → (e : ℕ) → hasBit (touchingAt edges positive v) e ≡ leaves ends flows v e
   touching-is fits long e = go (lt-or-ge e maxEdges)

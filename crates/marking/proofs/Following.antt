@@ -27,9 +27,9 @@ module _ (tails heads flows sets : List ℕ) (positive : ℕ) (chart : Charted t
   unfolding straightBy straight
   straight-same zero v small = refl
   straight-same (suc k) v small =
-      let first = first-in tails flows sets positive v (chart .leave) (chart .wet) small fits (chart .all) in
-      let one = some-in tails flows sets positive v (chart .leave) (chart .wet) small fits (chart .all) in
-      let two = more-in tails flows sets positive v (chart .leave) (chart .wet) small fits (chart .all) in
+      let first = first-in tails flows sets positive v (chart .leave) (chart .is-positive) small fits (chart .all) in
+      let one = some-in tails flows sets positive v (chart .leave) (chart .is-positive) small fits (chart .all) in
+      let two = more-in tails flows sets positive v (chart .leave) (chart .is-positive) small fits (chart .all) in
       let on = ap (λ (e : ℕ). straightBy heads sets positive k (getD heads e 0)) first ∙ straight-same k (getD heads (leaving tails flows v 0) 0) (chart .headed _) in
       λ i. through (one i) (two i) (on i)
 
@@ -43,5 +43,5 @@ module _ (tails heads flows sets : List ℕ) (positive : ℕ) (chart : Charted t
     where
       go : (c : ℕ) → (c < setWidth) ⊎ (setWidth ≤ c)
           → both (ltb c setWidth) (isFreshBy heads sets positive vertices marks c) ≡ both (ltb c (length flows)) (isFreshIn tails heads flows vertices marks c)
-      go c (inl l) = rw (chart .all, chart .wet c l, singular-same vertices c) refl
+      go c (inl l) = rw (chart .all, chart .is-positive c l, singular-same vertices c) refl
       go c (inr l) = rw (chart .all, le-ltb c setWidth l) refl

@@ -56,6 +56,6 @@ isFreshBy heads leaving positive vertices marks e = both (not (hasBit marks e)) 
 -- the sets are those of the lists, and each edge leads to a vertex
 pub record Charted (tails heads flows leaving : List ℕ) (positive : ℕ) : Type 0 where
   pub leave : Incident tails leaving
-  pub wet : Positive flows positive
+  pub is-positive : Positive flows positive
   pub all : length flows ≡ maxEdges
   pub headed : (e : ℕ) → getD heads e 0 < maxVertices

@@ -97,7 +97,7 @@ module _ (heads entering demands : List ℕ) (terminals edges : ℕ) (flows : Li
   markedOpen = markedOpenAt heads demands edges flows marks places i
 
   into-at : (e : ℕ) → hasBit into e ≡ leaves heads flows place e
-  into-at = touching-is heads flows entering positive place (searched .enter) (searched .wet) (searched .placed i below) fits (searched .all)
+  into-at = touching-is heads flows entering positive place (searched .enter) (searched .is-positive) (searched .placed i below) fits (searched .all)
 
   -- the edges of the set that fit are those of the open carries
   open-at : (e : ℕ) → both (hasBit into e) (fit e) ≡ opens e

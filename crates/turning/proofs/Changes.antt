@@ -77,7 +77,7 @@ module _ (b : Board) (play : playing b ≡ true) where
 -- the sets of a sound network chart it
 pub charted : (net : Network) (flows leaving : List ℕ) (positive : ℕ) → Sound net flows → length (net .heads) ≡ maxEdges → length flows ≡ maxEdges
     → Incident (net .tails) leaving → Positive flows positive → Charted (net .tails) (net .heads) flows leaving positive
-charted net flows leaving positive sound wide long at wet = record { leave = at; wet = wet; all = long; headed = sound .headed wide }
+charted net flows leaving positive sound wide long at is-positive = record { leave = at; is-positive = is-positive; all = long; headed = sound .headed wide }
 
 module _ (b : Board) (w : List Step) where
   pub refusal-same : turnRefusalIn (playing b) (someOpen b) (b .network) (b .flows) w ≡ turnRefusal b w

@@ -36,13 +36,13 @@ dropped-most m c = go (known (hasBit m c))
     go (was-false t) = rw (pick-no (hasBit m c) (m - 2 ^ c) m t) (omega arith)
 
 -- one end of the edges
-module _ (ends flows edges : List ℕ) (positive v : ℕ) (at : Incident ends edges) (wet : Positive flows positive) (small : v < maxVertices)
+module _ (ends flows edges : List ℕ) (positive v : ℕ) (at : Incident ends edges) (is-positive : Positive flows positive) (small : v < maxVertices)
     (fits : positive < 2 ^ setWidth) (long : length flows ≡ maxEdges) where
   abbrev here : ℕ
   here = touchingAt edges positive v
 
   bits : (e : ℕ) → hasBit here e ≡ leaves ends flows v e
-  bits = touching-is ends flows edges positive v at wet small fits long
+  bits = touching-is ends flows edges positive v at is-positive small fits long
 
   others : (x e : ℕ) → hasBit (dropped here x) e ≡ touches ends flows v x e
   unfolding touches
@@ -109,13 +109,13 @@ module _ (ends flows edges : List ℕ) (positive v : ℕ) (at : Incident ends ed
 module _ (tails heads flows leaving entering : List ℕ) (positive v : ℕ) (chart : Charted tails heads flows leaving entering positive)
     (fits : positive < 2 ^ setWidth) (small : v < maxVertices) where
   pub falls-in : (x : ℕ) → anotherIn leaving positive v x ≡ another tails flows v x
-  falls-in = another-in tails flows leaving positive v (chart .leave) (chart .wet) small fits (chart .all)
+  falls-in = another-in tails flows leaving positive v (chart .leave) (chart .is-positive) small fits (chart .all)
 
   pub climbs-in : (x : ℕ) → anotherIn entering positive v x ≡ another heads flows v x
-  climbs-in = another-in heads flows entering positive v (chart .enter) (chart .wet) small fits (chart .all)
+  climbs-in = another-in heads flows entering positive v (chart .enter) (chart .is-positive) small fits (chart .all)
 
   pub parting-in : partsIn leaving positive v ≡ parts tails flows v
-  parting-in = parts-in tails flows leaving positive v (chart .leave) (chart .wet) small fits (chart .all)
+  parting-in = parts-in tails flows leaving positive v (chart .leave) (chart .is-positive) small fits (chart .all)
 
 -- one start more: v is among them where it is among the old ones, or is the new one
 index-new : (v : ℕ) (xs : List ℕ) → indexOf v (xs ++ (v ∷ [])) < length (xs ++ (v ∷ []))

@@ -16,7 +16,7 @@ use Rattle.walking.specs.Walk.{firstMet}
 pub record Charted (tails heads flows leaving entering : List ℕ) (positive : ℕ) : Type 0 where
   pub leave : Incident tails leaving
   pub enter : Incident heads entering
-  pub wet : Positive flows positive
+  pub is-positive : Positive flows positive
   pub all : length flows ≡ maxEdges
   pub tailed : (e : ℕ) → getD tails e 0 < maxVertices
   pub headed : (e : ℕ) → getD heads e 0 < maxVertices

@@ -58,7 +58,7 @@ advance-requires c κs =
     let at-loop = c .before .before .before in
     let at-sets = at-loop .before .before .before .before in (
       run-plays _ _ _ _ _ _ _ _ _ (at-loop .loop .inv) (c .before .before .loop-test .taken),
-      (at-sets .before .at-vertices .ensures, (at-sets .at-vertices2 .ensures, at-loop .loop .inv .wet)),
+      (at-sets .before .at-vertices .ensures, (at-sets .at-vertices2 .ensures, at-loop .loop .inv .is-positive)),
     )
 
 loop-less : tie.Need-loop-less Inv-loop μ-loop

@@ -59,7 +59,7 @@ returns-2 c =
     let pre = at-if1 .before .before .before .before .before .pre in
     record {
       changes = turn-made _ _ _ _ (pre .0) _ (at-cycle .cycle .ensures) _ _ (at-if1 .before .all-home .ensures) (at-if1 .if1 .left) (c .before .before .before .change .ensures);
-      wet = c .before .positive .ensures;
+      is-positive = c .before .positive .ensures;
       smalls = c .all-small .ensures;
     }
 
