@@ -1,6 +1,6 @@
 //! A board through engine, reference and fast program: loaded, finished and reported.
 
-use crate::play::{finished_by_engine, finished_by_reference, journal_of_entries, Finished};
+use crate::play::{finished_by_engine, finished_by_player, journal_of_entries, Finished};
 use crate::report::reported_by_engine;
 use crate::{same, Tally};
 use reference::boards::random_board;
@@ -34,12 +34,10 @@ fn finished_by_fast(board: &mut Board, text: &[u8]) -> Finished {
 
 /// A board that is accepted: the whole board at the end, and its report.
 fn compare_board(fast: &mut Board, text: &[u8], tally: &mut Tally) -> Result<(), String> {
-    let (by_engine, _) = finished_by_engine(text, &[]);
-    let by_reference = finished_by_reference(text, &[]);
-    same(text, &by_reference, &finished_by_fast(fast, text)).map_err(|difference| format!("the fast program, not the engine:\n{difference}"))?;
-    let finished = same(text, by_reference, by_engine)?;
     let (_, mut player) = Player::load(text);
-    player.finish().map_err(|refusal| format!("the reference refuses a finish with {refusal}"))?;
+    let by_reference = finished_by_player(&mut player, Vec::new());
+    same(text, &by_reference, &finished_by_fast(fast, text)).map_err(|difference| format!("the fast program, not the engine:\n{difference}"))?;
+    let finished = same(text, by_reference, finished_by_engine(text, &[]).0)?;
     let report = player.sheet_text().map_err(|refusal| format!("the reference refuses a report with {refusal}"))?;
     let mut buffer = vec![0; report.len()];
     let length = fast.report(&mut buffer).map_err(|refusal| format!("the fast program refuses a report with {refusal}"))?;

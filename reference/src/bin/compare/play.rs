@@ -93,14 +93,19 @@ fn played_by_reference(text: &[u8], calls: &[EngineCall]) -> Played {
     Played { loading, given, end: end_by_reference(&player) }
 }
 
-pub fn finished_by_reference(text: &[u8], calls: &[EngineCall]) -> Finished {
-    let (_, mut player) = Player::load(text);
-    let given = calls.iter().map(|call| call_by_reference(&mut player, call)).collect();
+/// A finish of the player's board, behind calls with these answers.
+pub fn finished_by_player(player: &mut Player, given: Vec<u32>) -> Finished {
     let (answer, count) = match player.finish() {
         Ok(count) => (0, number(count)),
         Err(refusal) => (refusal, 0),
     };
-    Finished { given, answer, count, end: end_by_reference(&player) }
+    Finished { given, answer, count, end: end_by_reference(player) }
+}
+
+fn finished_by_reference(text: &[u8], calls: &[EngineCall]) -> Finished {
+    let (_, mut player) = Player::load(text);
+    let given = calls.iter().map(|call| call_by_reference(&mut player, call)).collect();
+    finished_by_player(&mut player, given)
 }
 
 /// "Hint gives some move that would be accepted. It gives none only if every mill is at the spring": whether the engine's hint keeps that rule on
