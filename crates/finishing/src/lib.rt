@@ -179,7 +179,17 @@ fn turned<'a>(
     );
     let steps = walk.steps;
     let count = walk.count as usize;
-    let change = turning::change(true, false, net, flows, marks, places, &steps[..count]);
+    let change = turning::change_by(
+        true,
+        false,
+        net,
+        flows,
+        marks,
+        places,
+        leaving,
+        positive,
+        &steps[..count],
+    );
     let new_flows = change.flows;
     let after = incidence::positive(new_flows);
     let small = all_small(new_flows);

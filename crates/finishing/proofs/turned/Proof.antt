@@ -37,14 +37,16 @@ array-share-prefix-steps c =
     let pre = at-cycle .before .before .before .before .before .before .before .before .before .before .before .before .pre in
     walk-fits _ _ _ _ (pre .0) _ (at-cycle .cycle .ensures)
 
-slice-aggregate-change : tie.Need-slice-aggregate-change
-slice-aggregate-change c =
+slice-aggregate-change-by : tie.Need-slice-aggregate-change-by
+slice-aggregate-change-by c =
     let at-cycle = c .before .before .before in
     let pre = at-cycle .before .before .before .before .before .before .before .before .before .before .before .before .pre in
     sym (length-take-le _ _ (walk-fits _ _ _ _ (pre .0) _ (at-cycle .cycle .ensures)))
 
-change-requires : tie.Need-change-requires
-change-requires c κs = λ t. ready-sound _ _ _ _ (c .before .before .before .before .before .before .before .before .before .before .before .before .before .before .before .pre .0)
+change-by-requires : tie.Need-change-by-requires
+change-by-requires c κs =
+    let pre = c .before .before .before .before .before .before .before .before .before .before .before .before .before .before .before .pre in
+    ((λ t. ready-sound _ _ _ _ (pre .0)), (pre .1 .0, pre .1 .1 .1))
 
 positive-requires : tie.Need-positive-requires
 positive-requires c κs = search needs
@@ -58,7 +60,7 @@ returns-2 c =
     let at-if1 = at-cycle .before .before .before .before .before .before .before in
     let pre = at-if1 .before .before .before .before .before .pre in
     record {
-      changes = turn-made _ _ _ _ (pre .0) _ (at-cycle .cycle .ensures) _ _ (at-if1 .before .all-home .ensures) (at-if1 .if1 .left) (c .before .before .before .change .ensures);
+      changes = turn-made _ _ _ _ (pre .0) _ (at-cycle .cycle .ensures) _ _ (at-if1 .before .all-home .ensures) (at-if1 .if1 .left) (c .before .before .before .change-by .ensures);
       is-positive = c .before .positive .ensures;
       smalls = c .all-small .ensures;
     }
@@ -75,8 +77,8 @@ turned-spec =
     cycle-requires
     cast-count
     array-share-prefix-steps
-    slice-aggregate-change
-    change-requires
+    slice-aggregate-change-by
+    change-by-requires
     positive-requires
     all-small-requires
     returns-2)
