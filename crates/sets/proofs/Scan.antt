@@ -4,7 +4,7 @@ use mathlib.Core.Path.{_≡_, refl, sym, ap, _∙_}
 use mathlib.Core.Bool.{Bool, true, false, not, true≢false}
 use mathlib.Core.Logic.{_⊎_, inl, inr, _≢_}
 use Prim.Native.Nat.{ℕ, zero, suc, _+_, _-_, _*_, _<_, _≤_, _^_, _/_, _%_, min}
-use native.Mathlib.Nat.{one-mul, mod-lt, pow-suc, zero-add, div-one, pow-zero}
+use native.Mathlib.Nat.{one-mul, mod-lt, pow-suc, div-one, pow-zero}
 use native.Mathlib.Omega.{arith}
 use lib.Dec.{eqb, lit<}
 use lib.Arith.{digits-mod}
@@ -12,9 +12,9 @@ use lib.Bits.{bitAnd, and-shr, and-step}
 use lib.Count.{trailingZeros, under}
 use lib.Pow.{pow-pos, shl-exact}
 use borrow.Author.Tests.{eq-eqb, ne-eqb, eqb-true}
-use Rattle.lists.specs.Choice.{pick, both}
+use Rattle.lists.specs.Choice.{both}
 use Rattle.lists.specs.Lists.{lowest}
-use Rattle.lists.proofs.Laws.{Known, was-true, was-false, known, lt-or-ge, eq-or-ne, pick-yes, pick-no, both-left, both-right}
+use Rattle.lists.proofs.Laws.{Known, was-true, was-false, known, lt-or-ge, eq-or-ne, pick-yes, pick-no}
 use Rattle.lists.proofs.Lowest.{Least, lowest-least}
 use Rattle.sets.specs.Sets.{setWidth, hasBit, common, dropped}
 use Rattle.sets.proofs.Bits.{bitAt, bit-small, has-past, has-none, has-half, has-odd}

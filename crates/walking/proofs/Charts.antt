@@ -1,39 +1,29 @@
 -- The walk by sets is the walk by lists. The edges in the set at a vertex are those that the search over all edges would find; two edges leave where the set
 -- without its lowest edge is not empty; and a step makes one vertex more seen, the one that it starts from.
 use mathlib.Core.Path.{_≡_, refl, sym, ap, _∙_}
-use mathlib.Core.Bool.{Bool, true, false, not, true≢false}
-use mathlib.Core.List.{List, [], _∷_, _++_}
+use mathlib.Core.Bool.{Bool, not}
+use mathlib.Core.List.{List, _∷_, _++_}
 use mathlib.Core.Logic.{_⊎_, inl, inr, _≢_}
 use Prim.Native.Nat.{ℕ, suc, _+_, _-_, _<_, _≤_, _^_}
-use native.Mathlib.Nat.{sub-zero}
 use native.Mathlib.Omega.{arith}
-use lib.Bits.{and-le-r}
 use lib.Dec.{ltb, eqb}
-use lib.ListN.{length, getD}
+use lib.ListN.{length}
 use borrow.Author.Tests.{lt-ltb, le-ltb, eq-eqb, ne-eqb}
-use Rattle.lists.specs.Choice.{pick, both}
+use Rattle.lists.specs.Choice.{both}
 use Rattle.lists.specs.Lists.{indexOf, lowest}
-use Rattle.lists.proofs.Laws.{Known, was-true, was-false, known, lt-or-ge, eq-or-ne, pick-yes, pick-no, both-left, both-right, both-true}
-use Rattle.lists.proofs.Lowest.{Least, lowest-least, lowest-found}
+use Rattle.lists.proofs.Laws.{Known, was-true, was-false, known, lt-or-ge, eq-or-ne}
 use Rattle.sets.specs.Sets.{setWidth, hasBit, withBit, dropped}
 use Rattle.sets.proofs.Bits.{has-none, has-with-same, has-with-other}
-use Rattle.sets.proofs.Scan.{has-dropped, lowest-below, lowest-has}
+use Rattle.sets.proofs.Scan.{has-dropped}
 use Rattle.board.specs.Limits.{maxVertices, maxEdges}
 use Rattle.singular.specs.Singular.{leaves, leaving}
 use Rattle.incidence.specs.Incidence.{Incident, Positive, touchingAt}
 use Rattle.incidence.proofs.Meeting.{touching-is}
+use Rattle.incidence.proofs.Leaving.{more-in}
 use Rattle.flows.specs.Trails.{Step, startOf}
 use Rattle.walking.specs.Walk.{touches, another, parts, startsOf, firstMet}
 use Rattle.walking.proofs.Loops.{starts-length}
 use Rattle.walking.specs.Chart.{Charted, Seen, anotherIn, partsIn}
-
-dropped-most : (m c : ℕ) → dropped m c ≤ m
-unfolding dropped
-dropped-most m c = go (known (hasBit m c))
-  where
-    go : Known (hasBit m c) → pick (hasBit m c) (m - 2 ^ c) m ≤ m
-    go (was-true t) = rw (pick-yes (hasBit m c) (m - 2 ^ c) m t) (omega arith)
-    go (was-false t) = rw (pick-no (hasBit m c) (m - 2 ^ c) m t) (omega arith)
 
 -- one end of the edges
 module _ (ends flows edges : List ℕ) (positive v : ℕ) (at : Incident ends edges) (is-positive : Positive flows positive) (small : v < maxVertices)
@@ -52,58 +42,9 @@ module _ (ends flows edges : List ℕ) (positive v : ℕ) (at : Incident ends ed
   unfolding another
   another-in x = ap (λ (p : ℕ → Bool). lowest p 0 setWidth) (λ i e. others x e i) ∙ ap (λ (n : ℕ). lowest (touches ends flows v x) 0 n) (sym long)
 
-  -- the first edge, what is left without it, and the edge after it
-  abbrev first : ℕ
-  first = lowest (leaves ends flows v) 0 maxEdges
-
-  abbrev rest : ℕ
-  rest = dropped here first
-
-  abbrev second : ℕ
-  second = lowest (leaves ends flows v) (suc first) (maxEdges - suc first)
-
-  rest-at : (e : ℕ) → hasBit rest e ≡ both (leaves ends flows v e) (not (eqb e first))
-  rest-at e = has-dropped here first e ∙ ap (λ (b : Bool). both b (not (eqb e first))) (bits e)
-
-  two : 0 < rest → second < maxEdges
-  two h =
-      let small : rest < 2 ^ setWidth = omega (arith, fits, and-le-r (getD edges v 0) positive, dropped-most here first) in
-      let e = lowest (hasBit rest) 0 setWidth in
-      let has : both (leaves ends flows v e) (not (eqb e first)) ≡ true = sym (rest-at e) ∙ lowest-has rest small h in
-      let leaving : leaves ends flows v e ≡ true = both-left _ _ has in
-      let low : first ≤ e = lowest-found (leaves ends flows v) 0 maxEdges e (omega arith) leaving in
-      let other : e ≡ first → ⊥ = λ q. true≢false (sym (both-right _ _ has) ∙ ap not (eq-eqb e first q)) in
-      let above : suc first ≤ e = omega (arith, low, other) in
-      let found : second ≤ e = lowest-found (leaves ends flows v) (suc first) (maxEdges - suc first) e above leaving in
-      omega (arith, found, lowest-below rest small h)
-
-  one : rest ≡ 0 → maxEdges ≤ second
-  one z = go (lt-or-ge second maxEdges)
-    where
-      least : Least (leaves ends flows v) (suc first) (suc first + (maxEdges - suc first)) second
-      least = lowest-least (leaves ends flows v) (suc first) (maxEdges - suc first)
-
-      go : (second < maxEdges) ⊎ (maxEdges ≤ second) → maxEdges ≤ second
-      go (inr l) = l
-      go (inl l) =
-          let low : suc first ≤ second = least .low in
-          let leaving : leaves ends flows v second ≡ true = least .hit (omega (arith, low, l)) in
-          let other : not (eqb second first) ≡ true = ap not (ne-eqb second first (λ q. omega (arith, q, low))) in
-          absurd (true≢false (sym (both-true _ _ leaving other) ∙ sym (rest-at second) ∙ ap (λ (m : ℕ). hasBit m second) z ∙ has-none second))
-
-  counted : ltb 0 rest ≡ ltb second maxEdges
-  counted = go (eq-or-ne rest 0)
-    where
-      go : (rest ≡ 0) ⊎ (rest ≢ 0) → ltb 0 rest ≡ ltb second maxEdges
-      go (inl z) = rw (le-ltb 0 rest (omega (arith, z)), le-ltb second maxEdges (one z))
-      go (inr n) = let h : 0 < rest = omega (arith, n) in rw (lt-ltb 0 rest h, lt-ltb second maxEdges (two h))
-
   pub parts-in : partsIn edges positive v ≡ parts ends flows v
-  unfolding parts leaving
-  parts-in =
-      ap (λ (p : ℕ → Bool). ltb 0 (dropped here (lowest p 0 setWidth))) (λ i e. bits e i) ∙ counted
-      ∙ ap (λ (n : ℕ). ltb (lowest (leaves ends flows v) (suc (lowest (leaves ends flows v) 0 n)) (n - suc (lowest (leaves ends flows v) 0 n))) n) (sym long)
-      ∙ rw sub-zero
+  unfolding parts
+  parts-in = more-in ends flows edges positive v at is-positive small fits long
 
 -- the walk's two ends
 module _ (tails heads flows leaving entering : List ℕ) (positive v : ℕ) (chart : Charted tails heads flows leaving entering positive)

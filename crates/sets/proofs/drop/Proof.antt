@@ -1,7 +1,5 @@
 use mathlib.Core.Path.{sym, ap, _∙_}
 use Prim.Native.Nat.{ℕ, _-_}
-use native.Mathlib.Omega.{arith}
-use Rattle.lists.specs.Choice.{pick}
 use Rattle.lists.proofs.Laws.{pick-yes, pick-no}
 use Rattle.sets.specs.Sets.{dropped}
 use Rattle.sets.proofs.Scan.{has-inside, has-least, shifted-one}
