@@ -179,9 +179,8 @@ pub fn put_sheet(buf: &mut [u8], at: usize, whole: bool, board: Board) -> Writte
     }
     let step = last.step;
     let sound = guard::intact_in(net, acyclic, flows, places, board.moves, step);
-    let journal = board.journal;
     let mut counts = [0u32; Board::MAX_TERMINALS];
-    let rows = routing::fill(journal, board.moves, &mut counts);
+    let rows = routing::fill(board.journal, board.moves, &mut counts);
     let fit = routing::routes_fit(counts, net.terminals);
     let number = number_of(board.stage, sound, fit);
     if number != 0 {
