@@ -1,20 +1,18 @@
 -- What the call answers, from the tests of the code: each is a test of the definition. A board that is not intact is refused whatever its routes are.
-use mathlib.Core.Path.{_≡_, refl, sym, ap, _∙_}
+use mathlib.Core.Path.{_≡_, refl, sym, _∙_}
 use mathlib.Core.Bool.{Bool, true, false}
-use mathlib.Core.Logic.{_⊎_, inl, inr}
 use mathlib.Core.List.{List, [], _∷_, _++_, append-nil}
-use Prim.Native.Nat.{ℕ, zero, suc, _+_, _-_, _<_, _≤_}
+use Prim.Native.Nat.{ℕ, _+_, _-_, _≤_}
 use native.Mathlib.Nat.{zero-add}
 use native.Mathlib.Omega.{arith}
 use lib.Dec.{leb, ltb, eqb}
-use lib.ListN.{length, getD, drop, List·getD-eq-default}
+use lib.ListN.{length, getD}
 use lib.Seq.{sets, sets-eq}
 use borrow.Author.Tests.{eq-eqb, ne-eqb, eqb-true, eqb-false, le-leb, leb-true, ltb-false}
 use Rattle.lists.specs.Choice.{pick, both}
 use Rattle.lists.specs.Lists.{all}
 use Rattle.lists.proofs.Laws.{Known, was-true, was-false, known, pick-yes, pick-no, pick-passed, both-left, both-right}
-use Rattle.board.specs.Limits.{maxVertices, maxEdges, maxTerminals, maxMoves}
-use Rattle.board.specs.Record.{blank}
+use Rattle.board.specs.Limits.{maxVertices, maxTerminals}
 use Rattle.board.specs.declared.Board.{Board}
 use Rattle.board.specs.declared.Entry.{Entry}
 use Rattle.board.specs.declared.Network.{Network}
@@ -29,19 +27,7 @@ use Rattle.reporting.specs.Reports.{reportText, started, unreported, num
 use Rattle.reporting.specs.Rows.{tableRouteRow, tableLoadRow, tableText, Printable}
 use Rattle.reporting.proofs.Rows.{countsBy, rowsBy, counts-small, route-lines, load-lines}
 
--- inside a list it does not matter what is past its end
-inside : (l : List Entry) (k : ℕ) (a d : Entry) → k < length l → getD l k a ≡ getD l k d
-inside [] k a d h = absurd (omega arith)
-inside (x ∷ l) zero a d h = refl
-inside (x ∷ l) (suc k) a d h = inside l k a d (omega arith)
-
 module _ (b : Board) where
-  -- the entry that the code reads
-  pub last-read : (k : ℕ) (last z : Entry) → length (b .journal) ≡ maxMoves → k ≡ b .moves - 1
-      → ((k < maxMoves) × (last ≡ getD (b .journal) k z)) ⊎ ((maxMoves ≤ k) × (last ≡ blank)) → last ≡ lastEntry b
-  last-read k last z long e (inl (h, r)) = rw (← e) (r ∙ inside (b .journal) k z blank (omega arith))
-  last-read k last z long e (inr (h, r)) = rw (← e) (r ∙ sym (List·getD-eq-default (b .journal) blank (omega (arith, long))))
-
   -- the number by the parts is the number of the board: where the board is not intact, its routes do not matter
   pub number-made : (last : Entry) (sound fit : Bool) (n : ℕ) → last ≡ lastEntry b
       → sound ≡ intactIn (b .network) (b .acyclic) (b .flows) (b .places) (b .moves) (last .step)

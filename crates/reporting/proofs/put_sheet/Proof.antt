@@ -27,7 +27,8 @@ use Rattle.routing.proofs.routes_fit.Reads as routes-fit-reads
 use Rattle.lists.proofs.Laws.{both-left}
 use Rattle.board.specs.Limits.{maxMoves, maxTerminals}
 use Rattle.reporting.specs.Reports.{unreported, reportText}
-use Rattle.reporting.proofs.Answers.{last-read, number-made, report-printable, report-text, long-buffer, put-refused, put-short, put-done}
+use Rattle.guard.proofs.Parts.{last-read}
+use Rattle.reporting.proofs.Answers.{number-made, report-printable, report-text, long-buffer, put-refused, put-short, put-done}
 
 -- where the number is known
 abbrev Numbered : Type 0
