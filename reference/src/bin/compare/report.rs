@@ -56,9 +56,18 @@ pub fn compare_report(text: &[u8], calls: &[EngineCall], tally: &mut Tally) -> R
     [length - 1, length, length + 7].into_iter().try_for_each(|length| compare(&player, true, length))
 }
 
-/// What a program prints for an input, in a stack of one mebibyte.
+/// The stack that each program is run in, in KiB.
+fn stack(program: &str) -> usize {
+    if program == "sheet" {
+        256
+    } else {
+        576
+    }
+}
+
+/// What a program prints for an input, in that stack.
 fn printed(program: &str, input: &[u8]) -> Result<Vec<u8>, String> {
-    let command = format!("ulimit -s 1024; exec target/bin/{program}");
+    let command = format!("ulimit -s {}; exec target/bin/{program}", stack(program));
     let spawned = Command::new("sh").args(["-c", &command]).stdin(Stdio::piped()).stdout(Stdio::piped()).spawn();
     let mut child = spawned.map_err(|error| format!("{program} does not start: {error}"))?;
     let mut pipe = child.stdin.take().expect("the input is a pipe");
