@@ -1,5 +1,5 @@
 //! bench: the time of the engine and of the fast program in one run, as tables. bench run PROGRAM OPERATION SET TIMES: one operation over one set of
-//! boards, so many times, for a tool that counts instructions. bench boards SET: how many boards the set has. `tools/bench` puts them together.
+//! boards, so many times, for a tool that counts instructions. bench boards OPERATION SET: how many boards of the set that is made on. `tools/bench` puts them together.
 
 use reference::boards::random_board_of;
 use reference::catalog::BOARDS;
@@ -24,28 +24,33 @@ const SETS: [&str; 4] = ["8/16/4", "16/32/8", "32/64/16", "catalog"];
 const OPERATIONS: [&str; 4] = ["load", "finish", "report", "pair"];
 const PROGRAMS: [&str; 2] = ["engine", "fast"];
 
-/// A board, and the carry that its finish makes first.
+/// A board, and the carry that its finish makes first; 0 and 0 where that is a turn.
 struct Sample {
     text: Vec<u8>,
     carry: (u32, u32),
 }
 
-fn sample(text: Vec<u8>) -> Option<Sample> {
-    let (_, player) = Player::load(&text);
-    match player.hint() {
-        Ok(Some(Move::Carry { terminal, edge })) => Some(Sample { text, carry: (terminal as u32, edge as u32) }),
+fn first_carry(text: &[u8]) -> Option<(u32, u32)> {
+    match Player::load(text).1.hint() {
+        Ok(Some(Move::Carry { terminal, edge })) => Some((terminal as u32, edge as u32)),
         _ => None,
     }
 }
 
-fn samples(set: &str) -> Vec<Sample> {
+fn texts(set: &str) -> Vec<Vec<u8>> {
     let counts: Vec<usize> = set.split('/').filter_map(|count| count.parse().ok()).collect();
     if let [vertices, edges, terminals] = counts[..] {
         let mut rng = Random::new(SEED);
-        let boards = std::iter::repeat_with(|| write(&random_board_of(&mut rng, (vertices, edges, terminals))));
-        return boards.filter_map(sample).take(COUNT).collect();
+        return (0..COUNT).map(|_| write(&random_board_of(&mut rng, (vertices, edges, terminals)))).collect();
     }
-    BOARDS.iter().filter_map(|text| sample(text.as_bytes().to_vec())).collect()
+    BOARDS.iter().map(|text| text.as_bytes().to_vec()).collect()
+}
+
+/// The boards of a set that an operation is made on: a carry with its undo on those that start with one.
+fn samples(operation: &str, set: &str) -> Vec<Sample> {
+    let carries = texts(set).into_iter().map(|text| (first_carry(&text), text));
+    let wanted = carries.filter(|(carry, _)| operation != "pair" || carry.is_some());
+    wanted.map(|(carry, text)| Sample { text, carry: carry.unwrap_or_default() }).collect()
 }
 
 /// One operation on one board by the fast program. Finish and report start with a load; a pair is made PAIRS times behind a load.
@@ -122,7 +127,7 @@ fn times() {
     for operation in OPERATIONS {
         println!("\n| {operation} | engine | fast | ratio |\n|---|---|---|---|");
         for set in SETS {
-            let samples = samples(set);
+            let samples = samples(operation, set);
             let repeats = if operation == "pair" { 1 } else { 20 };
             let mut measured = [Vec::new(), Vec::new()];
             for _ in 0..ROUNDS {
@@ -146,15 +151,15 @@ fn main() {
     match words.iter().map(String::as_str).collect::<Vec<_>>()[..] {
         [] => times(),
         ["run", program, operation, set, count] if PROGRAMS.contains(&program) && OPERATIONS.contains(&operation) && SETS.contains(&set) => {
-            let samples = samples(set);
+            let samples = samples(operation, set);
             let mut buffers = Buffers::new();
             for _ in 0..count.parse().expect("a count") {
                 run(program, operation, &samples, &mut buffers);
             }
         }
-        ["boards", set] if SETS.contains(&set) => println!("{}", samples(set).len()),
+        ["boards", operation, set] if OPERATIONS.contains(&operation) && SETS.contains(&set) => println!("{}", samples(operation, set).len()),
         _ => {
-            eprintln!("usage: bench [boards SET | run engine|fast load|finish|report|pair 8/16/4|16/32/8|32/64/16|catalog TIMES]");
+            eprintln!("usage: bench [boards OPERATION SET | run engine|fast load|finish|report|pair 8/16/4|16/32/8|32/64/16|catalog TIMES]");
             std::process::exit(2);
         }
     }
