@@ -4,3 +4,4 @@ pub mod Shapes
 pub mod Grown
 pub mod Follows
 pub mod Exact
+pub mod Tests
