@@ -1,3 +1,4 @@
+use mathlib.Core.Path.{_∙_}
 use borrow.Author.Needs.{needs}
 use Rattle.rules.proofs.edge_fits.Statement.{statement}
 use Rattle.rules.proofs.edge_fits.Tie as tie
@@ -15,7 +16,11 @@ edge-numbers-fit-requires : tie.Need-edge-numbers-fit-requires
 edge-numbers-fit-requires c κs = search needs
 
 returns : tie.Need-returns
-returns c = cc
+returns c =
+    let at-third = c .before in
+    let at-second = at-third .before .before .before .before in
+    let at-first = at-second .before .before .before .before in
+    c .edge-numbers-fit .ensures ∙ rw (at-third .word-at3 .ensures, at-second .word-at2 .ensures, at-first .word-at .ensures)
 
 pub edge-fits-spec : {M : Type 1} → statement M
 edge-fits-spec =

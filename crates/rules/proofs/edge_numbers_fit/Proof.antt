@@ -1,4 +1,5 @@
-use mathlib.Core.Path.{sym, _∙_}
+use mathlib.Core.Path.{sym, ap, _∙_}
+use Rattle.lists.specs.Choice.{both}
 use Rattle.lists.proofs.Laws.{pick-yes, pick-no}
 use borrow.Author.Needs.{needs}
 use Rattle.rules.proofs.edge_numbers_fit.Statement.{statement}
@@ -17,10 +18,10 @@ and-requires-4 : tie.Need-and-requires-4
 and-requires-4 c κs = search needs
 
 returns : tie.Need-returns
-returns c = (cc) ∙ sym (pick-yes _ _ _ (c .before .before .if1 .taken))
+returns c = c .and2 .ensures ∙ ap (both _) (c .before .and .ensures) ∙ sym (pick-yes _ _ _ (c .before .before .if1 .taken))
 
 returns-2 : tie.Need-returns-2
-returns-2 c = (cc) ∙ sym (pick-no _ _ _ (c .before .before .if1 .left))
+returns-2 c = c .and4 .ensures ∙ ap (both _) (c .before .and3 .ensures) ∙ sym (pick-no _ _ _ (c .before .before .if1 .left))
 
 pub edge-numbers-fit-spec : {M : Type 1} → statement M
 edge-numbers-fit-spec =

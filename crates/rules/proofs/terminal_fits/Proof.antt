@@ -1,3 +1,4 @@
+use mathlib.Core.Path.{_∙_}
 use borrow.Author.Needs.{needs}
 use Rattle.rules.proofs.terminal_fits.Statement.{statement}
 use Rattle.rules.proofs.terminal_fits.Tie as tie
@@ -12,7 +13,10 @@ terminal-numbers-fit-requires : tie.Need-terminal-numbers-fit-requires
 terminal-numbers-fit-requires c κs = search needs
 
 returns : tie.Need-returns
-returns c = cc
+returns c =
+    let at-second = c .before in
+    let at-first = at-second .before .before .before .before in
+    c .terminal-numbers-fit .ensures ∙ rw (at-second .word-at2 .ensures, at-first .word-at .ensures)
 
 pub terminal-fits-spec : {M : Type 1} → statement M
 terminal-fits-spec =

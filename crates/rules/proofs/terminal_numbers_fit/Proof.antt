@@ -1,4 +1,5 @@
-use mathlib.Core.Path.{sym, _∙_}
+use mathlib.Core.Path.{sym, ap, _∙_}
+use Rattle.lists.specs.Choice.{both}
 use Rattle.lists.proofs.Laws.{pick-yes, pick-no}
 use borrow.Author.Needs.{needs}
 use Rattle.rules.proofs.terminal_numbers_fit.Statement.{statement}
@@ -14,10 +15,10 @@ and-requires-3 : tie.Need-and-requires-3
 and-requires-3 c κs = search needs
 
 returns : tie.Need-returns
-returns c = (cc) ∙ sym (pick-yes _ _ _ (c .before .before .if1 .taken))
+returns c = c .and2 .ensures ∙ ap (both _) (c .before .and .ensures) ∙ sym (pick-yes _ _ _ (c .before .before .if1 .taken))
 
 returns-2 : tie.Need-returns-2
-returns-2 c = (cc) ∙ sym (pick-no _ _ _ (c .before .if1 .left))
+returns-2 c = c .and3 .ensures ∙ sym (pick-no _ _ _ (c .before .if1 .left))
 
 pub terminal-numbers-fit-spec : {M : Type 1} → statement M
 terminal-numbers-fit-spec =
