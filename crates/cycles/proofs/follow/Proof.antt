@@ -89,7 +89,7 @@ returns c =
     onward-made _ _ _ _ _ (at-row-at .result) _ (at-pre .0 .1) (at-row-at .ensures ∙ at-leaving .ensures (at-loop .v) (omega arith)) (at-lowest-edge .ensures) in
     let end : at-word-at .result ≡ getD (at-args .heads .now) on 0 = at-word-at .ensures ∙ ap (λ (k : ℕ). getD (at-args .heads .now) k 0) edge in
     let inside : at-loop .at ≤ length (at-loop .walk) = omega arith in
-    (omega arith, follow-hit _ _ _ _ _ _ _ _ _ _ _ (at-loop-test .taken) inside (at-put-index .ensures ∙ cc) end (at-since .ensures .0) (at-loop .inv .2) (c .if1 .taken))
+    (omega arith, follow-hit _ _ _ _ _ _ _ _ _ _ _ (at-loop-test .taken) inside (at-put-index .ensures ∙ rw edge) end (at-since .ensures .0) (at-loop .inv .2) (c .if1 .taken))
 
 loop-less : tie.Need-loop-less Inv-loop μ-loop
 loop-less c = omega arith
@@ -114,7 +114,7 @@ loop-again c =
     let some : 0 < length (at-args .seen .now) = omega (arith, at-loop .inv .3) in (
       omega arith,
       omega arith,
-      follow-on _ _ _ _ _ _ _ _ _ _ _ (at-loop-test .taken) inside (at-put-index .ensures ∙ cc) end (at-since .ensures .0) (at-loop .inv .2) (c .if1 .left),
+      follow-on _ _ _ _ _ _ _ _ _ _ _ (at-loop-test .taken) inside (at-put-index .ensures ∙ rw edge) end (at-since .ensures .0) (at-loop .inv .2) (c .if1 .left),
       rw end
           (onward-inside (at-args .tails .now) (at-args .heads .now) (at-args .flows .now) (at-args .seen .now) (at-loop .v) (at-pre .0 .0) some),
     )

@@ -75,7 +75,7 @@ loop-again c =
     let at-loop = c .before .before .before .before .before .before .before .before .loop in
     let at-args = c .before .before .before .before .before .before .before .before .before .before .before .before .before .args in
     λ v. found-turn (at-args .tails .now) (at-args .heads .now) (at-args .flows .now) (at-args .rows .now) (at-loop .m) _ (at-loop .e) (at-loop-test .taken)
-    (at-with-vertex .ensures ∙ cc) v
+    (at-with-vertex .ensures ∙ rw (at-and .ensures, at-has .ensures, at-row-at .ensures, at-word-at2 .ensures, at-word-at .ensures)) v
     ∙ at-loop .inv v
 
 returns : tie.Need-returns Inv-loop μ-loop

@@ -35,7 +35,7 @@ returns-2 c =
     let at-word-at2 = c .before .before .before .before .before .word-at2 in
     let at-if1 = c .before .before .before .before .before .before .if1 in
     let at-word-at = c .before .before .before .before .before .before .before .word-at in
-    (at-join .ensures .0 ∙ cc (crossed _ _ _ (λ z. at-if1 .left (at-word-at .ensures ∙ z))), at-join .ensures .1)
+    (at-join .ensures .0 ∙ rw (at-word-at2 .ensures, at-word-at3 .ensures) (crossed _ _ _ (λ z. at-if1 .left (at-word-at .ensures ∙ z))), at-join .ensures .1)
 
 pub cross-spec : {M : Type 1} → statement M
 cross-spec =

@@ -26,7 +26,7 @@ returns c =
     let at-joined = c .before .before .before .before .joined in
     let at-row-at2 = c .before .before .before .before .before .row-at2 in
     let at-row-at = c .before .before .before .before .before .before .before .row-at in
-    (at-put-row .ensures ∙ cc, λ h. at-put-row .ensures ∙ stored-same _ _ _ (eqb-true _ _ (not-false _ h) ∙ at-row-at .ensures))
+    (at-put-row .ensures ∙ rw (at-joined .ensures, at-row-at2 .ensures, at-row-at .ensures), λ h. at-put-row .ensures ∙ stored-same _ _ _ (eqb-true _ _ (not-false _ h) ∙ at-row-at .ensures))
 
 pub join-spec : {M : Type 1} → statement M
 join-spec =

@@ -65,7 +65,7 @@ returns-3 c =
     left (at-args .from .now) (at-args .to .now) (at-args .flows .now) (at-args .seen .now) (at-args .e) (at-args .rows .now) _
     (λ z. at-if1 .left (at-word-at .ensures ∙ z))
     (ap (λ (u : ℕ). getD (at-args .seen .now) u false) (sym (at-word-at2 .ensures)) ∙ sym (at-bool-at .ensures) ∙ not-false _ (at-if2 .left))
-    (at-put-row .ensures ∙ cc (at-with .ensures ∙ pick-yes _ _ _ refl))
+    (at-put-row .ensures ∙ rw (at-with .ensures ∙ pick-yes _ _ _ refl, at-row-at .ensures, at-word-at3 .ensures))
 
 pub leave-spec : {M : Type 1} → statement M
 leave-spec =
