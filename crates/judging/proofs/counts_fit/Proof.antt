@@ -1,3 +1,4 @@
+use mathlib.Core.Path.{_∙_}
 use borrow.Author.Needs.{needs}
 use Rattle.judging.proofs.counts_fit.Statement.{statement}
 use Rattle.judging.proofs.counts_fit.Tie as tie
@@ -27,7 +28,7 @@ and-requires-3 : tie.Need-and-requires-3
 and-requires-3 c κs = search needs
 
 returns : tie.Need-returns
-returns c = cc
+returns c = c .and3 .ensures ∙ rw (c .before .and2 .ensures, c .before .before .and .ensures, c .before .before .before .before .between3 .ensures, c .before .before .before .before .before .between2 .ensures, c .before .before .before .before .before .before .between .ensures)
 
 pub counts-fit-spec : {M : Type 1} → statement M
 counts-fit-spec =

@@ -1,3 +1,4 @@
+use mathlib.Core.Path.{_∙_}
 use Rattle.rules.specs.Rules.{lawful}
 use borrow.Author.Needs.{needs}
 use Rattle.judging.proofs.lawful.Statement.{statement}
@@ -32,7 +33,7 @@ and-requires-3 c κs = search needs
 
 returns : tie.Need-returns
 unfolding lawful
-returns c = cc
+returns c = c .and3 .ensures ∙ rw (c .before .and2 .ensures, c .before .before .and .ensures, c .before .before .before .judged .ensures, c .before .before .before .before .all-keep2 .ensures, c .before .before .before .before .before .all-keep .ensures, c .before .before .before .before .before .before .counts-fit .ensures)
 
 pub lawful-spec : {M : Type 1} → statement M
 lawful-spec =

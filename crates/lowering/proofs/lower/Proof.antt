@@ -45,7 +45,7 @@ loop-again : tie.Need-loop-again Inv-loop μ-loop
 loop-again c =
     let at-loop-test = c .before .before .before .before .before .before .before .before .loop-test in
     let at-loop = c .before .before .before .before .before .before .before .before .before .loop in
-    (omega arith, lowered-turn _ _ _ _ _ (at-loop-test .taken) (cc) ∙ at-loop .inv .1)
+    (omega arith, lowered-turn _ _ _ _ _ (at-loop-test .taken) (c .before .before .put-word .ensures ∙ rw (c .before .before .before .minus .ensures, c .before .before .before .before .before .word-at .ensures)) ∙ at-loop .inv .1)
 
 same-length : tie.Need-same-length Inv-loop μ-loop
 same-length c = c .before .loop .inv .0

@@ -26,7 +26,7 @@ word-at-requires c κs = search needs
 loop-holds : tie.Need-loop-holds Inv-loop μ-loop
 loop-holds c =
     let passed = c .before .before .before .before .args in
-    let first : c .word-at .result ≡ getD (passed .flows .now) (getD (passed .cycle .now) 0 0) 0 = cc in
+    let first : c .word-at .result ≡ getD (passed .flows .now) (getD (passed .cycle .now) 0 0) 0 = c .word-at .ensures ∙ rw (c .before .index-at .ensures) in
     (omega arith, rw first)
 
 mul-word-at : tie.Need-mul-word-at Inv-loop μ-loop
@@ -51,7 +51,7 @@ loop-again : tie.Need-loop-again Inv-loop μ-loop
 loop-again c =
     let at-loop-test = c .before .before .before .loop-test in
     let at-loop = c .before .before .before .before .loop in
-    (omega arith, smallest-turn _ _ _ _ _ (at-loop-test .taken) (cc) ∙ at-loop .inv .1)
+    (omega arith, smallest-turn _ _ _ _ _ (at-loop-test .taken) (c .lesser .ensures ∙ rw (c .before .word-at2 .ensures)) ∙ at-loop .inv .1)
 
 returns : tie.Need-returns Inv-loop μ-loop
 returns c = sym (smallest-end _ _ _ _ (c .loop-test .left)) ∙ c .before .loop .inv .1
