@@ -1,3 +1,4 @@
+use mathlib.Core.Path.{_∙_}
 use borrow.Author.Needs.{needs}
 use Rattle.guard.proofs.edge_intact.Statement.{statement}
 use Rattle.guard.proofs.edge_intact.Tie as tie
@@ -15,7 +16,7 @@ and-requires-2 : tie.Need-and-requires-2
 and-requires-2 c κs = search needs
 
 returns : tie.Need-returns
-returns c = cc
+returns c = c .and2 .ensures ∙ rw (c .before .and .ensures, c .before .before .small-flow .ensures, c .before .before .before .edge-numbers-fit .ensures)
 
 pub edge-intact-spec : {M : Type 1} → statement M
 edge-intact-spec =

@@ -1,3 +1,4 @@
+use mathlib.Core.Path.{_∙_}
 use Rattle.guard.specs.Guard.{intact}
 use borrow.Author.Needs.{needs}
 use Rattle.guard.proofs.intact.Statement.{statement}
@@ -11,7 +12,7 @@ intact-in-requires c κs = search needs
 
 returns : tie.Need-returns
 unfolding intact
-returns c = cc
+returns c = c .intact-in .ensures ∙ rw (c .before .last-entry .ensures)
 
 pub intact-spec : {M : Type 1} → statement M
 intact-spec = tie.close (tie.spec last-entry-requires intact-in-requires returns)

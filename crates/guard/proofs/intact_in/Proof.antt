@@ -1,3 +1,4 @@
+use mathlib.Core.Path.{_∙_}
 use borrow.Author.Needs.{needs}
 use Rattle.guard.proofs.intact_in.Statement.{statement}
 use Rattle.guard.proofs.intact_in.Tie as tie
@@ -30,7 +31,7 @@ and-requires-4 : tie.Need-and-requires-4
 and-requires-4 c κs = search needs
 
 returns : tie.Need-returns
-returns c = cc
+returns c = c .and4 .ensures ∙ rw (c .before .and3 .ensures, c .before .before .and2 .ensures, c .before .before .before .and .ensures, c .before .before .before .before .move-intact .ensures, c .before .before .before .before .before .terminals-intact .ensures, c .before .before .before .before .before .before .edges-intact .ensures, c .before .before .before .before .before .before .before .counts-fit .ensures)
 
 pub intact-in-spec : {M : Type 1} → statement M
 intact-in-spec =

@@ -13,7 +13,7 @@ lowest-open-requires : tie.Need-lowest-open-requires
 lowest-open-requires c κs = search needs
 
 returns : tie.Need-returns
-returns c = cc
+returns c = rw (c .lowest-open .ensures, c .before .word-at2 .ensures, c .before .before .word-at .ensures)
 
 pub has-open-spec : {M : Type 1} → statement M
 has-open-spec =

@@ -1,3 +1,4 @@
+use mathlib.Core.Path.{_∙_}
 use Rattle.opening.specs.Opens.{isOpenAt}
 use borrow.Author.Needs.{needs}
 use Rattle.opening.proofs.is_open_at.Statement.{statement}
@@ -20,7 +21,7 @@ and-requires c κs = search needs
 
 returns : tie.Need-returns
 unfolding isOpenAt
-returns c = cc
+returns c = c .and .ensures ∙ rw (c .before .flow-fits .ensures, c .before .before .has .ensures, c .before .before .before .word-at2 .ensures, c .before .before .before .before .word-at .ensures)
 
 pub is-open-at-spec : {M : Type 1} → statement M
 is-open-at-spec =
