@@ -21,7 +21,7 @@ value-taken-requires c κs = search needs
 
 returns : tie.Need-returns
 unfolding pieceTaken
-returns c = cc
+returns c = rw (c .value-taken .ensures, c .before .and .ensures, c .before .before .is-digit .ensures, c .before .before .before .initial-taken .ensures, c .before .before .before .before .size-taken .ensures)
 
 pub piece-taken-spec : {M : Type 1} → statement M
 piece-taken-spec =

@@ -1,9 +1,10 @@
 -- The value is below 1,000,000 where a digit is added to it, so that ten times it has room.
-use mathlib.Core.Path.{sym}
+use mathlib.Core.Path.{sym, _∙_}
 use native.Mathlib.Omega.{arith}
 use Rattle.lists.proofs.Laws.{pick-yes, pick-no}
 use Rattle.orders.proofs.Turns.{digit}
 use borrow.Author.Needs.{needs}
+use Rattle.orders.proofs.Tests.{told}
 use Rattle.orders.proofs.value_taken.Statement.{statement}
 use Rattle.orders.proofs.value_taken.Tie as tie
 
@@ -34,10 +35,10 @@ add-result c =
     omega arith
 
 returns : tie.Need-returns
-returns c = sym (pick-yes _ _ _ (cc))
+returns c = sym (pick-yes _ _ _ (told (c .before .and .ensures ∙ rw (c .before .before .is-digit .ensures)) (c .if1 .taken)))
 
 returns-2 : tie.Need-returns-2
-returns-2 c = sym (pick-no _ _ _ (cc))
+returns-2 c = sym (pick-no _ _ _ (told (c .before .and .ensures ∙ rw (c .before .before .is-digit .ensures)) (c .if1 .left)))
 
 pub value-taken-spec : {M : Type 1} → statement M
 value-taken-spec =

@@ -9,7 +9,7 @@ form-taken-requires c κs = search needs
 
 returns : tie.Need-returns
 unfolding scanned
-returns c = cc
+returns c = c .form-taken .ensures
 
 pub whole-spec : {M : Type 1} → statement M
 whole-spec = tie.close (tie.spec form-taken-requires returns)

@@ -24,7 +24,7 @@ put-byte-requires c κs = search needs
 
 returns : tie.Need-returns
 unfolding withStep
-returns c = cc
+returns c = rw (c .before .put-byte .ensures, c .before .before .before .before .before .step-byte .ensures, c .before .before .before .before .before .before .greater .ensures, c .before .before .before .before .before .before .before .count-taken .ensures)
 
 pub with-step-spec : {M : Type 1} → statement M
 with-step-spec =
