@@ -1,6 +1,6 @@
 //! compare [SEED COUNT]: random inputs through the engine and through the reference, whose answers must be the same. Without a seed, a fixed
-//! one and then a fresh one, which is printed. compare boards SEED COUNT: random boards alone, loaded, finished and reported by engine, reference and
-//! fast program. The first difference is printed with its input, and the exit status is 1.
+//! one and a fresh one, which is printed, side by side. compare boards SEED COUNT: random boards alone, loaded, finished and reported by engine, reference and
+//! fast program. The first difference of each is printed with its input, and the exit status is 1.
 
 mod boards;
 mod catalog;
@@ -22,6 +22,7 @@ use reference::text::{flows, read, write};
 use report::{compare_long_lines, compare_programs};
 use std::collections::BTreeMap;
 use std::fmt::Debug;
+use std::thread;
 use std::time::{Instant, SystemTime};
 
 const FIXED_SEED: u64 = 1;
@@ -184,6 +185,15 @@ impl Run {
             Run::Boards(seed, count) => compare_boards(seed, count, tally),
         }
     }
+
+    /// How long the comparison took and what it tallied, or the first difference.
+    fn answer(&self) -> Result<String, String> {
+        let start = Instant::now();
+        let mut tally = Tally::new();
+        self.compare(&mut tally)?;
+        let answers: Vec<String> = tally.iter().map(|(what, times)| format!("{what}: {times}")).collect();
+        Ok(format!("in {:.1} s ({})", start.elapsed().as_secs_f64(), answers.join(", ")))
+    }
 }
 
 fn runs() -> Option<Vec<Run>> {
@@ -204,15 +214,18 @@ fn main() {
         eprintln!("usage: compare [[boards] SEED COUNT]");
         std::process::exit(2);
     };
-    for run in runs {
-        println!("{}", run.title());
-        let start = Instant::now();
-        let mut tally = Tally::new();
-        if let Err(difference) = run.compare(&mut tally) {
-            println!("the engine differs from the reference\n{difference}");
-            std::process::exit(1);
+    runs.iter().for_each(|run| println!("{}", run.title()));
+    let answers: Vec<Result<String, String>> = thread::scope(|scope| {
+        let threads: Vec<_> = runs.iter().map(|run| scope.spawn(|| run.answer())).collect();
+        threads.into_iter().map(|thread| thread.join().expect("a run ends")).collect()
+    });
+    for answer in &answers {
+        match answer {
+            Ok(told) => println!("no difference {told}"),
+            Err(difference) => println!("the engine differs from the reference\n{difference}"),
         }
-        let answers: Vec<String> = tally.iter().map(|(what, times)| format!("{what}: {times}")).collect();
-        println!("no difference in {:.1} s ({})", start.elapsed().as_secs_f64(), answers.join(", "));
+    }
+    if answers.iter().any(Result::is_err) {
+        std::process::exit(1);
     }
 }
