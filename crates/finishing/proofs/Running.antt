@@ -1,8 +1,9 @@
 -- Why the loop over the parts of a board comes to the board that the definition names. What is left of the run, from the board that the parts make up, ends where
 -- the whole run does. A move that is refused ends the run, so nothing is left; an accepted one leaves one move fewer, and none where the board is not in play
--- after it, for then the next one is refused.
-use mathlib.Core.Path.{_≡_, refl, sym, _∙_}
-use mathlib.Core.Bool.{Bool, true}
+-- after it, for then the next one is refused. So where nothing is left the parts make up the board at the end of the run, and the answer of the finish is read off
+-- it.
+use mathlib.Core.Path.{_≡_, refl, sym, ap, _∙_}
+use mathlib.Core.Bool.{Bool, true, false}
 use mathlib.Core.Logic.{_≢_}
 use mathlib.Core.List.{List}
 use Prim.Native.Nat.{ℕ, _+_, _-_, _<_, _≤_}
@@ -13,18 +14,20 @@ use lib.Seq.{set-out}
 use Rattle.lists.specs.Choice.{pick, both}
 use Rattle.lists.proofs.Laws.{Known, was-true, was-false, known, pick-yes, pick-no}
 use Rattle.incidence.specs.Incidence.{Positive}
-use Rattle.board.specs.Limits.{maxEdges, maxMoves}
+use Rattle.board.specs.Limits.{maxEdges, maxTerminals, maxMoves}
 use Rattle.board.specs.declared.Board.{Board}
 use Rattle.board.specs.declared.Entry.{Entry}
 use Rattle.board.specs.declared.Network.{Network}
 use Rattle.guard.specs.Guard.{playing}
 use Rattle.journal.specs.Moved.{moved}
 use Rattle.journal.specs.declared.Change.{Change}
+use Rattle.choosing.specs.Choosing.{allHome}
 use Rattle.finishing.specs.declared.Made.{Made}
-use Rattle.finishing.specs.Finishes.{steppedOn, playedOut}
-use Rattle.finishing.specs.Run.{stepChange, Sized, InPlay, Makes, leftAfter}
+use Rattle.finishing.specs.Finishes.{steppedOn, playedOut, ended, finishCall}
+use Rattle.finishing.specs.Run.{allHomeIn, stepChange, Sized, InPlay, Makes, leftAfter}
+use Rattle.finishing.proofs.Stepping.{finish-stuck, finish-made}
 use Rattle.finishing.proofs.Making.{on-stops, on-goes, closed-stops}
-use Rattle.finishing.proofs.Following.{Follows, follows}
+use Rattle.finishing.proofs.Following.{Follows, home-same, follows}
 
 -- a board with other parts, and with another journal
 abbrev pub standing : Board → List ℕ → ℕ → List ℕ → ℕ → Board
@@ -73,15 +76,16 @@ pub record Run (whole : Board) (net : Network) (last : Board) (flows : List ℕ)
   pub network : last .network ≡ net
   pub is-positive : Positive flows positive
   pub long : length flows ≡ maxEdges
+  pub short : length places ≡ maxTerminals
   pub sized : Sized net
   pub room : length (last .journal) ≡ maxMoves
 
 pub run-starts : (b : Board) (positive : ℕ) → playing b ≡ true → Positive (b .flows) positive → length (b .flows) ≡ maxEdges
-    → Sized (b .network) → length (b .journal) ≡ maxMoves
+    → length (b .places) ≡ maxTerminals → Sized (b .network) → length (b .journal) ≡ maxMoves
     → Run b (b .network) b (b .flows) (b .marks) (b .places) (b .moves) positive maxMoves
 unfolding playedOut
-run-starts b positive play is-positive long sized room =
-    record { run = refl; play = λ n. play; network = refl; is-positive = is-positive; long = long; sized = sized; room = room }
+run-starts b positive play is-positive long short sized room =
+    record { run = refl; play = λ n. play; network = refl; is-positive = is-positive; long = long; short = short; sized = sized; room = room }
 
 module _ (whole : Board) (net : Network) (last : Board) (flows : List ℕ) (marks : ℕ) (places : List ℕ) (moves positive left : ℕ)
     (r : Run whole net last flows marks places moves positive left) (n : left ≢ 0) where
@@ -100,15 +104,17 @@ module _ (whole : Board) (net : Network) (last : Board) (flows : List ℕ) (mark
       network = r .network;
       is-positive = r .is-positive;
       long = r .long;
+      short = r .short;
       sized = r .sized;
       room = r .room;
     }
 
-    pub run-made : (new : Board) (left' : ℕ) → made .change .answer ≡ 0 → new ≡ journaled last (set (last .journal) moves (made .change .entry))
+    pub run-made : (new : Board) (left' : ℕ) → made .change .answer ≡ 0 → length (made .change .places) ≡ maxTerminals
+        → new ≡ journaled last (set (last .journal) moves (made .change .entry))
         → left' ≡ leftAfter left (moves + 1) (made .small)
         → Run whole net new (made .change .flows) (made .change .marks) (made .change .places) (moves + 1) (made .positive) left'
     unfolding leftAfter steppedOn
-    run-made new left' z e l = rw (e, l) (go (known (both (leb (moves + 1) maxMoves) (made .small))))
+    run-made new left' z short e l = rw (e, l) (go (known (both (leb (moves + 1) maxMoves) (made .small))))
       where
         c : Change
         c = made .change
@@ -133,13 +139,32 @@ module _ (whole : Board) (net : Network) (last : Board) (flows : List ℕ) (mark
             (pick (both (leb (moves + 1) maxMoves) (made .small)) (left - 1) 0)
         go (was-true t) =
             rw (pick-yes _ (left - 1) 0 t)
-            (record { run = rest; play = λ q. goes-on ∙ t; network = r .network; is-positive = a .is-positive; long = long; sized = r .sized; room = room })
+            (record { run = rest; play = λ q. goes-on ∙ t; network = r .network; is-positive = a .is-positive; long = long; short = short; sized = r .sized; room = room })
         go (was-false t) = rw (pick-no _ (left - 1) 0 t) (record {
           run = sym (on-stops (left - 1) next (closed-stops next (goes-on ∙ t))) ∙ rest;
           play = λ q. absurd (q refl);
           network = r .network;
           is-positive = a .is-positive;
           long = long;
+          short = short;
           sized = r .sized;
           room = room;
         })
+
+-- nothing is left of the run
+module _ (whole : Board) (net : Network) (last : Board) (flows : List ℕ) (marks : ℕ) (places : List ℕ) (moves positive left : ℕ)
+    (r : Run whole net last flows marks places moves positive left) (z : left ≡ 0) (play : playing whole ≡ true) (home : Bool)
+    (h : home ≡ allHomeIn (net .terminals) (net .source) places) where
+  over : standing last flows marks places moves ≡ playedOut whole
+  unfolding steppedOn
+  over = rw z at (r .run)
+
+  at-home : home ≡ allHome (standing last flows marks places moves)
+  at-home = h ∙ rw (← r .network) (home-same (standing last flows marks places moves))
+
+  pub run-stuck : home ≡ false → record { answer = 20; count = 0; board = whole } ≡ finishCall whole
+  run-stuck n = finish-stuck whole play (sym (at-home ∙ ap allHome over) ∙ n)
+
+  pub run-over : (count : ℕ) → home ≡ true → count ≡ moves - whole .moves
+      → record { answer = 0; count = count; board = ended (whole .moves) (standing last flows marks places moves) } ≡ finishCall whole
+  run-over count y c = finish-made whole (standing last flows marks places moves) _ count play over (sym at-home ∙ y) c refl

@@ -10,8 +10,7 @@ ghost use mathlib.Core.Path.{_≡_};
 ghost use mathlib.Core.Bool.{true};
 ghost use Rattle.incidence.specs.Incidence.{Incident, Positive};
 ghost use Rattle.journal.specs.Moved.{unchanged};
-ghost use Rattle.guard.specs.Guard.{playing};
-ghost use Rattle.finishing.specs.Finishes.{playedOut, finishCall};
+ghost use Rattle.finishing.specs.Finishes.{finishCall};
 ghost use Rattle.finishing.specs.Run.{allSmall, allHomeIn, positiveAfter, carryStep, turnStep, stepChange, InPlay, Makes, leftAfter};
 
 // What a finish gives: 0, how many moves it made, and the board at the end; or the number that it is refused with, and the board as it was.
@@ -241,21 +240,37 @@ fn advance<'a>(
     turned(net, leaving, entering, flows, marks, places, positive)
 }
 
-// The board after such moves, as long as they are accepted. Its parts change in locals, so that the board is not copied at each move.
-fn played_out(board: Board) -> Board
-    requires { ⌜ playing board ≡ true ⌝ }
-    ensures { λ r. ⌜ r ≡ playedOut board ⌝ }
+// Plays to the end, and answers how many moves that took. The board is tested and changed in one local, and its parts in locals of their own, so that it is
+// copied once in and once out, and not at each move.
+pub fn finish(board: Board) -> Finished
+    ensures { λ r. ⌜ r ≡ finishCall board ⌝ }
 {
     let mut last = board;
     let net = last.network;
+    let acyclic = last.acyclic;
+    let mut flows = last.flows;
+    let mut marks = last.marks;
+    let mut places = last.places;
+    let from = last.moves;
+    let k = lists::minus(from, 1) as usize;
+    let mut newest = Entry::blank();
+    if k < Board::JOURNAL {
+        newest = last.journal[k];
+    }
+    let step = newest.step;
+    let fits = guard::intact_in(net, acyclic, flows, places, from, step);
+    if !lists::and(last.stage == Board::PLAY, fits) {
+        return Finished {
+            answer: 20,
+            count: 0,
+            board: board,
+        };
+    }
     let tails = net.tails;
     let heads = net.heads;
     let leaving = incidence::at_vertices(tails);
     let entering = incidence::at_vertices(heads);
-    let mut flows = last.flows;
-    let mut marks = last.marks;
-    let mut places = last.places;
-    let mut moves = last.moves;
+    let mut moves = from;
     let mut positive = incidence::positive(flows);
     let mut left = Board::JOURNAL as u32;
     while left != 0 {
@@ -279,51 +294,23 @@ fn played_out(board: Board) -> Board
         positive = made.positive;
         left = left_after(left, moves, made.small);
     }
+    if !all_home(&places, net.terminals, net.source) {
+        return Finished {
+            answer: 20,
+            count: 0,
+            board: board,
+        };
+    }
+    let count = lists::minus(moves, from);
     last.flows = flows;
     last.marks = marks;
     last.places = places;
     last.moves = moves;
-    last
-}
-
-// Plays to the end, and answers how many moves that took. The board is read and changed in place, so that it is copied once in and once out.
-pub fn finish(board: Board) -> Finished
-    ensures { λ r. ⌜ r ≡ finishCall board ⌝ }
-{
-    let net = board.network;
-    let acyclic = board.acyclic;
-    let flows = board.flows;
-    let places = board.places;
-    let k = lists::minus(board.moves, 1) as usize;
-    let mut entry = Entry::blank();
-    if k < Board::JOURNAL {
-        entry = board.journal[k];
-    }
-    let step = entry.step;
-    let fits = guard::intact_in(net, acyclic, flows, places, board.moves, step);
-    if !lists::and(board.stage == Board::PLAY, fits) {
-        return Finished {
-            answer: 20,
-            count: 0,
-            board: board,
-        };
-    }
-    let mut end = played_out(board);
-    let last = end.places;
-    let there = end.network;
-    if !all_home(&last, there.terminals, there.source) {
-        return Finished {
-            answer: 20,
-            count: 0,
-            board: board,
-        };
-    }
-    let count = lists::minus(end.moves, board.moves);
-    end.stage = Board::FINISHED;
-    end.finish_from = board.moves;
+    last.stage = Board::FINISHED;
+    last.finish_from = from;
     Finished {
         answer: 0,
         count: count,
-        board: end,
+        board: last,
     }
 }
