@@ -25,6 +25,8 @@ use Rattle.guard.proofs.Facts.{playing-edges, playing-flow, playing-demand}
 use Rattle.journal.specs.declared.Change.{Change}
 use Rattle.journal.specs.Moved.{lastEntry, moved, answered, unchanged, changed}
 use Rattle.journal.proofs.Answers.{answered-yes, answered-no}
+use Rattle.journal.proofs.Stores.{withParts, numbered}
+use Rattle.journal.proofs.Stores as stores
 use Rattle.opening.specs.Opens.{someOpen, someOpenIn}
 use Rattle.opening.proofs.Same.{some-same}
 use Rattle.steps.specs.Steps.{stepsOf, InSets, every}
@@ -158,33 +160,23 @@ turn-changes b s = go (eq-or-ne number 0)
         ∙ answered-no number b (turned b w) n
         ∙ sym (ap (changed b) (change-refused _ _ _ _ _ _ w n) ∙ answered-no number b _ n)
 
-abbrev stored : Board → Change → List Entry → Board
-stored b c journal = record {
-  stage = b .stage;
-  network = b .network;
-  acyclic = b .acyclic;
-  flows = c .flows;
-  marks = c .marks;
-  places = b .places;
-  journal = journal;
-  moves = b .moves + 1;
-  «finish_from» = b .«finish_from»;
-}
-
 -- the call's answer by the change
 module _ (b : Board) (s : List ℕ) (c : Change) (e : c ≡ turnMade b s) where
-  pub turn-refused : c .answer ≢ 0 → record { answer = c .answer; board = b } ≡ turnCall b s
-  turn-refused h = sym (turn-changes b s ∙ ap (changed b) (sym e) ∙ answered-no (c .answer) b _ h)
+  by-change : changed b c ≡ turnCall b s
+  by-change = ap (changed b) e ∙ sym (turn-changes b s)
 
-  pub turn-accepted : c .answer ≡ 0 → record { answer = c .answer; board = moved b (c .flows) (c .marks) (b .places) (c .entry) } ≡ turnCall b s
+  pub turn-refused : c .answer ≢ 0 → numbered c b ≡ turnCall b s
+  turn-refused h = stores.change-refused b c h ∙ by-change
+
+  -- a turn keeps the places, so the code stores none
+  pub turn-accepted : c .answer ≡ 0 → numbered c (moved b (c .flows) (c .marks) (b .places) (c .entry)) ≡ turnCall b s
   turn-accepted h =
       let kept : c .places ≡ b .places = ap (λ (k : Change). k .places) e ∙ change-places _ _ _ _ _ _ _ in
-      ap₂ (λ (n : ℕ) (p : List ℕ). record { answer = n; board = moved b (c .flows) (c .marks) p (c .entry) }) h (sym kept)
-      ∙ sym (turn-changes b s ∙ ap (changed b) (sym e) ∙ answered-yes (c .answer) b _ h)
+      ap (λ (p : List ℕ). numbered c (moved b (c .flows) (c .marks) p (c .entry))) (sym kept) ∙ stores.change-stored b c h ∙ by-change
 
   -- the board's parts as the code stores them, the journal whole
   pub turn-stored : (j : List Entry) → c .answer ≡ 0 → j ≡ set (b .journal) (b .moves) (c .entry)
-      → record { answer = c .answer; board = stored b c j } ≡ turnCall b s
+      → numbered c (withParts b (c .flows) (c .marks) (b .places) j (b .moves + 1)) ≡ turnCall b s
   turn-stored j h e = rw e (turn-accepted h)
 
   pub turn-plays : c .answer ≡ 0 → playing b ≡ true
