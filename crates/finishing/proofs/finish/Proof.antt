@@ -9,14 +9,14 @@ use Rattle.guard.specs.Guard.{playing}
 use Rattle.guard.proofs.Parts.{last-read, in-play}
 use Rattle.choosing.specs.Choosing.{allHome}
 use Rattle.finishing.proofs.Stepping.{finish-closed, finish-stuck, finish-made}
-use Rattle.finishing.proofs.Following.{home-same}
+use Rattle.choosing.proofs.Advised.{home-same}
 use borrow.Author.Needs.{needs}
 use Rattle.finishing.proofs.finish.Statement.{statement}
 use Rattle.finishing.proofs.finish.Tie as tie
 use Rattle.finishing.proofs.finish.Reads as reads
 use Rattle.finishing.proofs.finish.Lts as lts
 use Rattle.board.proofs.Entry.blank.Reads as blank-reads
-use Rattle.finishing.proofs.all_home.Reads as all-home-reads
+use Rattle.choosing.proofs.all_home.Reads as all-home-reads
 use Rattle.finishing.proofs.played_out.Reads as played-out-reads
 use Rattle.guard.proofs.intact_in.Reads as intact-in-reads
 use Rattle.lists.proofs.and.Reads as and-reads
