@@ -15,12 +15,11 @@ use Rattle.lists.proofs.Laws.{Known, was-true, was-false, known, pick-yes, pick
 use Rattle.board.specs.Limits.{maxEdges, maxTerminals, maxMoves}
 use Rattle.board.specs.declared.Board.{Board}
 use Rattle.board.specs.declared.Entry.{Entry}
-use Rattle.board.specs.declared.Played.{Played}
 use Rattle.journal.specs.declared.Change.{Change}
 use Rattle.journal.specs.Moved.{lastEntry}
 use Rattle.guard.specs.Guard.{playing}
 use Rattle.carrying.specs.Carries.{carryChange}
-use Rattle.journal.proofs.Stores.{change-stored, change-refused, back-stored, back-refused}
+use Rattle.journal.proofs.Stores.{stored, numbered, change-stored, change-refused, back-stored, back-refused}
 use Rattle.carrying.proofs.Makes.{carry-by-change, carry-room}
 use Rattle.undoing.specs.Undone.{undoChange}
 use Rattle.undoing.proofs.Makes.{undo-by-change, undo-room, undo-blanks}
@@ -82,23 +81,6 @@ module _ (steps : List ℕ) (b : Board) (kind a c : ℕ) (last : Entry) (plays :
       go (as-carry n call e) = rw call refl
       go (as-undo t call e) = rw call refl
 
-  -- what the code stores where the number is 0
-  abbrev stored : List Entry → ℕ → Board
-  stored journal next = record {
-    stage = b .stage;
-    network = b .network;
-    acyclic = b .acyclic;
-    flows = change .flows;
-    marks = change .marks;
-    places = change .places;
-    journal = journal;
-    moves = next;
-    «finish_from» = b .«finish_from»;
-  }
-
-  abbrev answered : Board → Played
-  answered next = record { answer = change .answer; board = next }
-
   module _ (h : change .answer ≡ 0) (at : ℕ) (e-at : at ≡ pick (eqb kind 2) (b .moves - 1) (b .moves)) where
     pub move-room : at ≤ maxMoves
     move-room = go which
@@ -112,10 +94,10 @@ module _ (steps : List ℕ) (b : Board) (kind a c : ℕ) (last : Entry) (plays :
             omega (arith, undo-room b plays last ep el change e h)
 
     module _ (next : ℕ) (e-next : next ≡ pick (eqb kind 2) at (at + 1)) where
-      makes : answered (stored (set (b .journal) at (change .entry)) next) ≡ made b (callOf steps kind a c)
+      makes : numbered change (stored b change (set (b .journal) at (change .entry)) next) ≡ made b (callOf steps kind a c)
       makes = go which
         where
-          go : Which → answered (stored (set (b .journal) at (change .entry)) next) ≡ made b (callOf steps kind a c)
+          go : Which → numbered change (stored b change (set (b .journal) at (change .entry)) next) ≡ made b (callOf steps kind a c)
           go (as-carry n call e) =
               let here : at ≡ b .moves = e-at ∙ pick-no _ _ _ n in
               let there : next ≡ at + 1 = e-next ∙ pick-no _ _ _ n in
@@ -126,25 +108,25 @@ module _ (steps : List ℕ) (b : Board) (kind a c : ℕ) (last : Entry) (plays :
               rw (call, there) (back-stored b change at (change .entry) here (undo-blanks b plays last ep el change e) h ∙ undo-by-change b plays last ep el change e)
 
       module _ (s : Sized b) (many : length (change .flows) ≡ maxEdges) (b' : Board) where
-        pub move-stored : b' ≡ stored (set (b .journal) at (change .entry)) next → (answered b' ≡ made b (callOf steps kind a c)) × Sized b'
+        pub move-stored : b' ≡ stored b change (set (b .journal) at (change .entry)) next → (numbered change b' ≡ made b (callOf steps kind a c)) × Sized b'
         move-stored e = (
-          ap answered e ∙ makes,
+          ap (numbered change) e ∙ makes,
           rw e (record { flows = many; demands = s .demands; journal = length-set (b .journal) at (change .entry) ∙ s .journal }),
         )
 
-        pub move-past : maxMoves ≤ at → b' ≡ stored (b .journal) next → (answered b' ≡ made b (callOf steps kind a c)) × Sized b'
-        move-past past e = move-stored (e ∙ ap (λ (journal : List Entry). stored journal next) (sym (set-out (b .journal) at (change .entry) (omega (arith, s .journal)))))
+        pub move-past : maxMoves ≤ at → b' ≡ stored b change (b .journal) next → (numbered change b' ≡ made b (callOf steps kind a c)) × Sized b'
+        move-past past e = move-stored (e ∙ ap (λ (journal : List Entry). stored b change journal next) (sym (set-out (b .journal) at (change .entry) (omega (arith, s .journal)))))
 
-  pub move-refused : change .answer ≢ 0 → Sized b → (b' : Board) → b' ≡ b → (answered b' ≡ made b (callOf steps kind a c)) × Sized b'
+  pub move-refused : change .answer ≢ 0 → Sized b → (b' : Board) → b' ≡ b → (numbered change b' ≡ made b (callOf steps kind a c)) × Sized b'
   move-refused h s b' e = rw e (go which, s)
     where
-      go : Which → answered b ≡ made b (callOf steps kind a c)
+      go : Which → numbered change b ≡ made b (callOf steps kind a c)
       go (as-carry n call ed) = rw call (change-refused b change h ∙ carry-by-change b a c plays change ep ed)
       go (as-undo t call ed) = rw call (back-refused b change h ∙ undo-by-change b plays last ep el change ed)
 
   -- so the call replies with it
-  pub move-replied : (b' : Board) → answered b' ≡ made b (callOf steps kind a c) → Replied b (callOf steps kind a c) (plain (answered b'))
-  move-replied b' e = plain-replied b (callOf steps kind a c) (answered b') _ no-hint refl e
+  pub move-replied : (b' : Board) → numbered change b' ≡ made b (callOf steps kind a c) → Replied b (callOf steps kind a c) (plain (numbered change b'))
+  move-replied b' e = plain-replied b (callOf steps kind a c) (numbered change b') _ no-hint refl e
 
 -- where the loop is: so much is left, and what is left of the calls completes what all of them give
 module _ (steps codes buf₀ hints₀ : List ℕ) (b₀ : Board) where

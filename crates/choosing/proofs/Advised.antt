@@ -24,6 +24,9 @@ use Rattle.choosing.specs.Choosing.{
   augment,
   carryKind,
   turnKind,
+  isHome,
+  allHome,
+  allHomeIn,
   markedOpen,
   markedEdge,
   chosenEdge,
@@ -42,7 +45,11 @@ pub act-turn : (a : Advice) → (a .kind ≡ carryKind → ⊥) → actOf a ≡ 
 unfolding actOf
 act-turn a h = pick-no _ _ _ (ne-eqb (a .kind) carryKind h)
 
--- the carry found over the parts of a board is the board's
+-- whether all are at the source, and the carry found, over the parts of a board are the board's
+pub home-same : (b : Board) → allHomeIn (b .network .terminals) (b .network .source) (b .places) ≡ allHome b
+unfolding allHomeIn allHome isHome
+home-same b = refl
+
 pub terminal-found : (b : Board)
     → lowest (hasOpenAt (b .network .heads) (b .network .demands) (b .network .edges) (b .flows) (b .marks) (b .places)) 0 (b .network .terminals)
     ≡ openTerminal b

@@ -3,7 +3,7 @@ use mathlib.Core.Bool.{Bool}
 use mathlib.Core.List.{List}
 use Prim.Native.Nat.{ℕ}
 use lib.Dec.{ltb, eqb}
-use lib.ListN.{take, replicate}
+use lib.ListN.{getD, take, replicate}
 use Rattle.lists.specs.Choice.{pick, both}
 use Rattle.lists.specs.Lists.{all, lowest}
 use Rattle.board.specs.Limits.{maxEdges}
@@ -23,6 +23,10 @@ isHome b i = eqb (place b i) (b .network .source)
 
 unfoldable pub allHome : Board → Bool
 allHome b = all (isHome b) 0 (b .network .terminals)
+
+-- the same over the parts of a board: how many mills there are, the spring, and where the mills are
+unfoldable pub allHomeIn : ℕ → ℕ → List ℕ → Bool
+allHomeIn terminals source places = all (λ i. eqb (getD places i 0) source) 0 terminals
 
 -- "of its open carries, marked channels first, then lowest channel"
 unfoldable pub markedOpen : Board → ℕ → ℕ → Bool

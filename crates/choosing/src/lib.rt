@@ -13,7 +13,7 @@ ghost use Rattle.guard.specs.Guard.{playing};
 ghost use Rattle.searching.specs.Search.{hasOpenAt, chosenEdgeIn};
 ghost use Rattle.walking.specs.Walk.{cycleOf, packed};
 ghost use Rattle.choosing.specs.Parts.{Searchable, Walkable};
-ghost use Rattle.choosing.specs.Choosing.{allHome, judge, nextAct, noAdvice, adviceOf, actOf};
+ghost use Rattle.choosing.specs.Choosing.{allHomeIn, judge, nextAct, noAdvice, adviceOf, actOf};
 
 // A move to make: its kind, and its parts. What a kind does not need is 0.
 pub struct Advice {
@@ -47,15 +47,12 @@ impl Advice {
 }
 
 // Whether every terminal is at the source.
-pub fn all_home(board: Board) -> bool
-    ensures { λ r. ⌜ r ≡ allHome board ⌝ }
+pub fn all_home(places: &[u32], terminals: u32, source: u32) -> bool
+    ensures { λ r. ⌜ r ≡ allHomeIn terminals source (now (places .entry)) ⌝ }
 {
-    let net = board.network;
-    let terminals = net.terminals;
-    let source = net.source;
     let mut i: u32 = 0;
     while i < terminals {
-        if lists::word_at(&board.places, i as usize) != source {
+        if lists::word_at(places, i as usize) != source {
             return false;
         }
         i += 1;

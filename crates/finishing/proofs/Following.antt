@@ -24,10 +24,10 @@ use Rattle.steps.specs.Steps.{gather}
 use Rattle.shifting.proofs.Shifting.{shifted-length}
 use Rattle.turning.specs.Turns.{turnRefusal, turned, turnRefusalIn, turnedIn, turnChange}
 use Rattle.turning.proofs.Changes.{refusal-same, turned-same, change-accepted, change-refused}
-use Rattle.choosing.specs.Choosing.{isHome, allHome, chosenEdge, nextCycle}
-use Rattle.choosing.proofs.Advised.{terminal-found, edge-found}
+use Rattle.choosing.specs.Choosing.{allHome, allHomeIn, chosenEdge, nextCycle}
+use Rattle.choosing.proofs.Advised.{home-same, terminal-found, edge-found}
 use Rattle.finishing.specs.Finishes.{stepped}
-use Rattle.finishing.specs.Run.{allSmall, allHomeIn, openTerminalIn, carryStep, turnStep, stepChange}
+use Rattle.finishing.specs.Run.{allSmall, openTerminalIn, carryStep, turnStep, stepChange}
 use Rattle.finishing.proofs.Staying.{carry-stays, turn-stays}
 use Rattle.finishing.proofs.Making.{home-stops, step-stuck, carry-accepted, step-carry, step-turn, step-refused}
 
@@ -40,11 +40,6 @@ pub record Follows (b : Board) (c : Change) : Type 0 where
   pub size : length (c .flows) ≡ length (b .flows)
 
 module _ (b : Board) where
-  -- the test of the parts is that of the board
-  pub home-same : allHomeIn (b .network .terminals) (b .network .source) (b .places) ≡ allHome b
-  unfolding allHomeIn allHome isHome
-  home-same = refl
-
   -- a move that is not made
   stops : (n : ℕ) → n ≢ 0 → stepped b .answer ≢ 0 → Follows b (unchanged n (b .flows) (b .marks) (b .places))
   stops n some s = record { refused = λ h. s; made = λ z. absurd (some z); stays = λ z. absurd (some z); size = refl }
@@ -98,8 +93,8 @@ module _ (b : Board) where
             → Follows b
             (pick (allHomeIn (b .network .terminals) (b .network .source) (b .places)) (unchanged 28 (b .flows) (b .marks) (b .places))
             (turnChange true false (b .network) (b .flows) (b .marks) (b .places) w))
-        go (was-true t) q = rw (pick-yes _ _ _ t) (stops 28 (λ z. omega (arith, z)) (home-stops b (sym home-same ∙ t)))
-        go (was-false t) q = rw (pick-no _ _ _ t) (turn q (sym home-same ∙ t))
+        go (was-true t) q = rw (pick-yes _ _ _ t) (stops 28 (λ z. omega (arith, z)) (home-stops b (sym (home-same b) ∙ t)))
+        go (was-false t) q = rw (pick-no _ _ _ t) (turn q (sym (home-same b) ∙ t))
 
     pub follows : Follows b (stepChange (b .network) (b .flows) (b .marks) (b .places))
     unfolding stepChange someOpen openTerminalIn

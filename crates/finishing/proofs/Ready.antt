@@ -23,10 +23,11 @@ use Rattle.walking.specs.Chart.{Charted}
 use Rattle.walking.specs.declared.Walk.{Walk}
 use Rattle.walking.proofs.Packed.{cycle-walked, cycle-short}
 use Rattle.searching.specs.Search.{chosenEdgeIn, Searched}
+use Rattle.choosing.specs.Choosing.{allHomeIn}
 use Rattle.choosing.specs.Parts.{Searchable, Walkable}
 use Rattle.choosing.proofs.Intact.{playing-searchable, playing-walkable, searched, charted}
 use Rattle.finishing.specs.declared.Made.{Made}
-use Rattle.finishing.specs.Run.{allSmall, allHomeIn, openTerminalIn, carryStep, turnStep, stepChange, InPlay, Makes}
+use Rattle.finishing.specs.Run.{allSmall, openTerminalIn, carryStep, turnStep, stepChange, InPlay, Makes}
 use Rattle.finishing.proofs.Staying.{flows-small}
 
 module _ (net : Network) (flows : List ℕ) (marks : ℕ) (places : List ℕ) (p : InPlay net flows marks places) where

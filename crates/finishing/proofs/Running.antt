@@ -21,13 +21,14 @@ use Rattle.board.specs.declared.Network.{Network}
 use Rattle.guard.specs.Guard.{playing}
 use Rattle.journal.specs.Moved.{moved}
 use Rattle.journal.specs.declared.Change.{Change}
-use Rattle.choosing.specs.Choosing.{allHome}
+use Rattle.choosing.specs.Choosing.{allHome, allHomeIn}
+use Rattle.choosing.proofs.Advised.{home-same}
 use Rattle.finishing.specs.declared.Made.{Made}
 use Rattle.finishing.specs.Finishes.{steppedOn, playedOut, ended, finishCall}
-use Rattle.finishing.specs.Run.{allHomeIn, stepChange, Sized, InPlay, Makes, leftAfter}
+use Rattle.finishing.specs.Run.{stepChange, Sized, InPlay, Makes, leftAfter}
 use Rattle.finishing.proofs.Stepping.{finish-stuck, finish-made}
 use Rattle.finishing.proofs.Making.{on-stops, on-goes, closed-stops}
-use Rattle.finishing.proofs.Following.{Follows, home-same, follows}
+use Rattle.finishing.proofs.Following.{Follows, follows}
 
 -- a board with other parts, and with another journal
 abbrev pub standing : Board → List ℕ → ℕ → List ℕ → ℕ → Board

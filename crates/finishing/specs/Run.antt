@@ -20,15 +20,12 @@ use Rattle.carrying.specs.Carries.{carriedIn}
 use Rattle.turning.specs.Turns.{turnChange}
 use Rattle.walking.specs.Walk.{cycleOf}
 use Rattle.searching.specs.Search.{hasOpenAt, chosenEdgeIn}
+use Rattle.choosing.specs.Choosing.{allHomeIn}
 use Rattle.finishing.specs.declared.Made.{Made}
 
 -- no flow is above what the terminals need together at most
 unfoldable pub allSmall : List ℕ → Bool
 allSmall flows = all (λ e. leb (getD flows e 0) maxTotal) 0 maxEdges
-
--- every terminal is at the source: `allHome` over the parts of a board
-unfoldable pub allHomeIn : ℕ → ℕ → List ℕ → Bool
-allHomeIn terminals source places = all (λ i. eqb (getD places i 0) source) 0 terminals
 
 -- the lowest terminal with an open carry, or the count of terminals: `openTerminal` over the parts of a board
 unfoldable pub openTerminalIn : Network → List ℕ → ℕ → List ℕ → ℕ

@@ -11,7 +11,7 @@ ghost use mathlib.Core.Bool.{true};
 ghost use Rattle.incidence.specs.Incidence.{Incident, Positive};
 ghost use Rattle.journal.specs.Moved.{unchanged};
 ghost use Rattle.finishing.specs.Finishes.{finishCall};
-ghost use Rattle.finishing.specs.Run.{allSmall, allHomeIn, positiveAfter, carryStep, turnStep, stepChange, InPlay, Makes, leftAfter};
+ghost use Rattle.finishing.specs.Run.{allSmall, positiveAfter, carryStep, turnStep, stepChange, InPlay, Makes, leftAfter};
 
 // What a finish gives: 0, how many moves it made, and the board at the end; or the number that it is refused with, and the board as it was.
 pub struct Finished {
@@ -36,20 +36,6 @@ fn left_after(left: u32, moves: u32, small: bool) -> u32
     } else {
         0
     }
-}
-
-// Whether every terminal is at the source.
-fn all_home(places: &[u32], terminals: u32, source: u32) -> bool
-    ensures { λ r. ⌜ r ≡ allHomeIn terminals source (now (places .entry)) ⌝ }
-{
-    let mut i: u32 = 0;
-    while i < terminals {
-        if lists::word_at(places, i as usize) != source {
-            return false;
-        }
-        i += 1;
-    }
-    true
 }
 
 // Whether no flow is above what the terminals need together at most.
@@ -163,7 +149,7 @@ fn turned<'a>(
     requires { ⌜ Positive flows positive ⌝ }
     ensures { λ r. ⌜ Makes (turnStep net flows marks places) r ⌝ }
 {
-    if all_home(&places, net.terminals, net.source) {
+    if choosing::all_home(&places, net.terminals, net.source) {
         return stopped(28, flows, marks, places, positive);
     }
     let walk = walking::cycle(
@@ -294,7 +280,7 @@ pub fn finish(board: Board) -> Finished
         positive = made.positive;
         left = left_after(left, moves, made.small);
     }
-    if !all_home(&places, net.terminals, net.source) {
+    if !choosing::all_home(&places, net.terminals, net.source) {
         return Finished {
             answer: 20,
             count: 0,

@@ -20,7 +20,8 @@ pub fn hint(board: Board) -> Suggestion
             advice: none,
         };
     }
-    if choosing::all_home(board) {
+    let net = board.network;
+    if choosing::all_home(&board.places, net.terminals, net.source) {
         return Suggestion {
             answer: 0,
             advice: none,

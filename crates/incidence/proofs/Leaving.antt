@@ -42,6 +42,10 @@ module _ (ends flows edges : List ℕ) (positive v : ℕ) (at : Incident ends ed
   here-fits : here < 2 ^ setWidth
   here-fits = omega (arith, fits, and-le-r (getD edges v 0) positive)
 
+  -- the set without x has the other edges that the search would find
+  pub without-at : (x e : ℕ) → hasBit (dropped here x) e ≡ both (leaves ends flows v e) (not (eqb e x))
+  without-at x e = has-dropped here x e ∙ ap (λ (b : Bool). both b (not (eqb e x))) (bits e)
+
   -- the first edge, what is left without it, and the edge after it
   abbrev first : ℕ
   first = lowest (leaves ends flows v) 0 maxEdges
@@ -54,9 +58,6 @@ module _ (ends flows edges : List ℕ) (positive v : ℕ) (at : Incident ends ed
 
   lowest-is : lowest (hasBit here) 0 setWidth ≡ first
   lowest-is = ap (λ (p : ℕ → Bool). lowest p 0 setWidth) (λ i e. bits e i)
-
-  rest-at : (e : ℕ) → hasBit rest e ≡ both (leaves ends flows v e) (not (eqb e first))
-  rest-at e = has-dropped here first e ∙ ap (λ (b : Bool). both b (not (eqb e first))) (bits e)
 
   none : here ≡ 0 → maxEdges ≤ first
   none z = go (lt-or-ge first maxEdges)
@@ -71,7 +72,7 @@ module _ (ends flows edges : List ℕ) (positive v : ℕ) (at : Incident ends ed
   two h =
       let fit : rest < 2 ^ setWidth = omega (arith, here-fits, dropped-most here first) in
       let e = lowest (hasBit rest) 0 setWidth in
-      let has : both (leaves ends flows v e) (not (eqb e first)) ≡ true = sym (rest-at e) ∙ lowest-has rest fit h in
+      let has : both (leaves ends flows v e) (not (eqb e first)) ≡ true = sym (without-at first e) ∙ lowest-has rest fit h in
       let goes : leaves ends flows v e ≡ true = both-left _ _ has in
       let low : first ≤ e = lowest-found (leaves ends flows v) 0 maxEdges e (omega arith) goes in
       let other : e ≡ first → ⊥ = λ q. true≢false (sym (both-right _ _ has) ∙ ap not (eq-eqb e first q)) in
@@ -91,7 +92,7 @@ module _ (ends flows edges : List ℕ) (positive v : ℕ) (at : Incident ends ed
           let low : suc first ≤ second = least .low in
           let goes : leaves ends flows v second ≡ true = least .hit (omega (arith, low, l)) in
           let other : not (eqb second first) ≡ true = ap not (ne-eqb second first (λ q. omega (arith, q, low))) in
-          absurd (true≢false (sym (both-true _ _ goes other) ∙ sym (rest-at second) ∙ ap (λ (m : ℕ). hasBit m second) z ∙ has-none second))
+          absurd (true≢false (sym (both-true _ _ goes other) ∙ sym (without-at first second) ∙ ap (λ (m : ℕ). hasBit m second) z ∙ has-none second))
 
   -- the same as tests
   some-same : ltb 0 here ≡ ltb first maxEdges

@@ -6,7 +6,7 @@ use mathlib.Core.Logic.{_⊎_, inl, inr}
 use Prim.Native.Nat.{ℕ, _-_, _<_, _≤_}
 use native.Mathlib.Omega.{arith}
 use lib.Dec.{leb, ltb, eqb}
-use lib.ListN.{getD}
+use lib.ListN.{length, getD}
 use borrow.Author.Tests.{le-leb, lt-ltb, le-ltb, eq-eqb, eqb-true}
 use Rattle.lists.specs.Choice.{pick, both}
 use Rattle.lists.specs.Lists.{all}
@@ -15,7 +15,7 @@ use Rattle.board.specs.Limits.{maxEdges, maxTerminals, maxMoves, maxFlow, maxTo
 use Rattle.board.specs.declared.Board.{Board}
 use Rattle.rules.specs.Rules.{edgeFits, terminalFits, countsFit, judged, lawful, Lawful}
 use Rattle.rules.proofs.Meaning.{lawful-tested}
-use Rattle.flows.specs.Paths.{Positive, rank}
+use Rattle.flows.specs.Paths.{Positive, Within, rank}
 use Rattle.flows.proofs.Rank.{rank-rises}
 use Rattle.flows.proofs.Cut.{flow-most}
 use Rattle.loader.specs.Load.{acyclicOf}
@@ -31,19 +31,34 @@ module _ (b : Board) (inv : Invariant b) where
   level : ℕ → ℕ
   level = rank (b .network .tails) (b .network .heads) (acyclicOf (b .network)) (b .network .vertices)
 
-  -- a positive edge is positive in the acyclic flow
+  -- the edges join vertices
+  pub joined : Within (b .network .tails) (b .network .heads) (b .flows) (b .network .vertices)
+  joined =
+      let w = within (b .network) law in
+      record { start = λ g h. w .start g (omega (arith, h, inv .flows-size)); end = λ g h. w .end g (omega (arith, h, inv .flows-size)) }
+
+  pub tails-long : length (b .network .tails) ≡ length (b .flows)
+  tails-long = long-tails (b .network) law ∙ sym (inv .flows-size)
+
+  pub heads-long : length (b .network .heads) ≡ length (b .flows)
+  heads-long = long-heads (b .network) law ∙ sym (inv .flows-size)
+
+  -- a positive edge is positive in the acyclic flow, so it leads up
+  pub positive-first : (u v : ℕ) → Positive (b .network .tails) (b .network .heads) (b .flows) u v
+      → Positive (b .network .tails) (b .network .heads) (acyclicOf (b .network)) u v
+  positive-first u v p = record {
+    edge = p .edge;
+    inside = omega (arith, p .inside, inv .flows-size, long-first (b .network) law);
+    start = p .start;
+    end = p .end;
+    above = rw (inv .acyclic) at (inv .support (p .edge) (p .above));
+  }
+
   rises : (u v : ℕ) → Positive (b .network .tails) (b .network .heads) (b .flows) u v → level u < level v
   unfolding level
   rises u v p =
       rank-rises (b .network .tails) (b .network .heads) (acyclicOf (b .network)) (b .network .vertices) u v (within-first (b .network) law)
-      (first-acyclic (b .network) law)
-      (record {
-        edge = p .edge;
-        inside = omega (arith, p .inside, inv .flows-size, long-first (b .network) law);
-        start = p .start;
-        end = p .end;
-        above = rw (inv .acyclic) at (inv .support (p .edge) (p .above));
-      })
+      (first-acyclic (b .network) law) (positive-first u v p)
 
   at-vertex : (i : ℕ) → place b i < b .network .vertices
   at-vertex i = go (lt-or-ge i (b .network .terminals))
@@ -63,8 +78,7 @@ module _ (b : Board) (inv : Invariant b) where
   unfolding level
   small-flows e =
       let most = flow-most (b .network .tails) (b .network .heads) (b .flows) (b .places) (b .network .demands) (b .network .vertices) (b .network .source) level
-      (long-tails (b .network) law ∙ sym (inv .flows-size)) (long-heads (b .network) law ∙ sym (inv .flows-size))
-      (record { start = λ g h. within (b .network) law .start g (omega (arith, inv .flows-size)); end = λ g h. within (b .network) law .end g (omega (arith, inv .flows-size)) })
+      tails-long heads-long joined
       (λ i h. at-vertex i) (source-rank (b .network) law) rises (inv .balance) maxFlow demand-small e in
       rw (law .demands-size) at most
 

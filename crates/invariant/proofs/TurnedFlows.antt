@@ -21,7 +21,7 @@ use Rattle.amounts.specs.Amounts.{amount}
 use Rattle.shifting.specs.Shifts.{shifted}
 use Rattle.shifting.proofs.Shifting.{shifted-changed}
 use Rattle.invariant.specs.Invariant.{Invariant, At}
-use Rattle.invariant.proofs.Network.{long-tails, long-heads}
+use Rattle.invariant.proofs.Kept.{tails-long, heads-long}
 use Rattle.invariant.proofs.Amounted.{amount-down, amount-up}
 use Rattle.invariant.proofs.Turnable.{Turnable}
 use Rattle.invariant.proofs.TurnedMarks.{marksNow, now-single, not-equal}
@@ -105,4 +105,4 @@ module _ (b : Board) (w : List Step) (inv : Invariant b) (t : Turnable b w) wher
   balance-after v =
       rw now-changed
       (closed-trail (b .network .tails) (b .network .heads) (b .flows) (amount b w) v (t .cycle .trail) turn-fits
-      (long-tails (b .network) (inv .lawful) ∙ sym (inv .flows-size)) (long-heads (b .network) (inv .lawful) ∙ sym (inv .flows-size)))
+      (tails-long b inv) (heads-long b inv))

@@ -14,14 +14,15 @@ use Rattle.lists.proofs.Laws.{above-inside, Known, was-true, was-false, known, 
 use Rattle.sets.specs.Sets.{hasBit}
 use Rattle.sets.proofs.Bits.{has-none, has-joined, collect-new, collect-from}
 use Rattle.board.specs.declared.Board.{Board}
-use Rattle.flows.specs.Paths.{Positive, here, Within, Unparted}
+use Rattle.flows.specs.Paths.{Positive, here, Unparted}
 use Rattle.flows.proofs.Reach.{path-first}
 use Rattle.guard.specs.Parts.{flow, first, tail, head, marked, demand}
 use Rattle.opening.specs.Opens.{someOpen}
 use Rattle.marking.specs.Marking.{singular, isFresh, fresh}
 use Rattle.routing.specs.Routes.{load, largest}
 use Rattle.invariant.specs.Invariant.{Invariant, Marked, At}
-use Rattle.invariant.proofs.Network.{within, first-below}
+use Rattle.invariant.proofs.Network.{first-below}
+use Rattle.invariant.proofs.Kept.{joined}
 use Rattle.invariant.proofs.Single.{straight-unparted, unparted-straight}
 use Rattle.invariant.proofs.Carriable.{facts-open, none-open}
 
@@ -95,18 +96,13 @@ module _ (b : Board) (inv : Invariant b) where
           let above = rw (inv .acyclic) at (inv .support e h) in
           absurd (omega (arith, above, first-below (b .network) (inv .lawful) e, inv .lawful .no-edge e l .2))
 
-  joined : Within (b .network .tails) (b .network .heads) (b .flows) (b .network .vertices)
-  joined =
-      let w = within (b .network) (inv .lawful) in
-      record { start = λ g h. w .start g (omega (arith, h, inv .flows-size)); end = λ g h. w .end g (omega (arith, h, inv .flows-size)) }
-
   abbrev Unpartedly : ℕ → Type 0
   Unpartedly v = Unparted (b .network .tails) (b .network .heads) (b .flows) v
 
   single-unparted : (e : ℕ) → Fresh b e → Unpartedly (head b e)
   unfolding singular
   single-unparted e f =
-      straight-unparted (b .network .tails) (b .network .heads) (b .flows) (b .network .vertices) (head b e) joined
+      straight-unparted (b .network .tails) (b .network .heads) (b .flows) (b .network .vertices) (head b e) (joined b inv)
       (inv .lawful .head e (positive-inside e (f .above))) (f .single)
 
   unparted-single : (e : ℕ) → Unpartedly (head b e) → singular b e ≡ true

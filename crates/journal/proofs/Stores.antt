@@ -13,41 +13,46 @@ use Rattle.journal.specs.declared.Change.{Change}
 use Rattle.journal.specs.Moved.{moved, changed, changedBack}
 use Rattle.journal.proofs.Answers.{answered-yes, answered-no}
 
-module _ (b : Board) (c : Change) where
-  -- what the code stores where the number is 0: the changed parts, a journal and a count of moves
-  abbrev stored : List Entry → ℕ → Played
-  stored journal moves = record {
-    answer = c .answer;
-    board = record {
-      stage = b .stage;
-      network = b .network;
-      acyclic = b .acyclic;
-      flows = c .flows;
-      marks = c .marks;
-      places = c .places;
-      journal = journal;
-      moves = moves;
-      «finish_from» = b .«finish_from»;
-    };
-  }
+-- a board with other flows, marks and places, another journal and another count of moves
+abbrev pub withParts : Board → List ℕ → ℕ → List ℕ → List Entry → ℕ → Board
+withParts b flows marks places journal moves = record {
+  stage = b .stage;
+  network = b .network;
+  acyclic = b .acyclic;
+  flows = flows;
+  marks = marks;
+  places = places;
+  journal = journal;
+  moves = moves;
+  «finish_from» = b .«finish_from»;
+}
 
+-- what the code stores where the number is 0: the changed parts, a journal and a count of moves
+abbrev pub stored : Board → Change → List Entry → ℕ → Board
+stored b c journal moves = withParts b (c .flows) (c .marks) (c .places) journal moves
+
+-- a board with the number of the change
+abbrev pub numbered : Change → Board → Played
+numbered c next = record { answer = c .answer; board = next }
+
+module _ (b : Board) (c : Change) where
   -- one more move
-  pub change-stored : c .answer ≡ 0 → stored (moved b (c .flows) (c .marks) (c .places) (c .entry) .journal) (b .moves + 1) ≡ changed b c
+  pub change-stored : c .answer ≡ 0 → numbered c (stored b c (moved b (c .flows) (c .marks) (c .places) (c .entry) .journal) (b .moves + 1)) ≡ changed b c
   change-stored h = rw h (sym (answered-yes 0 b _ refl))
 
-  pub change-past : c .answer ≡ 0 → length (b .journal) ≤ b .moves → stored (b .journal) (b .moves + 1) ≡ changed b c
-  change-past h past = ap (λ (journal : List Entry). stored journal (b .moves + 1)) (sym (set-out (b .journal) (b .moves) (c .entry) past)) ∙ change-stored h
+  pub change-past : c .answer ≡ 0 → length (b .journal) ≤ b .moves → numbered c (stored b c (b .journal) (b .moves + 1)) ≡ changed b c
+  change-past h past = ap (λ (journal : List Entry). numbered c (stored b c journal (b .moves + 1))) (sym (set-out (b .journal) (b .moves) (c .entry) past)) ∙ change-stored h
 
-  pub change-refused : c .answer ≢ 0 → record { answer = c .answer; board = b } ≡ changed b c
+  pub change-refused : c .answer ≢ 0 → numbered c b ≡ changed b c
   change-refused h = sym (answered-no (c .answer) b _ h)
 
   -- one less
   module _ (rest : ℕ) (nothing : Entry) (er : rest ≡ b .moves - 1) (en : nothing ≡ blank) (h : c .answer ≡ 0) where
-    pub back-stored : stored (set (b .journal) rest nothing) rest ≡ changedBack b c
+    pub back-stored : numbered c (stored b c (set (b .journal) rest nothing) rest) ≡ changedBack b c
     back-stored = rw (er, en, h) (sym (answered-yes 0 b _ refl))
 
-    pub back-past : length (b .journal) ≤ rest → stored (b .journal) rest ≡ changedBack b c
-    back-past past = ap (λ (journal : List Entry). stored journal rest) (sym (set-out (b .journal) rest nothing past)) ∙ back-stored
+    pub back-past : length (b .journal) ≤ rest → numbered c (stored b c (b .journal) rest) ≡ changedBack b c
+    back-past past = ap (λ (journal : List Entry). numbered c (stored b c journal rest)) (sym (set-out (b .journal) rest nothing past)) ∙ back-stored
 
-  pub back-refused : c .answer ≢ 0 → record { answer = c .answer; board = b } ≡ changedBack b c
+  pub back-refused : c .answer ≢ 0 → numbered c b ≡ changedBack b c
   back-refused h = sym (answered-no (c .answer) b _ h)

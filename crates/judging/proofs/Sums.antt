@@ -6,7 +6,6 @@ use mathlib.Core.List.{List, [], _∷_}
 use mathlib.Core.Logic.{⊎-elim, _≢_}
 use Prim.Native.Nat.{ℕ, zero, suc, _+_, _*_, _<_, _≤_}
 use native.Mathlib.Nat.{add-zero}
-use native.Mathlib.Numerals.{add-one}
 use native.Mathlib.Omega.{arith}
 use lib.Dec.{eqb}
 use lib.ListN.{length, getD, set, drop, replicate, length-replicate}
@@ -14,7 +13,7 @@ use lib.Seq.{getD-set-same, getD-set-other}
 use borrow.Author.Tests.{eq-eqb, ne-eqb}
 use Rattle.lists.specs.Choice.{pick, either}
 use Rattle.lists.specs.Lists.{all, keyed, sumAt}
-use Rattle.lists.proofs.Laws.{Known, was-true, was-false, known, eq-or-ne, sum-turn}
+use Rattle.lists.proofs.Laws.{eq-or-ne, all-same, sum-turn}
 use Rattle.board.specs.Limits.{maxVertices}
 use Rattle.board.specs.declared.Network.{Network}
 use Rattle.rules.specs.Rules.{balanced, inflow, outflow, demandAt}
@@ -53,16 +52,6 @@ keyed-turn ks xs s r i k y v total h size ek ey er less inv =
     let grown : getD r v 0 ≡ getD s v 0 + keyed k v y = ap (λ (l : List ℕ). getD l v 0) er ∙ stored-keyed s k y v less in
     rw grown (sum-turn ks xs v i (getD s v 0) total (keyed k v y) h size (ap₂ (λ (a b : ℕ). keyed a v b) ek ey) inv)
 
--- tests that agree at every place agree
-pub all-same : (p q : ℕ → Bool) (i k : ℕ) → ((j : ℕ) → j < i + k → p j ≡ q j) → all p i k ≡ all q i k
-unfolding all
-all-same p q i zero e = refl
-all-same p q i (suc k) e = go (known (q i)) (e i (omega arith)) (all-same p q (suc i) k (λ j h. e j (omega arith)))
-  where
-    go : Known (q i) → p i ≡ q i → all p (suc i) k ≡ all q (suc i) k → all p i (suc k) ≡ all q i (suc k)
-    go (was-true t) s ih = rw (s, t, all) ih
-    go (was-false t) s ih = rw (s, t, all)
-
 -- sums that values were added to once, from nothing, are within the bound
 none : (n v : ℕ) → _≡_ {A = ℕ} (getD (replicate n 0) v 0) 0
 none zero v = refl
@@ -95,4 +84,4 @@ module _ (net : Network) (n : ℕ) (xs rest ys : List ℕ)
       choose false b = refl
 
   pub all-balanced : all (evenAt xs ys (net .source)) 0 (net .vertices) ≡ all (balanced net) 0 (net .vertices)
-  all-balanced = all-same _ _ 0 (net .vertices) (λ v h. even v (omega arith))
+  all-balanced = all-same _ _ 0 (net .vertices) (λ v l h. even v (omega arith))

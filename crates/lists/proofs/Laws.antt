@@ -160,7 +160,17 @@ all-of p i (suc k) f =
     let t : p i ≡ true = rw add-zero at (f 0 (omega arith)) in
     rw (t, all) (all-of p (suc i) k (λ j h. let s : suc i + j ≡ i + suc j = omega arith in rw s (f (suc j) (omega arith))))
 
--- the same for a run from 0
+-- tests that agree below the bound
+pub all-same : (p q : ℕ → Bool) (i k : ℕ) → ((j : ℕ) → i ≤ j → j < i + k → p j ≡ q j) → all p i k ≡ all q i k
+unfolding all
+all-same p q i zero e = refl
+all-same p q i (suc k) e = go (known (q i)) (e i (omega arith) (omega arith)) (all-same p q (suc i) k (λ j l h. e j (omega arith) (omega arith)))
+  where
+    go : Known (q i) → p i ≡ q i → all p (suc i) k ≡ all q (suc i) k → all p i (suc k) ≡ all q i (suc k)
+    go (was-true t) first rest = rw (first, t, all) rest
+    go (was-false t) first rest = rw (first, t, all)
+
+-- what a run from 0 says of each index
 pub all-from : (p : ℕ → Bool) (n j : ℕ) → all p 0 n ≡ true → j < n → p j ≡ true
 all-from p n j e h = rw zero-add at (all-at p 0 n j e h)
 

@@ -1,8 +1,8 @@
 -- What the counts and the rows of a board's journal say: how long each route is, the route itself where it has room in its row, and so the load of every edge.
-use mathlib.Core.Path.{_≡_, refl, ap}
+use mathlib.Core.Path.{_≡_, ap}
 use mathlib.Core.Bool.{Bool, true}
 use mathlib.Core.List.{List, []}
-use Prim.Native.Nat.{ℕ, zero, suc, _+_, _<_, _≤_}
+use Prim.Native.Nat.{ℕ, _+_, _<_, _≤_}
 use native.Mathlib.Omega.{arith}
 use lib.Dec.{leb}
 use lib.ListN.{length, getD, take, drop, replicate, length-replicate}
@@ -11,7 +11,7 @@ use borrow.Author.Tests.{leb-true}
 use Rattle.lists.specs.Choice.{pick}
 use Rattle.lists.specs.Lists.{all}
 use Rattle.lists.specs.Members.{has}
-use Rattle.lists.proofs.Laws.{Known, was-true, was-false, known, all-from}
+use Rattle.lists.proofs.Laws.{all-same, all-from}
 use Rattle.lists.proofs.Totals.{total-same}
 use Rattle.sets.specs.Sets.{hasBit}
 use Rattle.board.specs.Limits.{maxVertices, maxEdges, maxTerminals}
@@ -19,16 +19,6 @@ use Rattle.board.specs.declared.Board.{Board}
 use Rattle.routing.specs.Routes.{route, share, load}
 use Rattle.routing.specs.Tables.{rowOf, countsOf, rowsOf, rowAt, routesFit, tableLoad, AreRouteSets, setLoad}
 use Rattle.routing.proofs.Filling.{counts-at, rows-at}
-
--- tests that agree below the bound
-all-same : (p q : ℕ → Bool) (i k : ℕ) → ((j : ℕ) → j < i + k → p j ≡ q j) → all p i k ≡ all q i k
-unfolding all
-all-same p q i zero e = refl
-all-same p q i (suc k) e = go (known (q i)) (e i (omega arith)) (all-same p q (suc i) k (λ j h. e j (omega arith)))
-  where
-    go : Known (q i) → p i ≡ q i → all p (suc i) k ≡ all q (suc i) k → all p i (suc k) ≡ all q i (suc k)
-    go (was-true t) first rest = rw (first, t, rest, all)
-    go (was-false t) first rest = rw (first, t, all)
 
 -- a row that has room for the edges begins with them
 row-begins : (es : List ℕ) → length es ≤ maxVertices → take (length es) (rowOf es) ≡ es
@@ -45,7 +35,7 @@ counts-route b i h = counts-at (take (b .moves) (b .journal)) i h
 pub fits-route : (b : Board) → b .network .terminals ≤ maxTerminals
     → all (λ i. leb (getD (countsOf (take (b .moves) (b .journal))) i 0) maxVertices) 0 (b .network .terminals) ≡ routesFit b
 unfolding routesFit
-fits-route b h = all-same _ _ 0 (b .network .terminals) (λ j l. ap (λ (n : ℕ). leb n maxVertices) (counts-route b j (omega arith)))
+fits-route b h = all-same _ _ 0 (b .network .terminals) (λ j a l. ap (λ (n : ℕ). leb n maxVertices) (counts-route b j (omega arith)))
 
 pub fits-at : (b : Board) (i : ℕ) → routesFit b ≡ true → i < b .network .terminals → length (route b i) ≤ maxVertices
 unfolding routesFit

@@ -9,7 +9,7 @@ use Rattle.lists.specs.Lists.{all, sumAt}
 use Rattle.board.specs.Limits.{maxVertices, maxEdges, maxTerminals, maxFlow}
 use Rattle.board.specs.declared.Network.{Network}
 use Rattle.rules.specs.declared.Rule.{Rule}
-use Rattle.rules.specs.declared.Rule.the-variants.{EdgeFits, TerminalFits, NoLoop, Away, Balanced}
+use Rattle.rules.specs.declared.Rule.the-variants.{EdgeFits, TerminalFits, Balanced}
 
 -- the flow that enters v, the flow that leaves v, and what the terminals there need; places past the counts hold 0
 abbrev pub inflow : Network → ℕ → ℕ
@@ -52,12 +52,10 @@ terminalNumbersFit isTerminal home demand vertices =
 abbrev pub terminalFits : Network → ℕ → Bool
 terminalFits net j = terminalNumbersFit (ltb j (net .terminals)) (getD (net .homes) j 0) (getD (net .demands) j 0) (net .vertices)
 
--- each rule, at one place
+-- each rule that the code tests place by place, at one place
 abbrev pub keeps : Rule → Network → ℕ → Bool
 keeps EdgeFits net i = edgeFits net i
 keeps TerminalFits net j = terminalFits net j
-keeps NoLoop net i = noLoop net i
-keeps Away net j = awayFromSource net j
 keeps Balanced net v = balanced net v
 
 -- 3, 4 or 5, in this order, each over the whole network; 0 where it keeps the rules

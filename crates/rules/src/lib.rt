@@ -2,14 +2,12 @@
 use board::Board;
 use board::Network;
 ghost use mathlib.Core.Path.{_≡_};
-ghost use Rattle.rules.specs.Rules.{edgeNumbersFit, terminalNumbersFit, edgeFits, terminalFits, noLoop, awayFromSource, balanced, keeps};
+ghost use Rattle.rules.specs.Rules.{edgeNumbersFit, terminalNumbersFit, edgeFits, terminalFits, balanced, keeps};
 
-// The rules that a network keeps, each at every edge, terminal or vertex.
+// The rules that a network is tested for one place after the other.
 pub enum Rule {
     EdgeFits,
     TerminalFits,
-    NoLoop,
-    Away,
     Balanced,
 }
 
@@ -58,21 +56,6 @@ fn terminal_fits(net: Network, j: u32) -> bool
     terminal_numbers_fit(j < net.terminals, home, demand, net.vertices)
 }
 
-fn no_loop(net: Network, i: u32) -> bool
-    ensures { λ r. ⌜ r ≡ noLoop net i ⌝ }
-{
-    let tail = lists::word_at(&net.tails, i as usize);
-    let head = lists::word_at(&net.heads, i as usize);
-    tail != head
-}
-
-fn away(net: Network, j: u32) -> bool
-    ensures { λ r. ⌜ r ≡ awayFromSource net j ⌝ }
-{
-    let home = lists::word_at(&net.homes, j as usize);
-    home != net.source
-}
-
 fn balanced(net: Network, v: u32) -> bool
     ensures { λ r. ⌜ r ≡ balanced net v ⌝ }
 {
@@ -92,8 +75,6 @@ pub fn keeps(rule: Rule, net: Network, i: u32) -> bool
     match rule {
         Rule::EdgeFits => edge_fits(net, i),
         Rule::TerminalFits => terminal_fits(net, i),
-        Rule::NoLoop => no_loop(net, i),
-        Rule::Away => away(net, i),
         Rule::Balanced => balanced(net, i),
     }
 }

@@ -16,13 +16,14 @@ use Rattle.board.specs.declared.Board.{Board}
 use Rattle.guard.specs.Parts.{flow, tail, head, marked, demand, place}
 use Rattle.rules.specs.Rules.{Lawful}
 use Rattle.opening.specs.Opens.{someOpen}
-use Rattle.flows.specs.Paths.{Positive, Path, here, on, First, Acyclic, Within}
+use Rattle.flows.specs.Paths.{Path, here, on, First, Acyclic}
 use Rattle.flows.proofs.Sums.{Entry, sum-entry, entry-within, sum-set, keyed-cases}
 use Rattle.flows.proofs.Source.{fed}
 use Rattle.flows.proofs.Walk.{path-cases}
 use Rattle.loader.specs.Load.{acyclicOf}
 use Rattle.invariant.specs.Invariant.{Invariant, Marked, At}
-use Rattle.invariant.proofs.Network.{within, long-tails, long-heads, long-first, first-acyclic, source-unentered}
+use Rattle.invariant.proofs.Network.{first-acyclic, source-unentered}
+use Rattle.invariant.proofs.Kept.{joined, tails-long, heads-long, positive-first}
 use Rattle.invariant.proofs.Single.{Leaves}
 use Rattle.invariant.proofs.Carriable.{facts-open, none-open}
 use Rattle.invariant.proofs.TurnedMarks.{positive-inside, not-equal}
@@ -96,36 +97,15 @@ module _ (b : Board) (inv : Invariant b) where
   law : Lawful (b .network)
   law = inv .lawful
 
-  -- a positive edge is positive in the acyclic flow
-  positive-first : (u v : ℕ) → Positive (b .network .tails) (b .network .heads) (b .flows) u v
-      → Positive (b .network .tails) (b .network .heads) (acyclicOf (b .network)) u v
-  positive-first u v p = record {
-    edge = p .edge;
-    inside = omega (arith, p .inside, inv .flows-size, long-first (b .network) law);
-    start = p .start;
-    end = p .end;
-    above = rw (inv .acyclic) at (inv .support (p .edge) (p .above));
-  }
-
+  -- the edges of a path now are positive in the acyclic flow
   path-was : {u v : ℕ} → Path (b .network .tails) (b .network .heads) (b .flows) u v
       → Path (b .network .tails) (b .network .heads) (acyclicOf (b .network)) u v
   path-was here = here
-  path-was (on {b = m} {c = v} p d) = on (path-was p) (positive-first m v d)
+  path-was (on {b = m} {c = v} p d) = on (path-was p) (positive-first b inv m v d)
 
   -- so the flow is acyclic
   no-cycle : Acyclic (b .network .tails) (b .network .heads) (b .flows)
-  no-cycle u v d p = first-acyclic (b .network) law u v (positive-first u v d) (path-was p)
-
-  joined : Within (b .network .tails) (b .network .heads) (b .flows) (b .network .vertices)
-  joined =
-      let w = within (b .network) law in
-      record { start = λ g h. w .start g (omega (arith, h, inv .flows-size)); end = λ g h. w .end g (omega (arith, h, inv .flows-size)) }
-
-  tails-long : length (b .network .tails) ≡ length (b .flows)
-  tails-long = long-tails (b .network) law ∙ sym (inv .flows-size)
-
-  heads-long : length (b .network .heads) ≡ length (b .flows)
-  heads-long = long-heads (b .network) law ∙ sym (inv .flows-size)
+  no-cycle u v d p = first-acyclic (b .network) law u v (positive-first b inv u v d) (path-was p)
 
   places-long : length (b .places) ≡ length (b .network .demands)
   places-long = inv .places-size ∙ law .homes-size ∙ sym (law .demands-size)
@@ -134,19 +114,19 @@ module _ (b : Board) (inv : Invariant b) where
   pub never-enters : (e : ℕ) → 0 < flow b e → head b e ≢ b .network .source
   never-enters e h q =
       source-unentered (b .network) law (tail b e)
-      (positive-first (tail b e) (b .network .source)
+      (positive-first b inv (tail b e) (b .network .source)
       (record { edge = e; inside = above-inside (b .flows) e h; start = refl; end = q; above = h }))
 
   -- an edge is within the flow at its ends
   out-at-least : (v e : ℕ) → Leaves (b .network .tails) (b .flows) v e → flow b e ≤ sumAt (b .network .tails) (b .flows) v
   out-at-least v e l =
       let g : e < length (b .flows) = above-inside (b .flows) e (l .above) in
-      entry-within (b .network .tails) (b .flows) v e (omega (arith, g, tails-long)) g (l .start)
+      entry-within (b .network .tails) (b .flows) v e (omega (arith, g, tails-long b inv)) g (l .start)
 
   in-at-least : (v e : ℕ) → Leaves (b .network .heads) (b .flows) v e → flow b e ≤ sumAt (b .network .heads) (b .flows) v
   in-at-least v e l =
       let g : e < length (b .flows) = above-inside (b .flows) e (l .above) in
-      entry-within (b .network .heads) (b .flows) v e (omega (arith, g, heads-long)) g (l .start)
+      entry-within (b .network .heads) (b .flows) v e (omega (arith, g, heads-long b inv)) g (l .start)
 
   -- a vertex other than the source that a positive edge leaves, one enters, too
   pub fed-vertex : (v e : ℕ) → v < b .network .vertices → v ≢ b .network .source → Leaves (b .network .tails) (b .flows) v e → Entering b v
@@ -185,7 +165,7 @@ module _ (b : Board) (inv : Invariant b) where
       way : Path (b .network .tails) (b .network .heads) (b .flows) (b .network .source) (place b i)
       way =
           fed (b .network .tails) (b .network .heads) (b .flows) (b .network .vertices) (b .network .source)
-          (λ v. sumAt (b .places) (b .network .demands) v) tails-long joined no-cycle (inv .balance) (place b i) (inv .placed i low)
+          (λ v. sumAt (b .places) (b .network .demands) v) (tails-long b inv) (joined b inv) no-cycle (inv .balance) (place b i) (inv .placed i low)
           (omega (arith, inv .balance (place b i) (inv .placed i low) away, need, law .demand i low .0))
 
       go : (b .network .source ≡ place b i) ⊎ First (b .network .tails) (b .network .heads) (b .flows) (b .network .source) (place b i) → Starting b
@@ -237,7 +217,7 @@ module _ (b : Board) (inv : Invariant b) where
     -- where no positive edge leaves v, a second one enters beside x
     pub second : (v x : ℕ) → v < b .network .vertices → v ≢ b .network .source → ((g : ℕ) → Leaves (b .network .tails) (b .flows) v g → ⊥)
         → Leaves (b .network .heads) (b .flows) v x → Other b v x
-    second v x h n none l = go (beside (b .network .heads) (b .flows) v x (omega (arith, inside, heads-long)) inside (l .start))
+    second v x h n none l = go (beside (b .network .heads) (b .flows) v x (omega (arith, inside, heads-long b inv)) inside (l .start))
       where
         inside : x < length (b .flows)
         inside = above-inside (b .flows) x (l .above)

@@ -6,25 +6,26 @@ use mathlib.Core.Logic.{_⊎_, inl, inr, _≢_}
 use mathlib.Core.List.{List}
 use Prim.Native.Nat.{ℕ, _+_, _-_, _≤_, _<_}
 use native.Mathlib.Omega.{arith}
-use lib.Dec.{leb, ltb, eqb}
-use lib.ListN.{length, getD, set, List·getD-eq-default}
-use borrow.Author.Tests.{eqb-true, ltb-true, leb-true, eq-eqb, ne-eqb, lt-leb}
+use lib.Dec.{leb, eqb}
+use lib.ListN.{length, getD, set}
+use borrow.Author.Tests.{eq-eqb, ne-eqb, lt-leb}
 use Rattle.lists.specs.Choice.{both}
-use Rattle.lists.proofs.Laws.{Known, was-true, was-false, known, lt-or-ge, eq-or-ne, both-left, both-right, all-from, pick-yes, pick-no, pick-passed}
-use Rattle.board.specs.Limits.{maxVertices, maxEdges, maxMoves}
+use Rattle.lists.proofs.Laws.{lt-or-ge, eq-or-ne, pick-yes, pick-no, pick-passed}
+use Rattle.board.specs.Limits.{maxEdges, maxMoves}
 use Rattle.board.specs.Record.{blank, playStage}
 use Rattle.board.specs.declared.Board.{Board}
 use Rattle.board.specs.declared.Network.{Network}
 use Rattle.board.specs.declared.Entry.{Entry}
 use Rattle.board.specs.declared.Move.{Move}
 use Rattle.flows.specs.Trails.{Step}
-use Rattle.rules.specs.Rules.{edgeFits}
 use Rattle.incidence.specs.Incidence.{Incident, Positive}
-use Rattle.guard.specs.Guard.{edgeIntact, intactIn, intact, playing}
-use Rattle.guard.proofs.Facts.{playing-edges, playing-flow, playing-demand}
+use Rattle.guard.specs.Guard.{intactIn, intact, playing}
+use Rattle.guard.proofs.Facts.{playing-edges, playing-head, playing-flow, playing-demand}
 use Rattle.journal.specs.declared.Change.{Change}
 use Rattle.journal.specs.Moved.{lastEntry, moved, answered, unchanged, changed}
 use Rattle.journal.proofs.Answers.{answered-yes, answered-no}
+use Rattle.journal.proofs.Stores.{withParts, numbered}
+use Rattle.journal.proofs.Stores as stores
 use Rattle.opening.specs.Opens.{someOpen, someOpenIn}
 use Rattle.opening.proofs.Same.{some-same}
 use Rattle.steps.specs.Steps.{stepsOf, InSets, every}
@@ -34,45 +35,14 @@ use Rattle.turning.proofs.Passing.{in-sets}
 use Rattle.turning.specs.declared.StepRule.the-variants.{OnBoard}
 use Rattle.turning.specs.Turns.{meetsOn, stepsRefusal, turnRefusalIn, turnRefusal, turned, turnedIn, turnChange, turnCall, Sound}
 
--- a board in play is sound: the end of an edge is one of its vertices, and that of a place past the edges is 0
-module _ (b : Board) (play : playing b ≡ true) where
-  tests : intactIn (b .network) (b .acyclic) (b .flows) (b .places) (b .moves) (lastEntry b .step) ≡ true
-  unfolding playing intact
-  tests = both-right _ _ play
-
-  few : b .network .vertices ≤ maxVertices
-  few = leb-true _ _ (both-right _ _ (both-left _ _ (both-left _ _ tests)))
-
-  head-inside : (e : ℕ) → e < maxEdges → getD (b .network .heads) e 0 < maxVertices
-  head-inside e h = go (known (ltb e (b .network .edges)))
-    where
-      fit : edgeFits (b .network) e ≡ true
-      fit = both-left _ _ (all-from (edgeIntact b) maxEdges e (both-left _ _ (both-right _ _ tests)) h)
-
-      go : Known (ltb e (b .network .edges)) → getD (b .network .heads) e 0 < maxVertices
-      go (was-true t) =
-          let inside : getD (b .network .heads) e 0 < b .network .vertices = ltb-true _ _ (both-left _ _ (both-right _ _ (sym (pick-yes _ _ _ t) ∙ fit))) in
-          omega (arith, few, inside)
-      go (was-false t) =
-          let none : getD (b .network .heads) e 0 ≡ 0 = eqb-true _ _ (both-left _ _ (both-right _ _ (sym (pick-no _ _ _ t) ∙ fit))) in
-          omega (arith, none)
-
-  headed : length (b .network .heads) ≡ maxEdges → (e : ℕ) → getD (b .network .heads) e 0 < maxVertices
-  headed long e = go (lt-or-ge e maxEdges)
-    where
-      go : (e < maxEdges) ⊎ (maxEdges ≤ e) → getD (b .network .heads) e 0 < maxVertices
-      go (inl h) = head-inside e h
-      go (inr h) =
-          let none : getD (b .network .heads) e 0 ≡ 0 = List·getD-eq-default (b .network .heads) 0 (omega (arith, long)) in
-          omega (arith, none)
-
-  pub playing-sound : Sound (b .network) (b .flows)
-  playing-sound = record {
-    room = playing-edges b play;
-    headed = headed;
-    small = playing-flow b play;
-    asked = λ long j. let d = playing-demand b play long j in omega (arith, d);
-  }
+-- a board in play is sound
+pub playing-sound : (b : Board) → playing b ≡ true → Sound (b .network) (b .flows)
+playing-sound b play = record {
+  room = playing-edges b play;
+  headed = playing-head b play;
+  small = playing-flow b play;
+  asked = λ long j. let d = playing-demand b play long j in omega (arith, d);
+}
 
 -- the sets of a sound network chart it
 pub charted : (net : Network) (flows leaving : List ℕ) (positive : ℕ) → Sound net flows → length (net .heads) ≡ maxEdges → length flows ≡ maxEdges
@@ -158,33 +128,23 @@ turn-changes b s = go (eq-or-ne number 0)
         ∙ answered-no number b (turned b w) n
         ∙ sym (ap (changed b) (change-refused _ _ _ _ _ _ w n) ∙ answered-no number b _ n)
 
-abbrev stored : Board → Change → List Entry → Board
-stored b c journal = record {
-  stage = b .stage;
-  network = b .network;
-  acyclic = b .acyclic;
-  flows = c .flows;
-  marks = c .marks;
-  places = b .places;
-  journal = journal;
-  moves = b .moves + 1;
-  «finish_from» = b .«finish_from»;
-}
-
 -- the call's answer by the change
 module _ (b : Board) (s : List ℕ) (c : Change) (e : c ≡ turnMade b s) where
-  pub turn-refused : c .answer ≢ 0 → record { answer = c .answer; board = b } ≡ turnCall b s
-  turn-refused h = sym (turn-changes b s ∙ ap (changed b) (sym e) ∙ answered-no (c .answer) b _ h)
+  by-change : changed b c ≡ turnCall b s
+  by-change = ap (changed b) e ∙ sym (turn-changes b s)
 
-  pub turn-accepted : c .answer ≡ 0 → record { answer = c .answer; board = moved b (c .flows) (c .marks) (b .places) (c .entry) } ≡ turnCall b s
+  pub turn-refused : c .answer ≢ 0 → numbered c b ≡ turnCall b s
+  turn-refused h = stores.change-refused b c h ∙ by-change
+
+  -- a turn keeps the places, so the code stores none
+  pub turn-accepted : c .answer ≡ 0 → numbered c (moved b (c .flows) (c .marks) (b .places) (c .entry)) ≡ turnCall b s
   turn-accepted h =
       let kept : c .places ≡ b .places = ap (λ (k : Change). k .places) e ∙ change-places _ _ _ _ _ _ _ in
-      ap₂ (λ (n : ℕ) (p : List ℕ). record { answer = n; board = moved b (c .flows) (c .marks) p (c .entry) }) h (sym kept)
-      ∙ sym (turn-changes b s ∙ ap (changed b) (sym e) ∙ answered-yes (c .answer) b _ h)
+      ap (λ (p : List ℕ). numbered c (moved b (c .flows) (c .marks) p (c .entry))) (sym kept) ∙ stores.change-stored b c h ∙ by-change
 
   -- the board's parts as the code stores them, the journal whole
   pub turn-stored : (j : List Entry) → c .answer ≡ 0 → j ≡ set (b .journal) (b .moves) (c .entry)
-      → record { answer = c .answer; board = stored b c j } ≡ turnCall b s
+      → numbered c (withParts b (c .flows) (c .marks) (b .places) j (b .moves + 1)) ≡ turnCall b s
   turn-stored j h e = rw e (turn-accepted h)
 
   pub turn-plays : c .answer ≡ 0 → playing b ≡ true

@@ -1,7 +1,7 @@
 -- The walk by sets is the walk by lists. The edges in the set at a vertex are those that the search over all edges would find; two edges leave where the set
 -- without its lowest edge is not empty; and a step makes one vertex more seen, the one that it starts from.
 use mathlib.Core.Path.{_≡_, refl, sym, ap, _∙_}
-use mathlib.Core.Bool.{Bool, not}
+use mathlib.Core.Bool.{Bool}
 use mathlib.Core.List.{List, [], _∷_, _++_}
 use mathlib.Core.Logic.{_⊎_, inl, inr, _≢_}
 use Prim.Native.Nat.{ℕ, suc, _+_, _-_, _<_, _≤_, _^_}
@@ -9,17 +9,13 @@ use native.Mathlib.Omega.{arith}
 use lib.Dec.{ltb, eqb}
 use lib.ListN.{length}
 use borrow.Author.Tests.{lt-ltb, le-ltb, eq-eqb, ne-eqb}
-use Rattle.lists.specs.Choice.{both}
 use Rattle.lists.specs.Lists.{indexOf, lowest}
 use Rattle.lists.proofs.Laws.{Known, was-true, was-false, known, lt-or-ge, eq-or-ne}
 use Rattle.sets.specs.Sets.{setWidth, hasBit, withBit, dropped}
 use Rattle.sets.proofs.Bits.{has-none, has-with-same, has-with-other}
-use Rattle.sets.proofs.Scan.{has-dropped}
 use Rattle.board.specs.Limits.{maxVertices, maxEdges}
-use Rattle.singular.specs.Singular.{leaves, leaving}
 use Rattle.incidence.specs.Incidence.{Incident, Positive, touchingAt}
-use Rattle.incidence.proofs.Meeting.{touching-is}
-use Rattle.incidence.proofs.Leaving.{more-in}
+use Rattle.incidence.proofs.Leaving.{without-at, more-in}
 use Rattle.flows.specs.Trails.{Step, startOf}
 use Rattle.walking.specs.Walk.{touches, another, parts, startsOf, firstMet}
 use Rattle.walking.proofs.Loops.{starts-length}
@@ -28,15 +24,9 @@ use Rattle.walking.specs.Chart.{Charted, Seen, anotherIn, partsIn}
 -- one end of the edges
 module _ (ends flows edges : List ℕ) (positive v : ℕ) (at : Incident ends edges) (is-positive : Positive flows positive) (small : v < maxVertices)
     (fits : positive < 2 ^ setWidth) (long : length flows ≡ maxEdges) where
-  abbrev here : ℕ
-  here = touchingAt edges positive v
-
-  bits : (e : ℕ) → hasBit here e ≡ leaves ends flows v e
-  bits = touching-is ends flows edges positive v at is-positive small fits long
-
-  others : (x e : ℕ) → hasBit (dropped here x) e ≡ touches ends flows v x e
+  others : (x e : ℕ) → hasBit (dropped (touchingAt edges positive v) x) e ≡ touches ends flows v x e
   unfolding touches
-  others x e = has-dropped here x e ∙ ap (λ (b : Bool). both b (not (eqb e x))) (bits e)
+  others = without-at ends flows edges positive v at is-positive small fits long
 
   pub another-in : (x : ℕ) → anotherIn edges positive v x ≡ another ends flows v x
   unfolding another

@@ -21,7 +21,7 @@ use Rattle.finishing.proofs.finish.Reads as reads
 use Rattle.finishing.proofs.finish.Lts as lts
 use Rattle.board.proofs.Entry.blank.Reads as blank-reads
 use Rattle.finishing.proofs.advance.Reads as advance-reads
-use Rattle.finishing.proofs.all_home.Reads as all-home-reads
+use Rattle.choosing.proofs.all_home.Reads as all-home-reads
 use Rattle.finishing.proofs.left_after.Reads as left-after-reads
 use Rattle.guard.proofs.intact_in.Reads as intact-in-reads
 use Rattle.incidence.proofs.at_vertices.Reads as at-vertices-reads

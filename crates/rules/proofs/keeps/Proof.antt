@@ -20,18 +20,6 @@ terminal-fits-requires c κs = search needs
 enum-told-3 : tie.Need-enum-told-3
 enum-told-3 c = search needs
 
-no-loop-requires : tie.Need-no-loop-requires
-no-loop-requires c κs = search needs
-
-enum-told-4 : tie.Need-enum-told-4
-enum-told-4 c = search needs
-
-away-requires : tie.Need-away-requires
-away-requires c κs = search needs
-
-enum-told-5 : tie.Need-enum-told-5
-enum-told-5 c = search needs
-
 balanced-requires : tie.Need-balanced-requires
 balanced-requires c κs = search needs
 
@@ -51,19 +39,7 @@ returns-3 : tie.Need-returns-3
 returns-3 c =
     let at-enum-told3 = c .before .enum-told3 in
     let at-args = c .before .before .before .args in
-    c .no-loop .ensures ∙ ap (λ (rule : Rule). keeps rule (at-args .net) (at-args .i)) (sym (at-enum-told3 .given .1))
-
-returns-4 : tie.Need-returns-4
-returns-4 c =
-    let at-enum-told4 = c .before .enum-told4 in
-    let at-args = c .before .before .before .args in
-    c .away .ensures ∙ ap (λ (rule : Rule). keeps rule (at-args .net) (at-args .i)) (sym (at-enum-told4 .given .1))
-
-returns-5 : tie.Need-returns-5
-returns-5 c =
-    let at-enum-told5 = c .before .enum-told5 in
-    let at-args = c .before .before .before .args in
-    c .balanced .ensures ∙ ap (λ (rule : Rule). keeps rule (at-args .net) (at-args .i)) (sym (at-enum-told5 .given .1))
+    c .balanced .ensures ∙ ap (λ (rule : Rule). keeps rule (at-args .net) (at-args .i)) (sym (at-enum-told3 .given .1))
 
 pub keeps-spec : {M : Type 1} → statement M
 keeps-spec =
@@ -74,13 +50,7 @@ keeps-spec =
     enum-told-2
     terminal-fits-requires
     enum-told-3
-    no-loop-requires
-    enum-told-4
-    away-requires
-    enum-told-5
     balanced-requires
     returns
     returns-2
-    returns-3
-    returns-4
-    returns-5)
+    returns-3)
