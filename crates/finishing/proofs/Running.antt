@@ -13,7 +13,6 @@ use lib.ListN.{length, set, length-set}
 use lib.Seq.{set-out}
 use Rattle.lists.specs.Choice.{pick, both}
 use Rattle.lists.proofs.Laws.{Known, was-true, was-false, known, pick-yes, pick-no}
-use Rattle.incidence.specs.Incidence.{Positive}
 use Rattle.board.specs.Limits.{maxEdges, maxTerminals, maxMoves}
 use Rattle.board.specs.declared.Board.{Board}
 use Rattle.board.specs.declared.Entry.{Entry}
@@ -71,25 +70,28 @@ left-less left moves small n = go (known (both (leb moves maxMoves) small))
     go (was-false t) = rw (pick-no _ (left - 1) 0 t) (omega (arith, n))
 
 -- the run from the board `whole` on has come to the board of these parts
-pub record Run (whole : Board) (net : Network) (last : Board) (flows : List ℕ) (marks : ℕ) (places : List ℕ) (moves positive left : ℕ) : Type 0 where
+pub record Run (whole : Board) (net : Network) (last : Board) (flows : List ℕ) (marks : ℕ) (places : List ℕ) (moves left : ℕ) : Type 0 where
   pub run : steppedOn left (standing last flows marks places moves) ≡ playedOut whole
   pub play : left ≢ 0 → playing (standing last flows marks places moves) ≡ true
   pub network : last .network ≡ net
-  pub is-positive : Positive flows positive
   pub long : length flows ≡ maxEdges
   pub short : length places ≡ maxTerminals
   pub sized : Sized net
   pub room : length (last .journal) ≡ maxMoves
 
-pub run-starts : (b : Board) (positive : ℕ) → playing b ≡ true → Positive (b .flows) positive → length (b .flows) ≡ maxEdges
-    → length (b .places) ≡ maxTerminals → Sized (b .network) → length (b .journal) ≡ maxMoves
-    → Run b (b .network) b (b .flows) (b .marks) (b .places) (b .moves) positive maxMoves
+pub run-starts : (b : Board) → playing b ≡ true → length (b .flows) ≡ maxEdges → length (b .places) ≡ maxTerminals → Sized (b .network)
+    → length (b .journal) ≡ maxMoves → Run b (b .network) b (b .flows) (b .marks) (b .places) (b .moves) maxMoves
 unfolding playedOut
-run-starts b positive play is-positive long short sized room =
-    record { run = refl; play = λ n. play; network = refl; is-positive = is-positive; long = long; short = short; sized = sized; room = room }
+run-starts b play long short sized room =
+    record { run = refl; play = λ n. play; network = refl; long = long; short = short; sized = sized; room = room }
 
-module _ (whole : Board) (net : Network) (last : Board) (flows : List ℕ) (marks : ℕ) (places : List ℕ) (moves positive left : ℕ)
-    (r : Run whole net last flows marks places moves positive left) (n : left ≢ 0) where
+-- the next move of the run, where one is left
+pub record Next (net : Network) (flows : List ℕ) (marks : ℕ) (places : List ℕ) (left : ℕ) (made : Made) : Type 0 where
+  pub makes : left ≢ 0 → Makes (stepChange net flows marks places) made
+  pub short : length (made .change .places) ≡ maxTerminals
+
+module _ (whole : Board) (net : Network) (last : Board) (flows : List ℕ) (marks : ℕ) (places : List ℕ) (moves left : ℕ)
+    (r : Run whole net last flows marks places moves left) (n : left ≢ 0) where
   pub run-plays : InPlay net flows marks places
   run-plays = record { board = standing last flows marks places moves; play = r .play n; its-network = r .network; its-flows = refl; its-marks = refl; its-places = refl; long = r .long; sized = r .sized }
 
@@ -97,13 +99,12 @@ module _ (whole : Board) (net : Network) (last : Board) (flows : List ℕ) (mark
     fol : Follows (standing last flows marks places moves) (made .change)
     fol = rw (a .changes, ← r .network) (follows (standing last flows marks places moves) (r .play n) (r .long) (rw (r .network) (r .sized .demands)))
 
-    pub run-refused : made .change .answer ≢ 0 → Run whole net last flows marks places moves positive 0
+    pub run-refused : made .change .answer ≢ 0 → Run whole net last flows marks places moves 0
     unfolding steppedOn
     run-refused s = record {
       run = sym (on-stops left (standing last flows marks places moves) (fol .refused s)) ∙ r .run;
       play = λ z. absurd (z refl);
       network = r .network;
-      is-positive = r .is-positive;
       long = r .long;
       short = r .short;
       sized = r .sized;
@@ -113,7 +114,7 @@ module _ (whole : Board) (net : Network) (last : Board) (flows : List ℕ) (mark
     pub run-made : (new : Board) (left' : ℕ) → made .change .answer ≡ 0 → length (made .change .places) ≡ maxTerminals
         → new ≡ journaled last (set (last .journal) moves (made .change .entry))
         → left' ≡ leftAfter left (moves + 1) (made .small)
-        → Run whole net new (made .change .flows) (made .change .marks) (made .change .places) (moves + 1) (made .positive) left'
+        → Run whole net new (made .change .flows) (made .change .marks) (made .change .places) (moves + 1) left'
     unfolding leftAfter steppedOn
     run-made new left' z short e l = rw (e, l) (go (known (both (leb (moves + 1) maxMoves) (made .small))))
       where
@@ -136,16 +137,15 @@ module _ (whole : Board) (net : Network) (last : Board) (flows : List ℕ) (mark
         room = length-set (last .journal) moves (c .entry) ∙ r .room
 
         go : Known (both (leb (moves + 1) maxMoves) (made .small))
-            → Run whole net (journaled last (set (last .journal) moves (c .entry))) (c .flows) (c .marks) (c .places) (moves + 1) (made .positive)
+            → Run whole net (journaled last (set (last .journal) moves (c .entry))) (c .flows) (c .marks) (c .places) (moves + 1)
             (pick (both (leb (moves + 1) maxMoves) (made .small)) (left - 1) 0)
         go (was-true t) =
             rw (pick-yes _ (left - 1) 0 t)
-            (record { run = rest; play = λ q. goes-on ∙ t; network = r .network; is-positive = a .is-positive; long = long; short = short; sized = r .sized; room = room })
+            (record { run = rest; play = λ q. goes-on ∙ t; network = r .network; long = long; short = short; sized = r .sized; room = room })
         go (was-false t) = rw (pick-no _ (left - 1) 0 t) (record {
           run = sym (on-stops (left - 1) next (closed-stops next (goes-on ∙ t))) ∙ rest;
           play = λ q. absurd (q refl);
           network = r .network;
-          is-positive = a .is-positive;
           long = long;
           short = short;
           sized = r .sized;
@@ -153,8 +153,8 @@ module _ (whole : Board) (net : Network) (last : Board) (flows : List ℕ) (mark
         })
 
 -- nothing is left of the run
-module _ (whole : Board) (net : Network) (last : Board) (flows : List ℕ) (marks : ℕ) (places : List ℕ) (moves positive left : ℕ)
-    (r : Run whole net last flows marks places moves positive left) (z : left ≡ 0) (play : playing whole ≡ true) (home : Bool)
+module _ (whole : Board) (net : Network) (last : Board) (flows : List ℕ) (marks : ℕ) (places : List ℕ) (moves left : ℕ)
+    (r : Run whole net last flows marks places moves left) (z : left ≡ 0) (play : playing whole ≡ true) (home : Bool)
     (h : home ≡ allHomeIn (net .terminals) (net .source) places) where
   over : standing last flows marks places moves ≡ playedOut whole
   unfolding steppedOn

@@ -227,7 +227,8 @@ fn advance<'a>(
 }
 
 // Plays to the end, and answers how many moves that took. The board is tested and changed in one local, and its parts in locals of their own, so that it is
-// copied once in and once out, and not at each move.
+// copied once in and once out, and not at each move. The next move is worked out at two places, before the loop and at its end: called at one alone, `advance`
+// would become part of this function, and the compiler, which looks back over a hundred stores at most, would copy the board once more for the second refusal.
 pub fn finish(board: Board) -> Finished
     ensures { λ r. ⌜ r ≡ finishCall board ⌝ }
 {
@@ -257,10 +258,10 @@ pub fn finish(board: Board) -> Finished
     let leaving = incidence::at_vertices(tails);
     let entering = incidence::at_vertices(heads);
     let mut moves = from;
-    let mut positive = incidence::positive(flows);
+    let positive = incidence::positive(flows);
     let mut left = Board::JOURNAL as u32;
+    let mut made = advance(net, &leaving, &entering, flows, marks, places, positive);
     while left != 0 {
-        let made = advance(net, &leaving, &entering, flows, marks, places, positive);
         let change = made.change;
         if change.answer != 0 {
             left = 0;
@@ -277,8 +278,18 @@ pub fn finish(board: Board) -> Finished
         marks = change.marks;
         places = new_places;
         moves += 1;
-        positive = made.positive;
         left = left_after(left, moves, made.small);
+        if left != 0 {
+            made = advance(
+                net,
+                &leaving,
+                &entering,
+                flows,
+                marks,
+                places,
+                made.positive,
+            );
+        }
     }
     if !choosing::all_home(&places, net.terminals, net.source) {
         return Finished {

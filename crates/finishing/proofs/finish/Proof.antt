@@ -1,20 +1,21 @@
 -- The entry that the code reads is the board's last, so its test of the parts is the test of the board. The loop plays a run on such a board (proofs/Running.antt),
 -- and at its end nothing is left of the run, so the answer is that of the finish.
-use mathlib.Core.Path.{_≡_, sym, _∙_}
+use mathlib.Core.Path.{_≡_, refl, sym, _∙_}
 use mathlib.Core.Bool.{true}
 use mathlib.Core.Logic.{⊎-elim, inl, inr}
-use Prim.Native.Nat.{ℕ, _+_}
+use Prim.Native.Nat.{ℕ, _+_, _<_}
 use native.Mathlib.Omega.{arith}
 use lib.ListN.{length, length-map}
 use borrow.Author.Needs.{needs, length-unmapped}
 use borrow.Author.Tests.{not-true, not-false}
 use Rattle.board.specs.Limits.{maxEdges, maxTerminals, maxMoves}
+use Rattle.board.specs.declared.Board.{Board}
 use Rattle.guard.specs.Guard.{playing}
 use Rattle.guard.proofs.Facts.{playing-moves}
 use Rattle.guard.proofs.Parts.{last-read, in-play}
 use Rattle.finishing.specs.Run.{Sized}
 use Rattle.finishing.proofs.Stepping.{finish-closed}
-use Rattle.finishing.proofs.Running.{Run, run-starts, run-plays, run-refused, run-made, run-stuck, run-over, journal-past, left-less}
+use Rattle.finishing.proofs.Running.{Run, Next, run-starts, run-plays, run-refused, run-made, run-stuck, run-over, journal-past, left-less}
 use Rattle.finishing.proofs.finish.Statement.{statement}
 use Rattle.finishing.proofs.finish.Tie as tie
 use Rattle.finishing.proofs.finish.Reads as reads
@@ -30,36 +31,46 @@ use Rattle.lists.proofs.and.Reads as and-reads
 use Rattle.lists.proofs.minus.Reads as minus-reads
 
 abbrev Inv-loop : tie.InvT-loop
-Inv-loop board last₀ net flows₀ marks₀ places₀ from k fits leaving entering moves₀ positive₀ left₀ last flows marks places moves positive left =
-    Run board net last flows marks places moves positive left
+Inv-loop board last₀ net flows₀ marks₀ places₀ from k fits leaving entering moves₀ positive left₀ made₀ last flows marks places moves left made =
+    Run board net last flows marks places moves left × Next net flows marks places left made
 
 abbrev μ-loop : tie.MeasureT-loop
-μ-loop board last₀ net flows₀ marks₀ places₀ from k fits leaving entering moves₀ positive₀ left₀ last flows marks places moves positive left = left
+μ-loop board last₀ net flows₀ marks₀ places₀ from k fits leaving entering moves₀ positive left₀ made₀ last flows marks places moves left made = left
 
+abbrev cs : lts.Claims
+cs = (
+  minus-reads.Asked,
+  minus-reads.Learnt,
+  blank-reads.Asked,
+  blank-reads.Learnt,
+  intact-in-reads.Asked,
+  intact-in-reads.Learnt,
+  and-reads.Asked,
+  and-reads.Learnt,
+  at-vertices-reads.Asked,
+  at-vertices-reads.Learnt,
+  positive-reads.Asked,
+  positive-reads.Learnt,
+  advance-reads.Asked,
+  advance-reads.Learnt,
+  left-after-reads.Asked,
+  left-after-reads.Learnt,
+  all-home-reads.Asked,
+  all-home-reads.Learnt,
+)
+
+-- after the test, and after it where the board is in play
 abbrev Tested : Type 0
-Tested =
-    lts.After-and (
-      minus-reads.Asked,
-      minus-reads.Learnt,
-      blank-reads.Asked,
-      blank-reads.Learnt,
-      intact-in-reads.Asked,
-      intact-in-reads.Learnt,
-      and-reads.Asked,
-      and-reads.Learnt,
-      at-vertices-reads.Asked,
-      at-vertices-reads.Learnt,
-      positive-reads.Asked,
-      positive-reads.Learnt,
-      advance-reads.Asked,
-      advance-reads.Learnt,
-      left-after-reads.Asked,
-      left-after-reads.Learnt,
-      all-home-reads.Asked,
-      all-home-reads.Learnt,
-    ) reads.Pre reads.Post Inv-loop μ-loop
+Tested = lts.After-and cs reads.Pre reads.Post Inv-loop μ-loop
 
-tested : (c : Tested) → c .and .result ≡ playing (c .before .before .before .before .before .before .before .before .before .args .board)
+abbrev InPlay : Type 0
+InPlay = lts.Else2 cs reads.Pre reads.Post Inv-loop μ-loop
+
+-- the board that came in
+abbrev given : Tested → Board
+given c = c .before .before .before .before .before .before .before .before .before .args .board
+
+tested : (c : Tested) → c .and .result ≡ playing (given c)
 tested c =
     let at-if1 = c .before .before in
     let at-blank = at-if1 .before in
@@ -72,6 +83,54 @@ tested c =
     (last-read board _ (at-if1 .if1 .newest) _ room (at-blank .before .minus .ensures)
     (⊎-elim (λ w. inl (w .0 .taken, w .2)) (λ w. inr (w .0 .left, w .1 ∙ at-blank .blank .ensures)) (at-if1 .if1 .came)))
     (c .before .intact-in .ensures) (c .and .ensures)
+
+plays : (c : InPlay) → playing (given (c .before)) ≡ true
+plays c = sym (tested (c .before)) ∙ not-false _ (c .if2 .left)
+
+starts : (c : InPlay)
+    → let b = given (c .before) in Run b (b .network) b (b .flows) (b .marks) (b .places) (b .moves) maxMoves
+starts c =
+    let at-start = c .before .before .before .before .before .before .before .before .before .before in
+    let board = at-start .args .board in
+    -- what owning the board tells of its fields, nested to the right
+    let network = at-start .good .0 .1 .1 .1 in
+    let journal = network .1 .1 .1 .1 .1 .0 in
+    let lists = network .0 .1 .1 .1 .1 .1 .1 in
+    let long : length (board .flows) ≡ maxEdges = search needs in
+    let short : length (board .places) ≡ maxTerminals = search needs in
+    let sized : Sized (board .network) = record {
+      tails = length-unmapped ℕ (board .network .tails) maxEdges (lists .0 .1 .0 .1);
+      heads = length-unmapped ℕ (board .network .heads) maxEdges (lists .1 .0 .1 .0 .1);
+      demands = length-unmapped ℕ (board .network .demands) maxTerminals (lists .1 .1 .1 .1 .0 .1 .0 .1);
+    } in
+    let room : length (board .journal) ≡ maxMoves = simp length-map at (journal .1 .0 .1) in
+    run-starts board (plays c) long short sized room
+
+-- the run after an accepted move
+abbrev Moved : Type 0
+Moved = lts.After-left-after cs reads.Pre reads.Post Inv-loop μ-loop
+
+goes-on : (c : Moved)
+    → let at-loop = c .before .before .before .before .before .before .before .before in
+    let board = given (at-loop .before .before .before .before .before .before .before .before .before .before) in
+    let made = at-loop .loop .made in
+    Run board (board .network) (c .before .before .before .if4 .last) (made .change .flows) (made .change .marks) (made .change .places) (at-loop .loop .moves + 1)
+    (c .left-after .result)
+goes-on c =
+    let at-if3 = c .before .before .before .before in
+    let at-test = at-if3 .before .before .before in
+    let at-loop = at-test .before in
+    let joined = c .before .before .before .if4 in
+    run-made _ _ _ _ _ _ _ _ (at-loop .loop .inv .0) (at-test .loop-test .taken) (at-loop .loop .made) (at-loop .loop .inv .1 .makes (at-test .loop-test .taken))
+    (joined .last) _ (at-if3 .if3 .left) (at-loop .loop .inv .1 .short)
+    (⊎-elim (λ w. w .2) (λ w. w .1 ∙ journal-past _ _ _ (omega (arith, at-loop .loop .inv .0 .room, w .0 .left))) (joined .came))
+    (c .left-after .ensures)
+
+goes-less : (c : Moved) → c .left-after .result < c .before .before .before .before .before .before .before .before .loop .left
+goes-less c =
+    let at-test = c .before .before .before .before .before .before .before in
+    let loop = at-test .before .loop in
+    omega (arith, at-test .loop-test .taken, c .left-after .ensures, left-less (loop .left) (loop .moves + 1) (loop .made .small) (at-test .loop-test .taken))
 
 minus-requires : tie.Need-minus-requires Inv-loop μ-loop
 minus-requires c κs = search needs
@@ -109,25 +168,6 @@ positive-requires c κs = search needs
 cast-left : tie.Need-cast-left Inv-loop μ-loop
 cast-left c = search needs
 
-loop-holds : tie.Need-loop-holds Inv-loop μ-loop
-loop-holds c =
-    let at-if2 = c .before .before .before .before .before in
-    let at-start = at-if2 .before .before .before .before .before .before .before .before .before .before in
-    let board = at-start .args .board in
-    -- what owning the board tells of its fields, nested to the right
-    let network = at-start .good .0 .1 .1 .1 in
-    let journal = network .1 .1 .1 .1 .1 .0 in
-    let lists = network .0 .1 .1 .1 .1 .1 .1 in
-    let long : length (board .flows) ≡ maxEdges = search needs in
-    let short : length (board .places) ≡ maxTerminals = search needs in
-    let sized : Sized (board .network) = record {
-      tails = length-unmapped ℕ (board .network .tails) maxEdges (lists .0 .1 .0 .1);
-      heads = length-unmapped ℕ (board .network .heads) maxEdges (lists .1 .0 .1 .0 .1);
-      demands = length-unmapped ℕ (board .network .demands) maxTerminals (lists .1 .1 .1 .1 .0 .1 .0 .1);
-    } in
-    let room : length (board .journal) ≡ maxMoves = simp length-map at (journal .1 .0 .1) in
-    run-starts _ _ (sym (tested (at-if2 .before)) ∙ not-false _ (at-if2 .if2 .left)) (c .positive .ensures) long short sized room
-
 slice-aggregate-advance : tie.Need-slice-aggregate-advance Inv-loop μ-loop
 slice-aggregate-advance c = search needs
 
@@ -136,26 +176,34 @@ slice-aggregate-advance-2 c = search needs
 
 advance-requires : tie.Need-advance-requires Inv-loop μ-loop
 advance-requires c κs =
-    let at-loop = c .before .before .before in
-    let at-sets = at-loop .before .before in (
-      run-plays _ _ _ _ _ _ _ _ _ (at-loop .loop .inv) (c .before .before .loop-test .taken),
-      (at-sets .before .at-vertices .ensures, (at-sets .at-vertices2 .ensures, at-loop .loop .inv .is-positive)),
+    let at-positive = c .before .before in
+    let at-sets = at-positive .before in
+    let run = starts (at-sets .before .before .before .before) in (
+      run-plays _ _ _ _ _ _ _ _ run (λ z. omega (arith, z)),
+      (at-sets .before .at-vertices .ensures, (at-sets .at-vertices2 .ensures, at-positive .positive .ensures)),
     )
 
+loop-holds : tie.Need-loop-holds Inv-loop μ-loop
+loop-holds c = (
+  starts (c .before .before .before .before .before .before .before .before),
+  record { makes = λ n. c .advance .ensures; short = length-unmapped ℕ (c .advance .result .change .places) maxTerminals (c .advance .ok .1 .1 .0 .1 .1 .1 .1 .1 .0 .1 .0 .1) },
+)
+
 loop-less : tie.Need-loop-less Inv-loop μ-loop
-loop-less c = omega (arith, c .before .before .before .before .before .before .loop-test .taken)
+loop-less c = omega (arith, c .before .before .before .loop-test .taken)
 
 loop-again : tie.Need-loop-again Inv-loop μ-loop
 loop-again c =
-    let at-advance = c .before .before .before in
-    let at-loop = at-advance .before .before .before .before in
-    run-refused _ _ _ _ _ _ _ _ _ (at-loop .loop .inv) (at-advance .before .before .before .loop-test .taken) (at-advance .advance .result)
-    (at-advance .advance .ensures) (c .if3 .taken)
+    let at-test = c .before .before .before in
+    let loop = at-test .before .loop in (
+      run-refused _ _ _ _ _ _ _ _ (loop .inv .0) (at-test .loop-test .taken) (loop .made) (loop .inv .1 .makes (at-test .loop-test .taken)) (c .if3 .taken),
+      record { makes = λ n. absurd (n refl); short = loop .inv .1 .short },
+    )
 
 cast-m : tie.Need-cast-m Inv-loop μ-loop
 cast-m c =
-    let at-test = c .before .before .before .before .before .before in
-    let few = playing-moves _ (at-test .before .loop .inv .play (at-test .loop-test .taken)) in
+    let at-test = c .before .before .before in
+    let few = playing-moves _ (at-test .before .loop .inv .0 .play (at-test .loop-test .taken)) in
     record { fits = omega (arith, few) }
 
 mul-entry : tie.Need-mul-entry Inv-loop μ-loop
@@ -166,33 +214,46 @@ element-set-from-entry c = search needs
 
 add-moves : tie.Need-add-moves Inv-loop μ-loop
 add-moves c =
-    let at-test = c .before .before .before .before .before .before .before .before .before in
-    let few = playing-moves _ (at-test .before .loop .inv .play (at-test .loop-test .taken)) in
+    let at-test = c .before .before .before .before .before .before in
+    let few = playing-moves _ (at-test .before .loop .inv .0 .play (at-test .loop-test .taken)) in
     record { fits = omega (arith, few) }
 
 left-after-requires : tie.Need-left-after-requires Inv-loop μ-loop
 left-after-requires c κs = search needs
 
+slice-aggregate-advance-3 : tie.Need-slice-aggregate-advance-3 Inv-loop μ-loop
+slice-aggregate-advance-3 c = search needs
+
+slice-aggregate-advance-4 : tie.Need-slice-aggregate-advance-4 Inv-loop μ-loop
+slice-aggregate-advance-4 c = search needs
+
+advance-requires-2 : tie.Need-advance-requires-2 Inv-loop μ-loop
+advance-requires-2 c κs =
+    let at-if5 = c .before .before in
+    let at-test = at-if5 .before .before .before .before .before .before .before .before in
+    let at-loop = at-test .before in
+    let at-sets = at-loop .before .before .before .before .before in (
+      run-plays _ _ _ _ _ _ _ _ (goes-on (at-if5 .before)) (at-if5 .if5 .taken),
+      (at-sets .before .at-vertices .ensures, (at-sets .at-vertices2 .ensures, at-loop .loop .inv .1 .makes (at-test .loop-test .taken) .is-positive)),
+    )
+
 loop-less-2 : tie.Need-loop-less-2 Inv-loop μ-loop
-loop-less-2 c =
-    let at-test = c .before .before .before .before .before .before .before .before .before .before in
-    omega (arith, at-test .loop-test .taken, c .left-after .ensures, left-less (at-test .before .loop .left) (at-test .before .loop .moves + 1) (c .before .before .before .before .before .before .before .advance .result .small) (at-test .loop-test .taken))
+loop-less-2 c = goes-less (c .before .before .before .before)
 
 loop-again-2 : tie.Need-loop-again-2 Inv-loop μ-loop
 loop-again-2 c =
-    let at-if3 = c .before .before .before .before in
-    let at-advance = at-if3 .before .before .before in
-    let at-loop = at-advance .before .before .before .before in
-    -- what owning the move tells of its change
-    let change = at-advance .advance .ok .1 .1 .0 in
-    let short = length-unmapped ℕ (at-advance .advance .result .change .places) maxTerminals (change .1 .1 .1 .1 .1 .0 .1 .0 .1) in
-    run-made _ _ _ _ _ _ _ _ _ (at-loop .loop .inv) (at-advance .before .before .before .loop-test .taken) (at-advance .advance .result)
-    (at-advance .advance .ensures) (c .before .before .before .if4 .last) _ (at-if3 .if3 .left) short
-    (⊎-elim (λ w. w .2) (λ w. w .1 ∙ journal-past _ _ _ (omega (arith, at-loop .loop .inv .room, w .0 .left))) (c .before .before .before .if4 .came))
-    (c .left-after .ensures)
+    (goes-on (c .before .before .before .before), record { makes = λ n. c .advance2 .ensures; short = length-unmapped ℕ (c .advance2 .result .change .places) maxTerminals (c .advance2 .ok .1 .1 .0 .1 .1 .1 .1 .1 .0 .1 .0 .1) })
+
+loop-less-3 : tie.Need-loop-less-3 Inv-loop μ-loop
+loop-less-3 c = goes-less (c .before)
+
+loop-again-3 : tie.Need-loop-again-3 Inv-loop μ-loop
+loop-again-3 c =
+    let loop = c .before .before .before .before .before .before .before .before .before .loop in
+    (goes-on (c .before), record { makes = λ n. absurd (n (c .if5 .left)); short = loop .inv .1 .short })
 
 slice-aggregate-all-home : tie.Need-slice-aggregate-all-home Inv-loop μ-loop
-slice-aggregate-all-home c = sym (c .before .before .loop .inv .short)
+slice-aggregate-all-home c = sym (c .before .before .loop .inv .0 .short)
 
 all-home-requires : tie.Need-all-home-requires Inv-loop μ-loop
 all-home-requires c κs = search needs
@@ -200,9 +261,8 @@ all-home-requires c κs = search needs
 returns-2 : tie.Need-returns-2 Inv-loop μ-loop
 returns-2 c =
     let at-end = c .before .before .before in
-    let at-if2 = at-end .before .before .before .before .before .before .before in
-    run-stuck _ _ _ _ _ _ _ _ _ (at-end .before .loop .inv) (at-end .loop-test .left) (sym (tested (at-if2 .before)) ∙ not-false _ (at-if2 .if2 .left)) _
-    (c .before .all-home .ensures) (not-true _ (c .if5 .taken))
+    let at-if2 = at-end .before .before .before .before .before .before .before .before .before .before in
+    run-stuck _ _ _ _ _ _ _ _ (at-end .before .loop .inv .0) (at-end .loop-test .left) (plays at-if2) _ (c .before .all-home .ensures) (not-true _ (c .if6 .taken))
 
 minus-requires-2 : tie.Need-minus-requires-2 Inv-loop μ-loop
 minus-requires-2 c κs = search needs
@@ -211,9 +271,9 @@ returns-3 : tie.Need-returns-3 Inv-loop μ-loop
 returns-3 c =
     let at-home = c .before .before in
     let at-end = at-home .before .before in
-    let at-if2 = at-end .before .before .before .before .before .before .before in
-    run-over _ _ _ _ _ _ _ _ _ (at-end .before .loop .inv) (at-end .loop-test .left) (sym (tested (at-if2 .before)) ∙ not-false _ (at-if2 .if2 .left)) _
-    (at-home .all-home .ensures) _ (not-false _ (c .before .if5 .left)) (c .minus2 .ensures)
+    let at-if2 = at-end .before .before .before .before .before .before .before .before .before .before in
+    run-over _ _ _ _ _ _ _ _ (at-end .before .loop .inv .0) (at-end .loop-test .left) (plays at-if2) _ (at-home .all-home .ensures) _
+    (not-false _ (c .before .if6 .left)) (c .minus2 .ensures)
 
 pub finish-spec : {M : Type 1} → statement M
 finish-spec =
@@ -233,10 +293,10 @@ finish-spec =
     at-vertices-requires-2
     positive-requires
     cast-left
-    loop-holds
     slice-aggregate-advance
     slice-aggregate-advance-2
     advance-requires
+    loop-holds
     loop-less
     loop-again
     cast-m
@@ -244,8 +304,13 @@ finish-spec =
     element-set-from-entry
     add-moves
     left-after-requires
+    slice-aggregate-advance-3
+    slice-aggregate-advance-4
+    advance-requires-2
     loop-less-2
     loop-again-2
+    loop-less-3
+    loop-again-3
     slice-aggregate-all-home
     all-home-requires
     returns-2
