@@ -19,6 +19,7 @@ use Rattle.board.specs.declared.Entry.{Entry}
 use Rattle.board.specs.declared.Network.{Network}
 use Rattle.guard.specs.Guard.{playing}
 use Rattle.journal.specs.Moved.{moved}
+use Rattle.journal.proofs.Stores.{withParts}
 use Rattle.journal.specs.declared.Change.{Change}
 use Rattle.choosing.specs.Choosing.{allHome, allHomeIn}
 use Rattle.choosing.proofs.Advised.{home-same}
@@ -31,30 +32,10 @@ use Rattle.finishing.proofs.Following.{Follows, follows}
 
 -- a board with other parts, and with another journal
 abbrev pub standing : Board → List ℕ → ℕ → List ℕ → ℕ → Board
-standing last flows marks places moves = record {
-  stage = last .stage;
-  network = last .network;
-  acyclic = last .acyclic;
-  flows = flows;
-  marks = marks;
-  places = places;
-  journal = last .journal;
-  moves = moves;
-  «finish_from» = last .«finish_from»;
-}
+standing last flows marks places moves = withParts last flows marks places (last .journal) moves
 
 abbrev pub journaled : Board → List Entry → Board
-journaled last journal = record {
-  stage = last .stage;
-  network = last .network;
-  acyclic = last .acyclic;
-  flows = last .flows;
-  marks = last .marks;
-  places = last .places;
-  journal = journal;
-  moves = last .moves;
-  «finish_from» = last .«finish_from»;
-}
+journaled last journal = withParts last (last .flows) (last .marks) (last .places) journal (last .moves)
 
 -- past its end the journal stays
 pub journal-past : (last : Board) (m : ℕ) (entry : Entry) → length (last .journal) ≤ m → last ≡ journaled last (set (last .journal) m entry)

@@ -12,22 +12,7 @@ use lib.ListN.{length, getD, set}
 use borrow.Author.Tests.{ltb-true, leb-true, eqb-true, le-leb, lt-ltb, eq-eqb}
 use Rattle.lists.specs.Choice.{pick, both}
 use Rattle.lists.specs.Lists.{all}
-use Rattle.lists.proofs.Laws.{
-  Known,
-  was-true,
-  was-false,
-  known,
-  lt-or-ge,
-  pick-yes,
-  pick-no,
-  pick-passed,
-  pick-avoided,
-  both-left,
-  both-right,
-  both-true,
-  all-from,
-  all-zero,
-}
+use Rattle.lists.proofs.Laws.{Known, was-true, was-false, known, lt-or-ge, pick-yes, pick-no, pick-passed, pick-avoided, both-left, both-right, both-true, all-from, all-zero, all-same}
 use Rattle.sets.specs.Sets.{hasBit}
 use Rattle.board.specs.Limits.{maxEdges, maxTerminals, maxMoves, maxTotal}
 use Rattle.board.specs.Record.{playStage, blank}
@@ -63,16 +48,6 @@ set-at (y ∷ ys) (suc i) (suc j) x = go (set-at ys i j x)
         → (getD (set ys i x) j 0 ≡ getD ys j 0) ⊎ ((suc j ≡ suc i) × (getD (set ys i x) j 0 ≡ x))
     go (inl q) = inl q
     go (inr (e, q)) = inr (ap suc e, q)
-
--- tests that agree at each index
-all-same : (p q : ℕ → Bool) (i k : ℕ) → ((j : ℕ) → i ≤ j → j < i + k → p j ≡ q j) → all p i k ≡ all q i k
-unfolding all
-all-same p q i zero f = refl
-all-same p q i (suc k) f = go (known (p i)) (f i (omega arith) (omega arith)) (all-same p q (suc i) k (λ j l h. f j (omega arith) (omega arith)))
-  where
-    go : Known (p i) → p i ≡ q i → all p (suc i) k ≡ all q (suc i) k → all p i (suc k) ≡ all q i (suc k)
-    go (was-true t) e ih = rw (← e, t, all) ih
-    go (was-false t) e ih = rw (← e, t, all)
 
 -- a flow that falls stays small
 pub fall-small : (flows : List ℕ) (e x : ℕ) → x ≤ getD flows e 0 → allSmall flows ≡ true → allSmall (set flows e x) ≡ true
