@@ -59,12 +59,12 @@ cs = (
   all-home-reads.Learnt,
 )
 
--- after the test, and after it where the board is in play
+-- the places in the code after the test, and after it where the board is in play
 abbrev Tested : Type 0
 Tested = lts.After-and cs reads.Pre reads.Post Inv-loop μ-loop
 
-abbrev InPlay : Type 0
-InPlay = lts.Else2 cs reads.Pre reads.Post Inv-loop μ-loop
+abbrev Begun : Type 0
+Begun = lts.Else2 cs reads.Pre reads.Post Inv-loop μ-loop
 
 -- the board that came in
 abbrev given : Tested → Board
@@ -84,10 +84,11 @@ tested c =
     (⊎-elim (λ w. inl (w .0 .taken, w .2)) (λ w. inr (w .0 .left, w .1 ∙ at-blank .blank .ensures)) (at-if1 .if1 .came)))
     (c .before .intact-in .ensures) (c .and .ensures)
 
-plays : (c : InPlay) → playing (given (c .before)) ≡ true
+plays : (c : Begun) → playing (given (c .before)) ≡ true
 plays c = sym (tested (c .before)) ∙ not-false _ (c .if2 .left)
 
-starts : (c : InPlay)
+-- the whole run is left
+starts : (c : Begun)
     → let b = given (c .before) in Run b (b .network) b (b .flows) (b .marks) (b .places) (b .moves) maxMoves
 starts c =
     let at-start = c .before .before .before .before .before .before .before .before .before .before in
@@ -106,7 +107,7 @@ starts c =
     let room : length (board .journal) ≡ maxMoves = simp length-map at (journal .1 .0 .1) in
     run-starts board (plays c) long short sized room
 
--- the run after an accepted move
+-- the place after an accepted move: the run has gone on, and fewer moves are left
 abbrev Moved : Type 0
 Moved = lts.After-left-after cs reads.Pre reads.Post Inv-loop μ-loop
 
