@@ -1,3 +1,4 @@
+-- A vertex of the slice gets e into its set; past the end the list's store changes nothing, like the code.
 use mathlib.Core.Path.{sym}
 use lib.Seq.{set-out}
 use Rattle.lists.specs.Choice.{pick}

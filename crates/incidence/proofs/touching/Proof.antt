@@ -1,3 +1,4 @@
+-- What the set of v and the positive edges have in common; past the end that set is empty, and so is the answer.
 use mathlib.Core.Path.{sym}
 use lib.Bits.{and-zero-l}
 use lib.ListN.{List·getD-eq-default}

@@ -1,3 +1,4 @@
+-- A true first test gives the second test and a false one gives false: the two clauses of `both`.
 use Rattle.lists.specs.Choice.{both}
 use Rattle.lists.proofs.and.Statement.{statement}
 use Rattle.lists.proofs.and.Tie as tie

@@ -1,3 +1,4 @@
+-- Inside the slice the bool at i is read; past the end the list's default is false, the code's other answer.
 use mathlib.Core.Path.{sym}
 use mathlib.Core.Bool.{false}
 use lib.ListN.{List·getD-eq-default}

@@ -1,3 +1,4 @@
+-- Below the length the byte is read from the slice; past the end the list's default is 0, as the code answers.
 use mathlib.Core.Path.{sym}
 use lib.ListN.{List·getD-eq-default}
 use borrow.Author.Needs.{needs}

@@ -1,3 +1,4 @@
+-- The index is read where the slice has a place i; where it has none, the code and the list's read both give 0.
 use mathlib.Core.Path.{sym}
 use lib.ListN.{List·getD-eq-default}
 use borrow.Author.Needs.{needs}

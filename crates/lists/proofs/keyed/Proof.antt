@@ -1,3 +1,4 @@
+-- Equal keys give the value and different keys give 0; both are below 2 ^ 32, since the value has 32 bits.
 use native.Mathlib.Omega.{arith}
 use borrow.Author.Tests.{eq-eqb, ne-eqb}
 use Rattle.lists.specs.Lists.{keyed}

@@ -1,3 +1,4 @@
+-- A true first test gives true and a false one gives the second test: the two clauses of `either`.
 use Rattle.lists.specs.Choice.{either}
 use Rattle.lists.proofs.or.Statement.{statement}
 use Rattle.lists.proofs.or.Tie as tie

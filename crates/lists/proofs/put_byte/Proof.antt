@@ -1,3 +1,4 @@
+-- Below the length the byte is stored at i; past the end the list's own store changes nothing, like the code.
 use mathlib.Core.Path.{sym}
 use lib.Seq.{set-out}
 use borrow.Author.Needs.{needs}

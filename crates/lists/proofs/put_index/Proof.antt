@@ -1,3 +1,4 @@
+-- The index is stored as in the list; an i past the end leaves the slice, and so does the list's store there.
 use mathlib.Core.Path.{sym}
 use lib.Seq.{set-out}
 use borrow.Author.Needs.{needs}

@@ -1,3 +1,4 @@
+-- Where the slice has a place i the number is stored there; where it has none, a store leaves the list as it is.
 use mathlib.Core.Path.{sym}
 use lib.Seq.{set-out}
 use borrow.Author.Needs.{needs}

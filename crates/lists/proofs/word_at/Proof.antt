@@ -1,3 +1,4 @@
+-- An i below the length reads the number there; an i past the end gets 0, the default of the list's read.
 use mathlib.Core.Path.{sym}
 use lib.ListN.{List·getD-eq-default}
 use borrow.Author.Needs.{needs}

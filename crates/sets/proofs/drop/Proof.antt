@@ -1,3 +1,5 @@
+-- A set that has c is at least 2 ^ c, and c is below 64, so neither the shift nor the difference wraps.
+-- A set that does not have c stays.
 use mathlib.Core.Path.{sym, ap, _∙_}
 use Prim.Native.Nat.{ℕ, _-_}
 use Rattle.lists.proofs.Laws.{pick-yes, pick-no}

@@ -1,3 +1,4 @@
+-- Below 64 the shift and the remainder are the definition of bit c; from 64 on, a number below 2 ^ 64 has no bit.
 use mathlib.Core.Path.{refl, sym}
 use Rattle.sets.specs.Sets.{hasBit}
 use Rattle.sets.proofs.Bits.{has-past}

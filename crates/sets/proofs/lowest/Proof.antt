@@ -1,3 +1,4 @@
+-- The zeros below the lowest bit are as many as its number, and 64 where there is none (proofs/Scan.antt).
 use Rattle.sets.proofs.Scan.{lowest-bit}
 use borrow.Author.Needs.{needs}
 use Rattle.sets.proofs.lowest.Statement.{statement}

@@ -1,3 +1,4 @@
+-- Where c joins, c is below 64, so the code's shift is 2 ^ c and the join sets that bit; else the set stays.
 use mathlib.Core.Path.{sym, _∙_}
 use Rattle.lists.proofs.Laws.{pick-yes, pick-no}
 use Rattle.sets.proofs.Bits.{with-code}
