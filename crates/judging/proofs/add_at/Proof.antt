@@ -1,3 +1,4 @@
+-- The bound asked for keeps the sum from wrapping; past the end the list's store changes nothing, like the code.
 use mathlib.Core.Path.{sym}
 use lib.Seq.{set-out}
 use borrow.Author.Needs.{needs}

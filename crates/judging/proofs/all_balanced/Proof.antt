@@ -1,3 +1,5 @@
+-- More vertices than the limit are tested one by one. Else the sums are those of each vertex (proofs/Sums.antt);
+-- they start at 0 and values are added to an array at most twice, so they stay within what `add_keyed` asks for.
 use mathlib.Core.Path.{_∙_}
 use native.Mathlib.Omega.{arith}
 use Rattle.board.specs.Limits.{maxVertices}

@@ -1,3 +1,4 @@
+-- The three ranges and the test of the source are joined in the definition's order; each call gives its part.
 use mathlib.Core.Path.{_∙_}
 use borrow.Author.Needs.{needs}
 use Rattle.judging.proofs.counts_fit.Statement.{statement}

@@ -1,3 +1,4 @@
+-- Three tests in a row: the first that fails gives 3, 4 or 5, and where all hold the number is 0, as defined.
 use mathlib.Core.Path.{sym, _∙_}
 use borrow.Author.Tests.{not-true, not-false}
 use Rattle.lists.specs.Choice.{pick}

@@ -1,3 +1,4 @@
+-- The counts, the edges, the terminals and the number 0 of `judged` are the four tests that the definition joins.
 use mathlib.Core.Path.{_∙_}
 use Rattle.rules.specs.Rules.{lawful}
 use borrow.Author.Needs.{needs}

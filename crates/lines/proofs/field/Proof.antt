@@ -1,3 +1,5 @@
+-- Each way out is a case of the definition: no end byte, no number before it, a number outside its range, or in it.
+-- Only the last takes bytes: those up to the end byte and that byte, which the slice has.
 use mathlib.Core.Path.{sym, _∙_}
 use native.Mathlib.Omega.{arith}
 use lib.Seq.{length-take-le}

@@ -1,3 +1,5 @@
+-- The fields left, read on from the place reached with the values so far, give what the whole line gives.
+-- Another letter, no comma behind it, or a field that is refused refuses the line in the definition too.
 use mathlib.Core.Path.{_≡_, refl, sym, _∙_}
 use Prim.Native.Nat.{_-_, _≤_}
 use native.Mathlib.Omega.{arith}

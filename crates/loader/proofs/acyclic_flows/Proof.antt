@@ -1,3 +1,5 @@
+-- The vertices are within the limit, so the parts handed to `cancel` have a place for each of them, as it asks;
+-- what it leaves in the flows is the answer.
 use mathlib.Core.Path.{_≡_, sym}
 use lib.ListN.{length}
 use native.Mathlib.Omega.{arith}

@@ -1,3 +1,4 @@
+-- The network and the flows are taken over, and the entry that fills the journal is the blank.
 use borrow.Author.Needs.{needs}
 use Rattle.loader.proofs.opened.Statement.{statement}
 use Rattle.loader.proofs.opened.Tie as tie

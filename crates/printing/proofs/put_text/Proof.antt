@@ -1,3 +1,4 @@
+-- The three parts are written one behind the other, each from where the last ended, which makes the whole text.
 use Rattle.printing.proofs.Writing.{text-written}
 use borrow.Author.Needs.{needs}
 use Rattle.printing.proofs.put_text.Statement.{statement}

@@ -1,3 +1,5 @@
+-- The line read is the definition's, as its ranges are. A refused line keeps its number, a source that is no vertex
+-- gives 2, and else the four values make the network.
 use mathlib.Core.Path.{refl, ap, _∙_}
 use native.Mathlib.Omega.{arith}
 use mathlib.Core.List.{List}

@@ -1,3 +1,5 @@
+-- The first of the three parts that is refused decides, and then bytes behind the last, as in the definition.
+-- The counts of the first line are within their ranges, which is what reading the lines behind it asks for.
 use mathlib.Core.Path.{_∙_}
 use native.Mathlib.Omega.{arith}
 use Rattle.lines.proofs.Turns.{answered-refused}

@@ -1,3 +1,4 @@
+-- The number of the layout decides first, then that of the network judged; where both are 0 the network is given.
 use mathlib.Core.Path.{_∙_}
 use Rattle.reader.proofs.Whole.{read-stop, read-refused, read-accepted}
 use borrow.Author.Needs.{needs}

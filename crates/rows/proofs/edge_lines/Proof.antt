@@ -1,3 +1,5 @@
+-- What the edge lines left make of the network so far is what all of them make of the first network.
+-- Its count of vertices never changes, so the ranges made once are those of each line.
 use mathlib.Core.Path.{_≡_, refl, sym, ap, _∙_}
 use Prim.Native.Nat.{_-_, _≤_}
 use native.Mathlib.Nat.{sub-zero}

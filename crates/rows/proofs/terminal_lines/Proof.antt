@@ -1,3 +1,5 @@
+-- The terminal lines left, read from the place reached into the network so far, give what all of them give.
+-- The count of vertices stays, so every line is read by the ranges made before the loop.
 use mathlib.Core.Path.{_≡_, refl, sym, ap, _∙_}
 use Prim.Native.Nat.{_-_, _≤_}
 use native.Mathlib.Nat.{sub-zero}

@@ -1,3 +1,4 @@
+-- The source always balances; at any other vertex the three sums are the definition's, and small enough to add.
 use mathlib.Core.Path.{sym, ap₂, _∙_}
 use Prim.Native.Nat.{_+_}
 use lib.Dec.{eqb}

@@ -1,3 +1,4 @@
+-- The tail, the head and the flow read at i are the three numbers that the rule for an edge tests.
 use mathlib.Core.Path.{_∙_}
 use borrow.Author.Needs.{needs}
 use Rattle.rules.proofs.edge_fits.Statement.{statement}

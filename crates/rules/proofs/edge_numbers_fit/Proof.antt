@@ -1,3 +1,4 @@
+-- By `is_edge`: the bounds of tail, head and flow, or the test that all three are 0, joined as in the definition.
 use mathlib.Core.Path.{sym, ap, _∙_}
 use Rattle.lists.specs.Choice.{both}
 use Rattle.lists.proofs.Laws.{pick-yes, pick-no}

@@ -1,3 +1,4 @@
+-- By the rule: each of the three calls ensures the test that the definition has for that rule.
 use mathlib.Core.Path.{sym, ap, _∙_}
 use Rattle.rules.specs.declared.Rule.{Rule}
 use Rattle.rules.specs.Rules.{keeps}

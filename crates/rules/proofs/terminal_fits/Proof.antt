@@ -1,3 +1,4 @@
+-- The home and the demand read at j, put into the test of a terminal's numbers, are the definition's test of j.
 use mathlib.Core.Path.{_∙_}
 use borrow.Author.Needs.{needs}
 use Rattle.rules.proofs.terminal_fits.Statement.{statement}

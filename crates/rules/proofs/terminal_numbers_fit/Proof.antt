@@ -1,3 +1,4 @@
+-- The bounds of a terminal, or both numbers 0 past the terminals: the definition picks by the same test.
 use mathlib.Core.Path.{sym, ap, _∙_}
 use Rattle.lists.specs.Choice.{both}
 use Rattle.lists.proofs.Laws.{pick-yes, pick-no}

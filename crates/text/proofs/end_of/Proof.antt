@@ -1,3 +1,4 @@
+-- A field with others behind it ends in a comma (44), the last in a line feed (10): the two sides of the pick.
 use borrow.Author.Tests.{lt-ltb, le-ltb}
 use Rattle.lists.specs.Choice.{pick}
 use Rattle.text.proofs.end_of.Statement.{statement}

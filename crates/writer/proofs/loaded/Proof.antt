@@ -1,3 +1,4 @@
+-- The stage is from play to finished and the network is lawful: the two parts of the definition.
 use Rattle.text.specs.Results.{loaded}
 use borrow.Author.Needs.{needs}
 use Rattle.writer.proofs.loaded.Statement.{statement}

@@ -1,3 +1,5 @@
+-- No loaded board (29), a text longer than the buffer (8), or the text: the three answers of the definition.
+-- A first writing, into a buffer of one byte, gives the length; a loaded board's counts are within what it asks for.
 use mathlib.Core.Path.{sym, _∙_}
 use native.Mathlib.Omega.{arith}
 use borrow.Author.Tests.{not-true, not-false}

@@ -1,3 +1,4 @@
+-- The empty network and the blank entry are what their calls ensure; every other part is that of the closed board.
 use Rattle.board.specs.Record.{closedBoard}
 use borrow.Author.Needs.{needs}
 use Rattle.board.proofs.Board.closed.Statement.{statement}

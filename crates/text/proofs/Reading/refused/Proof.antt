@@ -1,3 +1,4 @@
+-- A refusal is the number and the empty network, which is what `Network::empty` ensures.
 use borrow.Author.Needs.{needs}
 use Rattle.text.proofs.Reading.refused.Statement.{statement}
 use Rattle.text.proofs.Reading.refused.Tie as tie
