@@ -1,3 +1,5 @@
+-- Each call's answer put into the next: the column of v, the cycle that the walk within it closes, and the flows
+-- lowered along that cycle, which is the part of the walk that `follow` says.
 use mathlib.Core.Path.{_∙_}
 use Rattle.cancelling.proofs.Rounds.{cycle-made}
 use borrow.Author.Needs.{needs}

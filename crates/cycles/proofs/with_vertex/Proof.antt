@@ -1,3 +1,4 @@
+-- A vertex that joins is below the set's width, as asked, and is added; else the set stays.
 use mathlib.Core.Path.{refl, sym, _∙_}
 use Rattle.lists.proofs.Laws.{pick-yes, pick-no}
 use borrow.Author.Needs.{needs}

@@ -1,3 +1,4 @@
+-- A v below the length gets the row; past the end the list's store leaves the rows, and so does the code.
 use mathlib.Core.Path.{sym}
 use lib.Seq.{set-out}
 use borrow.Author.Needs.{needs}

@@ -1,3 +1,4 @@
+-- A vertex that has a row gets it; past the end the list's default is 0, the empty set.
 use mathlib.Core.Path.{sym}
 use lib.ListN.{List·getD-eq-default}
 use borrow.Author.Needs.{needs}

@@ -1,3 +1,4 @@
+-- The code's test is that of the pick: a where it is below b, else b.
 use mathlib.Core.Path.{sym}
 use borrow.Author.Tests.{lt-ltb, le-ltb}
 use Rattle.lists.proofs.Laws.{pick-yes, pick-no}

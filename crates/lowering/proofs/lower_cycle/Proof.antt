@@ -1,3 +1,4 @@
+-- The amount is the smallest flow on the cycle, and each edge is lowered by it: the definition, in two calls.
 use Rattle.lowering.proofs.Folds.{lower-made}
 use borrow.Author.Needs.{needs}
 use Rattle.lowering.proofs.lower_cycle.Statement.{statement}
