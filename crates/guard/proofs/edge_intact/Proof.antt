@@ -1,3 +1,4 @@
+-- The numbers fit, the acyclic flow is at most the text's, and the flow is small: joined as in the definition.
 use mathlib.Core.Path.{_∙_}
 use borrow.Author.Needs.{needs}
 use Rattle.guard.proofs.edge_intact.Statement.{statement}

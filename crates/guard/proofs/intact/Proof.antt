@@ -1,3 +1,4 @@
+-- The last entry is the board's own, so the test of the parts is the test of the board.
 use mathlib.Core.Path.{_∙_}
 use Rattle.guard.specs.Guard.{intact}
 use borrow.Author.Needs.{needs}

@@ -1,3 +1,4 @@
+-- Counts, edges, terminals, room in the journal and last move: each call gives its part, joined as defined.
 use mathlib.Core.Path.{_∙_}
 use borrow.Author.Needs.{needs}
 use Rattle.guard.proofs.intact_in.Statement.{statement}

@@ -1,3 +1,4 @@
+-- The kind of the move decides: a carry is intact, and of a turn the code tests the bound of the definition.
 use mathlib.Core.Path.{sym, ap}
 use Rattle.guard.specs.Guard.{moveIntact}
 use borrow.Author.Needs.{needs}

@@ -1,3 +1,4 @@
+-- By `is_terminal`: the place is below the count of vertices, or 0, which are the two sides of the pick.
 use mathlib.Core.Path.{sym}
 use Rattle.lists.proofs.Laws.{pick-yes, pick-no}
 use Rattle.guard.proofs.placed.Statement.{statement}

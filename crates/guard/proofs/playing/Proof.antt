@@ -1,3 +1,4 @@
+-- The stage is that of play and the board is intact: the two tests of the definition, joined in its order.
 use mathlib.Core.Path.{ap, _∙_}
 use lib.Dec.{eqb}
 use Rattle.lists.specs.Choice.{both}

@@ -1,3 +1,4 @@
+-- The code branches where the definition picks: at an acyclic flow of 0 the flow is 0, else within the total.
 use mathlib.Core.Path.{sym}
 use borrow.Author.Tests.{eq-eqb, ne-eqb}
 use Rattle.lists.proofs.Laws.{pick-yes, pick-no}

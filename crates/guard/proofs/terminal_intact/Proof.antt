@@ -1,3 +1,4 @@
+-- The test of the numbers and the test of the place are the two parts of the definition.
 use borrow.Author.Needs.{needs}
 use Rattle.guard.proofs.terminal_intact.Statement.{statement}
 use Rattle.guard.proofs.terminal_intact.Tie as tie

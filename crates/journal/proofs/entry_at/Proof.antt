@@ -1,3 +1,4 @@
+-- The journal has 1056 entries: below that the entry is read, and from there on the list's default is the blank.
 use mathlib.Core.Path.{_≡_, sym, _∙_}
 use lib.ListN.{length, List·getD-eq-default}
 use Rattle.board.specs.Record.{blank}

@@ -1,3 +1,4 @@
+-- The place read is the count of moves less one, and 0 without moves: the entry there is the definition's.
 use borrow.Author.Needs.{needs}
 use Rattle.journal.proofs.last_entry.Statement.{statement}
 use Rattle.journal.proofs.last_entry.Tie as tie

@@ -1,3 +1,4 @@
+-- An edge is singular where its head is straight: the head that is read, handed to `straight`.
 use Rattle.marking.specs.Marking.{singularBy}
 use borrow.Author.Needs.{needs}
 use Rattle.marking.proofs.singular_by.Statement.{statement}

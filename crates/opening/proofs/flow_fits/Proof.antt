@@ -1,3 +1,4 @@
+-- The mark picks the test, equal to the demand or no smaller than it, in the code and in the definition.
 use mathlib.Core.Path.{sym}
 use Rattle.lists.proofs.Laws.{pick-yes, pick-no}
 use Rattle.opening.specs.Opens.{flowFits}

@@ -1,3 +1,4 @@
+-- The head, the flow and the mark read at e are the definition's, and so is the joining of its two tests.
 use mathlib.Core.Path.{_∙_}
 use Rattle.opening.specs.Opens.{isOpenAt}
 use borrow.Author.Needs.{needs}
