@@ -1,3 +1,4 @@
+-- By the way of the step: down allows the flow of its edge, up what the terminals at the edge's head allow.
 use mathlib.Core.Path.{sym, _∙_}
 use borrow.Author.Tests.{not-true, not-false}
 use Rattle.amounts.proofs.Raising.{allowed-down, allowed-up}

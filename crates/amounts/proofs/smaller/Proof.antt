@@ -1,3 +1,4 @@
+-- The three ways out are the definition's: no amount so far, an x below it, or an x that is not below it.
 use borrow.Author.Tests.{eq-eqb, ne-eqb, lt-ltb, le-ltb}
 use Rattle.lists.specs.Choice.{pick}
 use Rattle.amounts.specs.Amounts.{smaller}

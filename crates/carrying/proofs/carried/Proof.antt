@@ -1,3 +1,4 @@
+-- The flow of e less the demand and the tail of e, stored at their places, are the parts of the accepted carry.
 use Rattle.carrying.proofs.Makes.{makes-carried}
 use borrow.Author.Needs.{needs}
 use Rattle.carrying.proofs.carried.Statement.{statement}

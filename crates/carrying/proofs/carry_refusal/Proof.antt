@@ -1,3 +1,4 @@
+-- The refusal over a board's parts is the board's, with what `playing` says for whether it is in play.
 use Rattle.carrying.proofs.Makes.{refusal-parts}
 use borrow.Author.Needs.{needs}
 use Rattle.carrying.proofs.carry_refusal.Statement.{statement}

@@ -1,3 +1,4 @@
+-- By the number of the refusal: at 0 the change of an accepted carry, else no change and that number.
 use mathlib.Core.Path.{sym}
 use borrow.Author.Tests.{eq-eqb, ne-eqb}
 use Rattle.lists.specs.Choice.{pick}

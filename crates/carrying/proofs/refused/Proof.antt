@@ -1,3 +1,4 @@
+-- The entry is the blank, so the record is that of no change, with its number.
 use borrow.Author.Needs.{needs}
 use Rattle.carrying.proofs.refused.Statement.{statement}
 use Rattle.carrying.proofs.refused.Tie as tie

@@ -1,3 +1,5 @@
+-- Three cases: the edge is among those that fall, else among those that rise, else in neither.
+-- A flow and an amount within the limit have a sum that does not wrap.
 use mathlib.Core.Path.{sym, _∙_}
 use Rattle.shifting.proofs.Shifting.{shifted-down, shifted-up, shifted-other}
 use borrow.Author.Needs.{needs}

@@ -1,3 +1,4 @@
+-- A byte from 128 on is a step up over the edge 128 below it; one below 128 is a step down over that edge.
 use mathlib.Core.Path.{refl}
 use Rattle.steps.proofs.Bytes.{step-up, step-down}
 use borrow.Author.Needs.{needs}

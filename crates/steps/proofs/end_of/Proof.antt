@@ -1,3 +1,4 @@
+-- A step up, a byte from 128 on, ends at the tail of its edge; a step down ends at the head.
 use Rattle.steps.proofs.Bytes.{step-up, step-down}
 use borrow.Author.Needs.{needs}
 use Rattle.steps.proofs.end_of.Statement.{statement}

@@ -1,3 +1,4 @@
+-- Where `ups` holds the step is to go up, and else it is not to: the two sides of the pick.
 use mathlib.Core.Path.{sym, ap, _∙_}
 use mathlib.Core.Bool.{not}
 use Rattle.lists.proofs.Laws.{pick-yes, pick-no}

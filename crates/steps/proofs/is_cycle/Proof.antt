@@ -1,3 +1,4 @@
+-- No steps are no cycle; others are one where they lead from the start of the first back to it, as defined.
 use mathlib.Core.Path.{_∙_}
 use Rattle.steps.proofs.Bytes.{cycle-none, cycle-some}
 use borrow.Author.Needs.{needs}

@@ -1,3 +1,4 @@
+-- A byte stands for a step up exactly where it is at least 128 (proofs/Bytes.antt).
 use Rattle.steps.proofs.Bytes.{up-byte}
 use Rattle.steps.proofs.is_up.Statement.{statement}
 use Rattle.steps.proofs.is_up.Tie as tie

@@ -1,3 +1,4 @@
+-- A byte from 128 on is a step up, which starts at its edge's head; one below is a step down, from the tail.
 use Rattle.steps.proofs.Bytes.{step-up, step-down}
 use borrow.Author.Needs.{needs}
 use Rattle.steps.proofs.start_of.Statement.{statement}

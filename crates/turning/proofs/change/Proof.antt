@@ -1,3 +1,4 @@
+-- The sets made here are those of the network's tails and of the flows, so `change_by` ensures the very change.
 use borrow.Author.Needs.{needs}
 use Rattle.turning.proofs.change.Statement.{statement}
 use Rattle.turning.proofs.change.Tie as tie

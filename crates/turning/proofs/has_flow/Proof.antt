@@ -1,3 +1,4 @@
+-- The flow is read at the edge of the step, and both sides ask whether it is above 0.
 use borrow.Author.Needs.{needs}
 use Rattle.turning.proofs.has_flow.Statement.{statement}
 use Rattle.turning.proofs.has_flow.Tie as tie

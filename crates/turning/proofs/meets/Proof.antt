@@ -1,3 +1,4 @@
+-- The rule names one of three tests, and each call ensures the test that the definition has for it.
 use borrow.Author.Needs.{needs}
 use Rattle.turning.proofs.meets.Statement.{statement}
 use Rattle.turning.proofs.meets.Tie as tie

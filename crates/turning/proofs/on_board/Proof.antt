@@ -1,3 +1,4 @@
+-- The edge of the byte is that of its step, so both sides compare one number with the count of edges.
 use borrow.Author.Needs.{needs}
 use Rattle.turning.proofs.on_board.Statement.{statement}
 use Rattle.turning.proofs.on_board.Tie as tie

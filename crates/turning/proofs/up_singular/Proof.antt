@@ -1,3 +1,4 @@
+-- A step down passes; for a step up, what is tested is whether its own edge is singular.
 use mathlib.Core.Path.{sym, _∙_}
 use borrow.Author.Tests.{not-true, not-false}
 use Rattle.lists.specs.Choice.{pick}

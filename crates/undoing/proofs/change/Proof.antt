@@ -1,3 +1,4 @@
+-- A number other than 0 gives no change. At 0 the board is in play, so the numbers are small enough to take back.
 use mathlib.Core.Path.{sym, _∙_}
 use borrow.Author.Tests.{eq-eqb, ne-eqb}
 use Rattle.lists.specs.Choice.{pick}

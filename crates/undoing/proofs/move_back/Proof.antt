@@ -1,3 +1,4 @@
+-- The kind of the move picks its way back; that the move is intact says of a turn that its amount is small.
 use mathlib.Core.Path.{sym, ap, _∙_}
 use borrow.Author.Tests.{leb-true}
 use Rattle.guard.specs.Guard.{moveIntact}

@@ -1,3 +1,4 @@
+-- The two sets change sides in the shift and the marks lose those of the turn: each part is what its call ensures.
 use borrow.Author.Needs.{needs}
 use Rattle.undoing.proofs.turn_back.Statement.{statement}
 use Rattle.undoing.proofs.turn_back.Tie as tie
