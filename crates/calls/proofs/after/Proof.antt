@@ -1,3 +1,4 @@
+-- By `back`: the place written, or one more, which does not wrap because the place is at most the journal's length.
 use mathlib.Core.Path.{sym}
 use Rattle.lists.proofs.Laws.{pick-yes, pick-no}
 use borrow.Author.Needs.{needs}

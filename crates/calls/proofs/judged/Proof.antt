@@ -1,3 +1,4 @@
+-- Kind 0 gives what the carry changes and any other kind what the undo does: each call ensures its side of the pick.
 use mathlib.Core.Path.{sym, _∙_}
 use Rattle.lists.proofs.Laws.{pick-yes, pick-no}
 use borrow.Author.Tests.{eq-eqb, ne-eqb}

@@ -1,3 +1,4 @@
+-- A number for a place past the end is dropped, as by the list's store; any other is stored at i.
 use mathlib.Core.Path.{sym}
 use lib.Seq.{set-out}
 use borrow.Author.Needs.{needs}

@@ -1,3 +1,4 @@
+-- By `back`: one below the count of moves, where the last move stands, or the count itself, the next free place.
 use mathlib.Core.Path.{sym, _∙_}
 use Rattle.lists.proofs.Laws.{pick-yes, pick-no}
 use borrow.Author.Needs.{needs}

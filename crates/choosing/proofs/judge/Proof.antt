@@ -1,3 +1,4 @@
+-- A record of the kind carry is a carry and any other a turn along its first steps, whose count fits the array.
 use mathlib.Core.Path.{_≡_, sym, ap, _∙_}
 use lib.ListN.{length}
 use lib.Seq.{length-take-le}

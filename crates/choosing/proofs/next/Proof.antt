@@ -1,3 +1,4 @@
+-- A board in play is one that the search and the walk take: a terminal found makes a carry, none makes a turn.
 use mathlib.Core.Path.{_∙_}
 use borrow.Author.Needs.{needs}
 use Rattle.choosing.specs.Choosing.{nextCycle}

@@ -1,3 +1,4 @@
+-- The search finds the lowest terminal with an open carry, which is carried; where it finds none, the turn is made.
 use Rattle.finishing.specs.Run.{openTerminalIn}
 use Rattle.finishing.proofs.Ready.{ready-searched, step-carries, step-turns}
 use borrow.Author.Needs.{needs}

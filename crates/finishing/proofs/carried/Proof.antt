@@ -1,3 +1,5 @@
+-- A terminal at the source stops with 21. Else one flow falls by the demand, so that all flows stay small,
+-- and its edge leaves the set of positive edges exactly where no flow is left on it.
 use Rattle.finishing.proofs.Ready.{ready-small}
 use Rattle.finishing.proofs.Parting.{carry-stopped, carry-made}
 use borrow.Author.Needs.{needs}

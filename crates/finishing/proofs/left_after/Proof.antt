@@ -1,3 +1,4 @@
+-- One test decides, whether the count of moves is within the journal and the flows small: one fewer left, or none.
 use mathlib.Core.Path.{sym, _∙_}
 use Rattle.lists.proofs.Laws.{pick-yes, pick-no}
 use Rattle.finishing.specs.Run.{leftAfter}

@@ -1,3 +1,4 @@
+-- An edge with no flow left is dropped from the set; with some left the set stays: the definition's pick.
 use mathlib.Core.Path.{sym, _∙_}
 use borrow.Author.Tests.{eq-eqb, ne-eqb}
 use Rattle.lists.proofs.Laws.{pick-yes, pick-no}

@@ -1,3 +1,4 @@
+-- The parts come back as they were with the blank entry, so what was asked of the set and the flows still holds.
 use Rattle.finishing.proofs.Parting.{stop-made}
 use borrow.Author.Needs.{needs}
 use Rattle.finishing.proofs.stopped.Statement.{statement}

@@ -1,3 +1,5 @@
+-- With every terminal at the source it stops with 28. Else the parts are those of a board in play, which is what the
+-- walk and the turn lean on; the turn along the cycle found is the solver's.
 use mathlib.Core.Path.{sym}
 use lib.Seq.{length-take-le}
 use Rattle.finishing.proofs.Ready.{ready-small, ready-sound, ready-walks, ready-charted, walk-fits, turn-made, turn-stopped}

@@ -1,3 +1,5 @@
+-- The ways out are the definition's: not in play, all at the source, the solver's move refused, or that move.
+-- The move has no more steps than the record holds, which gives it back: what was judged is what is offered.
 use mathlib.Core.Path.{sym, _∙_}
 use Prim.Native.Nat.{ℕ}
 use borrow.Author.Tests.{not-true, not-false}

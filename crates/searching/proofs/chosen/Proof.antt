@@ -1,3 +1,4 @@
+-- An edge found among the marked ones is picked; where none is found, the lowest of the whole set that fits.
 use mathlib.Core.Path.{_∙_}
 use Rattle.searching.proofs.Finds.{chosen-marked, chosen-other}
 use borrow.Author.Needs.{needs}

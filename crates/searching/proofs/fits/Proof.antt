@@ -1,3 +1,4 @@
+-- By the mark: the flow must equal the demand on a marked edge, and reach it on any other, as in `flowFits`.
 use mathlib.Core.Path.{sym, _∙_}
 use Rattle.lists.proofs.Laws.{pick-yes, pick-no}
 use Rattle.opening.specs.Opens.{flowFits}

@@ -1,3 +1,4 @@
+-- The positive edges at v, these without x, and the lowest left: each call's answer put into the next.
 use borrow.Author.Needs.{needs}
 use Rattle.walking.proofs.another.Statement.{statement}
 use Rattle.walking.proofs.another.Tie as tie

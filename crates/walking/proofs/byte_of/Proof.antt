@@ -1,3 +1,4 @@
+-- An edge below 128 has room in a byte, also with 128 added, so that both casts are exact.
 use mathlib.Core.Path.{refl}
 use borrow.Author.Needs.{needs}
 use Rattle.walking.proofs.byte_of.Statement.{statement}

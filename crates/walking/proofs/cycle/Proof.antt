@@ -1,3 +1,4 @@
+-- A walk of no steps has met no vertex, and the walk down from the source that starts so is the definition.
 use native.Mathlib.Omega.{arith}
 use Rattle.steps.specs.Steps.{stepsOf}
 use Rattle.walking.specs.Walk.{cycleOf}

@@ -1,3 +1,4 @@
+-- The vertex where e starts is below the set's width, as asked, so `with` adds just that vertex.
 use Rattle.lists.specs.Choice.{pick}
 use borrow.Author.Needs.{needs}
 use Rattle.walking.proofs.meet.Statement.{statement}

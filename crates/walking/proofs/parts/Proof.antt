@@ -1,3 +1,4 @@
+-- Two or more edges leave where the positive edges at v, without the lowest, are not empty: the definition.
 use borrow.Author.Needs.{needs}
 use Rattle.walking.proofs.parts.Statement.{statement}
 use Rattle.walking.proofs.parts.Tie as tie

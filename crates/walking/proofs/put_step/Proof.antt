@@ -1,3 +1,4 @@
+-- There are 64 places: an i below that gets the step, and from there on the list's store changes nothing.
 use mathlib.Core.Path.{_≡_, sym}
 use lib.ListN.{length}
 use lib.Seq.{set-out}

@@ -1,3 +1,4 @@
+-- A vertex is first met among the steps or after them all, so `since` takes the count that the search gives.
 use Rattle.walking.proofs.Walks.{met-most}
 use borrow.Author.Needs.{needs}
 use Rattle.walking.proofs.since_met.Statement.{statement}

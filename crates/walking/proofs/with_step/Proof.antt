@@ -1,3 +1,4 @@
+-- The count is below 64, so the byte has a place behind the steps so far, and is read back as the new step.
 use mathlib.Core.Path.{_≡_, refl}
 use Prim.Native.Nat.{_<_}
 use native.Mathlib.Omega.{arith}
