@@ -19,7 +19,7 @@ use Rattle.board.specs.declared.Played.{Played}
 use Rattle.choosing.specs.declared.Advice.{Advice}
 use Rattle.calls.specs.declared.Reply.{Reply}
 use Rattle.calls.specs.Calls.{Call, carry, turn, undo, hint, made, played, answers, isHint, plain, Replied, adviceCode, adviceWidth, behind, noted, Told}
-use Rattle.calls.specs.Codes.{part, callOf, callsOf, moveCode, listed}
+use Rattle.calls.specs.Codes.{part, callOf, callsOf, moveCode, journalCoded}
 
 -- the steps of a turn
 module _ (steps : List ℕ) (a c : ℕ) where
@@ -216,13 +216,13 @@ module _ (buf : List ℕ) (k : ℕ) (hinted : Bool) (a : Advice) where
 
 -- the entries from place i on
 module _ (js : List Entry) (i k : ℕ) (buf : List ℕ) where
-  pub listed-turn : (m z : Entry) (code r : List ℕ) → i < length js → m ≡ getD js i z → code ≡ moveCode (m .step) → r ≡ sets buf k code
-      → listed r (k + 5) (drop (i + 1) js) ≡ listed buf k (drop i js)
-  unfolding listed
-  listed-turn m z code r h em ec er =
+  pub journal-coded-turn : (m z : Entry) (code r : List ℕ) → i < length js → m ≡ getD js i z → code ≡ moveCode (m .step) → r ≡ sets buf k code
+      → journalCoded r (k + 5) (drop (i + 1) js) ≡ journalCoded buf k (drop i js)
+  unfolding journalCoded
+  journal-coded-turn m z code r h em ec er =
       let five : k + 5 ≡ suc (suc (suc (suc (suc k)))) = omega arith in
       rw (er, ec, em, five, drop-cons js i z h, add-one i)
 
-  pub listed-end : length js ≤ i → buf ≡ listed buf k (drop i js)
-  unfolding listed
-  listed-end h = rw (drop-of-length-le js h)
+  pub journal-coded-end : length js ≤ i → buf ≡ journalCoded buf k (drop i js)
+  unfolding journalCoded
+  journal-coded-end h = rw (drop-of-length-le js h)

@@ -18,7 +18,7 @@ ghost use Rattle.board.specs.Limits.{maxMoves};
 ghost use Rattle.carrying.specs.Carries.{carryChange};
 ghost use Rattle.undoing.specs.Undone.{Small, undoChange};
 ghost use Rattle.calls.specs.Calls.{hint, played, answers, plain, Replied, adviceCode, lastPlace, behind, Told};
-ghost use Rattle.calls.specs.Codes.{part, callOf, callsOf, moveCode, listed};
+ghost use Rattle.calls.specs.Codes.{part, callOf, callsOf, moveCode, journalCoded};
 ghost use lib.Seq.{sets};
 
 // A turn along the steps from a up to c.
@@ -253,7 +253,7 @@ fn move_code(step: Move) -> [u64; 5]
 
 // Writes the journal into the buffer, five numbers a place.
 pub fn put_journal(journal: [Entry; Board::JOURNAL], buf: &mut [u64])
-    ensures { λ _. ⌜ now (buf .exit) ≡ listed (now (buf .entry)) 0 journal ⌝ }
+    ensures { λ _. ⌜ now (buf .exit) ≡ journalCoded (now (buf .entry)) 0 journal ⌝ }
 {
     let mut i: usize = 0;
     let mut k: usize = 0;
