@@ -18,7 +18,7 @@ use Rattle.decimal.specs.declared.Number.the-variants.{Value, Malformed}
 use Rattle.decimal.specs.Decimal.{numberOf}
 use Rattle.text.specs.declared.Range.{Range}
 use Rattle.text.specs.declared.Field.{Field}
-use Rattle.text.specs.Views.{answered, fieldRead}
+use Rattle.text.specs.Views.{answerRead, fieldRead}
 use Rattle.text.specs.Text.{Read, refused, got, then, letter, ranged, field, endOf, between, numbers, line, lines}
 
 -- a field whose first end stands behind n bytes, or nowhere
@@ -95,13 +95,13 @@ module _ (rs : List Range) (s values : List ℕ) (at i : ℕ) where
 
 -- the reader's structs, where the answer is known
 module _ {A : Type 0} (n : ℕ) (a : A) (u : ℕ) (s : List ℕ) where
-  pub answered-got : n ≡ 0 → answered n a u s ≡ got a (drop u s)
-  unfolding answered pick
-  answered-got e = rw e
+  pub answer-read-got : n ≡ 0 → answerRead n a u s ≡ got a (drop u s)
+  unfolding answerRead pick
+  answer-read-got e = rw e
 
-  pub answered-refused : (m : ℕ) → n ≡ m → (m ≡ 0 → ⊥) → answered n a u s ≡ refused m
-  unfolding answered
-  answered-refused m e z = rw e (pick-no _ _ _ (ne-eqb m 0 z))
+  pub answer-read-refused : (m : ℕ) → n ≡ m → (m ≡ 0 → ⊥) → answerRead n a u s ≡ refused m
+  unfolding answerRead
+  answer-read-refused m e z = rw e (pick-no _ _ _ (ne-eqb m 0 z))
 
 -- the letter of a line and its comma
 module _ (x : ℕ) (rs : List Range) (s : List ℕ) where
@@ -140,7 +140,7 @@ module _ (ranges : List Range) (count : ℕ) (s values : List ℕ) (at i : ℕ) 
   next = rw (rest-part s at, end ∙ end-after (take count ranges) count i size hi) at was-read
 
   pub line-step-stop : (f .answer ≡ 0 → ⊥) → refused (f .answer) ≡ total
-  line-step-stop z = line-stop (take count ranges) s values at i total inv _ cut (f .answer) (sym (answered-refused _ _ _ _ _ refl z) ∙ next)
+  line-step-stop z = line-stop (take count ranges) s values at i total inv _ cut (f .answer) (sym (answer-read-refused _ _ _ _ _ refl z) ∙ next)
 
   pub line-step : f .answer ≡ 0 → i < length values → lineRest (take count ranges) s (set values i (f .value)) (at + f .used) (i + 1) ≡ total
-  line-step z h = line-turn (take count ranges) s values at i total inv _ cut (f .value) (f .used) h (sym (answered-got _ _ _ _ z) ∙ next)
+  line-step z h = line-turn (take count ranges) s values at i total inv _ cut (f .value) (f .used) h (sym (answer-read-got _ _ _ _ z) ∙ next)

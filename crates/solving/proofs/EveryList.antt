@@ -165,7 +165,7 @@ module _ (text : List ℕ) (loads : loadText text .answer ≡ 0) where
         routes = f .routes;
         again = sym (f .again);
         moves = f .moves;
-        answered = same-answers [] cs none;
+        same-answers = same-answers [] cs none;
         hinted = λ hs k. same-hints [] cs hs none k;
         finish = finish-completes (afresh text (keeps text [] cs)) (f .standing);
       }

@@ -24,7 +24,7 @@ pub record Faithful (text : List ℕ) (cs : List Call) (b : Board) : Type 0 wher
   pub again : b ≡ played (loadText text .board) (keeps text [] cs)
   pub moves : b .moves ≡ length (keeps text [] cs)
   -- "Each carry, turn and undo answered this player's number; each hint kept the hint's rule on this player's board at that point"
-  pub answered : answers (loadText text .board) cs ≡ says text [] cs
+  pub same-answers : answers (loadText text .board) cs ≡ says text [] cs
   pub hinted : (hs : List Suggestion) → HintsKept (loadText text .board) cs hs → HintsKeptBy text [] cs hs
   -- finish completes the board
   pub finish : Complete b (finishCall b)

@@ -4,7 +4,7 @@ use native.Mathlib.Omega.{arith}
 use borrow.Author.Needs.{needs}
 use lib.ListN.{length, take, length-set, length-take}
 use Rattle.text.specs.Text.{line}
-use Rattle.lines.proofs.Turns.{lineRest, line-end, line-step, line-step-stop, rest-used, then-got, answered-got, answered-refused, line-letter, line-comma, line-opened, two-bytes}
+use Rattle.lines.proofs.Turns.{lineRest, line-end, line-step, line-step-stop, rest-used, then-got, answer-read-got, answer-read-refused, line-letter, line-comma, line-opened, two-bytes}
 use Rattle.lines.proofs.line.Statement.{statement}
 use Rattle.lines.proofs.line.Tie as tie
 
@@ -25,7 +25,7 @@ returns : tie.Need-returns Inv-loop μ-loop
 returns c =
     let at-if1 = c .before .if1 in
     let at-byte-at = c .before .before .byte-at in (
-      answered-refused _ _ _ _ 1 (c .refused-line .ensures .0) (λ e. omega arith)
+      answer-read-refused _ _ _ _ 1 (c .refused-line .ensures .0) (λ e. omega arith)
           ∙ sym (line-letter _ _ _ (λ e. at-if1 .taken (at-byte-at .ensures ∙ e))),
       omega arith,
     )
@@ -42,7 +42,7 @@ returns-2 c =
     let at-byte-at2 = c .before .before .byte-at2 in
     let at-if1 = c .before .before .before .if1 in
     let at-byte-at = c .before .before .before .before .byte-at in (
-      answered-refused _ _ _ _ 1 (c .refused-line2 .ensures .0) (λ e. omega arith)
+      answer-read-refused _ _ _ _ 1 (c .refused-line2 .ensures .0) (λ e. omega arith)
           ∙ sym (line-comma _ _ _ (sym (at-byte-at .ensures) ∙ at-if1 .left) (λ e. at-if2 .taken (at-byte-at2 .ensures ∙ e))),
       omega arith,
     )
@@ -100,7 +100,7 @@ returns-3 c =
     let at-loop-test = c .before .before .before .before .before .before .before .loop-test in
     let at-loop = c .before .before .before .before .before .before .before .before .loop in
     let at-args = c .before .before .before .before .before .before .before .before .before .before .before .before .before .before .args in (
-      answered-refused _ _ _ _ _ (c .refused-line3 .ensures .0) (at-if3 .taken)
+      answer-read-refused _ _ _ _ _ (c .refused-line3 .ensures .0) (at-if3 .taken)
           ∙ line-step-stop _ _ (at-args .s .now) (at-loop .values) (at-loop .at) (at-loop .i) _ (at-loop .inv .4) (at-loop-test .taken) size
           (at-field .result) _ (at-end-of .ensures) (at-field .ensures .0) (at-if3 .taken),
       omega arith,
@@ -149,7 +149,7 @@ returns-4 c =
     let at-args = c .before .before .before .before .before .before .before .args in
     let n = at-args .count in
     let e : at-loop .i ≡ n = omega arith in (
-      answered-got _ _ _ _ refl
+      answer-read-got _ _ _ _ refl
           ∙
           (rw e at (line-end (take n (at-args .t3)) (at-args .s .now) (at-loop .values) (at-loop .at) (at-loop .i) _ (at-loop .inv .4) (let z = length-take n (at-args .t3) in omega arith))),
       omega arith,
