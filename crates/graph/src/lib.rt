@@ -56,14 +56,14 @@ fn pass<'a>(from: &'a [u32], to: &'a [u32], flows: &'a [u32], rows: &mut [u64]) 
     ensures { λ _. ⌜ ((v : ℕ) → column (now (rows .exit)) v ≡ pass (now (from .entry)) (now (to .entry)) (now (flows .entry)) 0 (length (now (flows .entry))) (column (now (rows .entry)) v)) ⌝ }
     ensures { λ r. ⌜ (r ≡ false → now (rows .exit) ≡ now (rows .entry)) ⌝ }
 {
-    let mut changed = false;
+    let mut any_changed = false;
     let mut e: usize = 0;
     while e < flows.len() {
         let joined = cross(from, to, flows, rows, e);
-        changed = lists::or(changed, joined);
+        any_changed = lists::or(any_changed, joined);
         e += 1;
     }
-    changed
+    any_changed
 }
 
 // The row of each vertex is the vertex alone.

@@ -23,7 +23,7 @@ use Rattle.guard.proofs.Facts.{intact-edges, intact-terminals, intact-demand}
 use Rattle.printing.proofs.Writing.{Left, left-part, left-none}
 use Rattle.routing.specs.Tables.{routesFit}
 use Rattle.routing.proofs.Read.{fits-route}
-use Rattle.reporting.specs.Reports.{reportText, started, unreported, numberOf, sheetRefusal, sheetCall, sheeted, putRefusal, putCall, putIn}
+use Rattle.reporting.specs.Reports.{reportText, started, unreported, unreportedIn, sheetRefusal, sheetCall, sheeted, putRefusal, putCall, putIn}
 use Rattle.reporting.specs.Rows.{tableRouteRow, tableLoadRow, tableText, Printable}
 use Rattle.reporting.proofs.Rows.{countsBy, rowsBy, counts-small, route-lines, load-lines}
 
@@ -32,14 +32,14 @@ module _ (b : Board) where
   pub number-made : (last : Entry) (sound fit : Bool) (n : ℕ) → last ≡ lastEntry b
       → sound ≡ intactIn (b .network) (b .acyclic) (b .flows) (b .places) (b .moves) (last .step)
       → fit ≡ all (λ i. leb (getD (countsBy b) i 0) maxVertices) 0 (b .network .terminals)
-      → n ≡ numberOf (b .stage) sound fit → n ≡ unreported b
+      → n ≡ unreportedIn (b .stage) sound fit → n ≡ unreported b
   unfolding unreported started intact both
   number-made last sound fit n el es ef en = en ∙ go (known (intact b))
     where
       same : sound ≡ intact b
       same = rw (es, el)
 
-      go : Known (intact b) → numberOf (b .stage) sound fit ≡ unreported b
+      go : Known (intact b) → unreportedIn (b .stage) sound fit ≡ unreported b
       go (was-true t) = rw (same, ef, fits-route b (intact-terminals b t))
       go (was-false t) = rw (same, t)
 

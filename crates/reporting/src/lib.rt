@@ -12,7 +12,7 @@ ghost use lib.Seq.{sets};
 ghost use Rattle.board.specs.Limits.{maxVertices, maxEdges, maxTerminals};
 ghost use Rattle.text.specs.Text.{lineText, linesText};
 ghost use Rattle.routing.specs.Tables.{Moderate};
-ghost use Rattle.reporting.specs.Reports.{numberOf, sheetCall, sheeted, putCall, putIn};
+ghost use Rattle.reporting.specs.Reports.{unreportedIn, sheetCall, sheeted, putCall, putIn};
 ghost use Rattle.reporting.specs.Rows.{tableRouteRow, tableLoadRow, tableText, Printable};
 
 // How many numbers the line of a route has at most: the terminal, how many edges, and the edges.
@@ -23,7 +23,7 @@ const REPORT_BYTES: usize = 8280;
 
 // 29 or 28, in this order; 0 where there is a report. `sound`: the board is intact; `fit`: its routes have room in their rows.
 fn number_of(stage: u32, sound: bool, fit: bool) -> u32
-    ensures { λ r. ⌜ r ≡ numberOf stage sound fit ⌝ }
+    ensures { λ r. ⌜ r ≡ unreportedIn stage sound fit ⌝ }
 {
     let staged = lists::and(Board::PLAY <= stage, stage <= Board::FINISHED);
     let whole = lists::and(sound, fit);

@@ -15,13 +15,13 @@ use Rattle.graph.proofs.pass.Statement.{statement}
 use Rattle.graph.proofs.pass.Tie as tie
 
 abbrev Inv-loop : tie.InvT-loop
-Inv-loop from to flows rows₀ changed₀ e₀ rows changed e =
+Inv-loop from to flows rows₀ any_changed₀ e₀ rows any_changed e =
     (length rows ≡ length rows₀)
     × ((v : ℕ) → pass from to flows e (length flows - e) (column rows v) ≡ pass from to flows 0 (length flows) (column rows₀ v))
-    × (changed ≡ false → rows ≡ rows₀)
+    × (any_changed ≡ false → rows ≡ rows₀)
 
 abbrev μ-loop : tie.MeasureT-loop
-μ-loop from to flows rows₀ changed₀ e₀ rows changed e = length flows - e
+μ-loop from to flows rows₀ any_changed₀ e₀ rows any_changed e = length flows - e
 
 loop-holds : tie.Need-loop-holds Inv-loop μ-loop
 loop-holds c = (refl, λ v. rw sub-zero, λ h. refl)
