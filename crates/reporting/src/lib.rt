@@ -22,7 +22,7 @@ const ROUTE_NUMBERS: usize = Board::MAX_VERTICES as usize + 2;
 const REPORT_BYTES: usize = 8280;
 
 // 29 or 28, in this order; 0 where there is a report. `sound`: the board is intact; `fit`: its routes have room in their rows.
-fn number_of(stage: u32, sound: bool, fit: bool) -> u32
+fn unreported_in(stage: u32, sound: bool, fit: bool) -> u32
     ensures { λ r. ⌜ r ≡ unreportedIn stage sound fit ⌝ }
 {
     let staged = lists::and(Board::PLAY <= stage, stage <= Board::FINISHED);
@@ -182,7 +182,7 @@ pub fn put_sheet(buf: &mut [u8], at: usize, whole: bool, board: Board) -> Writte
     let mut counts = [0u32; Board::MAX_TERMINALS];
     let rows = routing::fill(board.journal, board.moves, &mut counts);
     let fit = routing::routes_fit(counts, net.terminals);
-    let number = number_of(board.stage, sound, fit);
+    let number = unreported_in(board.stage, sound, fit);
     if number != 0 {
         return Written {
             answer: number,
