@@ -14,7 +14,7 @@ use Rattle.board.specs.declared.Network.{Network}
 use Rattle.guard.specs.Parts.{flow, first, demand, place}
 use Rattle.guard.specs.Guard.{terminalIntact, intact, playing}
 use Rattle.guard.proofs.Facts.{intact-vertices, intact-edges, intact-terminals, intact-source, intact-edge, intact-terminal, intact-tail, intact-head, playing-intact}
-use Rattle.incidence.specs.Incidence.{Incident, Positive}
+use Rattle.incidence.specs.Incidence.{Incident, PositiveSet}
 use Rattle.searching.specs.Search.{Searched}
 use Rattle.walking.specs.Chart.{Charted}
 use Rattle.choosing.specs.Parts.{Searchable, Walkable}
@@ -68,7 +68,7 @@ module _ (b : Board) (play : playing b ≡ true) where
   }
 
 -- with the sets
-module _ (net : Network) (flows : List ℕ) (positive : ℕ) (is-positive : Positive flows positive) (long : length flows ≡ maxEdges) where
+module _ (net : Network) (flows : List ℕ) (positive : ℕ) (is-positive : PositiveSet flows positive) (long : length flows ≡ maxEdges) where
   pub searched : (places entering : List ℕ) → Searchable net flows places → Incident (net .heads) entering
       → Searched (net .heads) entering (net .demands) (net .terminals) (net .edges) flows positive places
   searched places entering s at = record {

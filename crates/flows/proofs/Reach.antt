@@ -14,7 +14,7 @@ use Rattle.lists.specs.Choice.{pick, both}
 use Rattle.lists.proofs.Laws.{Known, was-true, was-false, known, eq-or-ne, pick-yes, pick-no, both-left, both-right, both-true}
 use Rattle.graph.specs.Graph.{opens, pass, passes, reached}
 use Rattle.graph.proofs.Turns.{passes-still}
-use Rattle.flows.specs.Paths.{Positive, Path, here, on, Within}
+use Rattle.flows.specs.Paths.{PositiveEdge, Path, here, on, Within}
 
 -- ---- paths
 
@@ -23,11 +23,11 @@ path-join p here = p
 path-join p (on q d) = on (path-join p q) d
 
 -- an edge in front of a path
-pub path-first : {from to flows : List ℕ} {a b c : ℕ} → Positive from to flows a b → Path from to flows b c → Path from to flows a c
+pub path-first : {from to flows : List ℕ} {a b c : ℕ} → PositiveEdge from to flows a b → Path from to flows b c → Path from to flows a c
 path-first d p = path-join (on here d) p
 
 -- against the direction of the edges
-pub turned : {from to flows : List ℕ} {a b : ℕ} → Positive from to flows a b → Positive to from flows b a
+pub turned : {from to flows : List ℕ} {a b : ℕ} → PositiveEdge from to flows a b → PositiveEdge to from flows b a
 turned d = record { edge = d .edge; inside = d .inside; start = d .end; end = d .start; above = d .above }
 
 pub backward : {from to flows : List ℕ} {a b : ℕ} → Path from to flows a b → Path to from flows b a
@@ -124,7 +124,7 @@ module _ (from to flows : List ℕ) where
 
   -- ---- sound: whatever holds of the first members and passes on along positive edges holds of all members
 
-  module _ (P : ℕ → Type 0) (along : (a b : ℕ) → Positive from to flows a b → P a → P b) where
+  module _ (P : ℕ → Type 0) (along : (a b : ℕ) → PositiveEdge from to flows a b → P a → P b) where
     abbrev Only : List Bool → Type 0
     Only s = (u : ℕ) → getD s u false ≡ true → P u
 
@@ -138,7 +138,7 @@ module _ (from to flows : List ℕ) where
         member : Bool
         member = getD s (getD from e 0) false
 
-        edge-e : both flow member ≡ true → Positive from to flows (getD from e 0) (getD to e 0)
+        edge-e : both flow member ≡ true → PositiveEdge from to flows (getD from e 0) (getD to e 0)
         edge-e t = record { edge = e; inside = h; start = refl; end = refl; above = ltb-true 0 (getD flows e 0) (both-left flow member t) }
 
         go : Known (opens from flows s e) → (u ≡ getD to e 0) ⊎ (u ≢ getD to e 0) → P u
@@ -228,7 +228,7 @@ module _ (from to flows : List ℕ) where
       passes-only (λ u. Path from to flows v u) (λ a b d p. on p d) n (set (replicate n false) v true) (λ u q. rw (start-alone n v u q) here)
 
   -- so n passes from one vertex of n close the set
-  reached-closed : (n v a b : ℕ) → Within from to flows n → v < n → Positive from to flows a b
+  reached-closed : (n v a b : ℕ) → Within from to flows n → v < n → PositiveEdge from to flows a b
       → getD (reached from to flows n v) a false ≡ true → getD (reached from to flows n v) b false ≡ true
   unfolding reached
   reached-closed n v a b w h d m = go (stages n s)

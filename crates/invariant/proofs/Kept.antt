@@ -15,7 +15,7 @@ use Rattle.board.specs.Limits.{maxEdges, maxTerminals, maxMoves, maxFlow, maxTo
 use Rattle.board.specs.declared.Board.{Board}
 use Rattle.rules.specs.Rules.{edgeFits, terminalFits, countsFit, judged, lawful, Lawful}
 use Rattle.rules.proofs.Meaning.{lawful-tested}
-use Rattle.flows.specs.Paths.{Positive, Within, rank}
+use Rattle.flows.specs.Paths.{PositiveEdge, Within, rank}
 use Rattle.flows.proofs.Rank.{rank-rises}
 use Rattle.flows.proofs.Cut.{flow-most}
 use Rattle.loader.specs.Load.{acyclicOf}
@@ -44,8 +44,8 @@ module _ (b : Board) (inv : Invariant b) where
   heads-long = long-heads (b .network) law ∙ sym (inv .flows-size)
 
   -- a positive edge is positive in the acyclic flow, so it leads up
-  pub positive-first : (u v : ℕ) → Positive (b .network .tails) (b .network .heads) (b .flows) u v
-      → Positive (b .network .tails) (b .network .heads) (acyclicOf (b .network)) u v
+  pub positive-first : (u v : ℕ) → PositiveEdge (b .network .tails) (b .network .heads) (b .flows) u v
+      → PositiveEdge (b .network .tails) (b .network .heads) (acyclicOf (b .network)) u v
   positive-first u v p = record {
     edge = p .edge;
     inside = omega (arith, p .inside, inv .flows-size, long-first (b .network) law);
@@ -54,7 +54,7 @@ module _ (b : Board) (inv : Invariant b) where
     above = rw (inv .acyclic) at (inv .support (p .edge) (p .above));
   }
 
-  rises : (u v : ℕ) → Positive (b .network .tails) (b .network .heads) (b .flows) u v → level u < level v
+  rises : (u v : ℕ) → PositiveEdge (b .network .tails) (b .network .heads) (b .flows) u v → level u < level v
   unfolding level
   rises u v p =
       rank-rises (b .network .tails) (b .network .heads) (acyclicOf (b .network)) (b .network .vertices) u v (within-first (b .network) law)

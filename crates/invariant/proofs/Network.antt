@@ -10,7 +10,7 @@ use Rattle.lists.proofs.Laws.{lt-or-ge}
 use Rattle.board.specs.Limits.{maxFlow}
 use Rattle.board.specs.declared.Network.{Network}
 use Rattle.rules.specs.Rules.{demandAt, Lawful}
-use Rattle.flows.specs.Paths.{Positive, Within, Acyclic, rank}
+use Rattle.flows.specs.Paths.{PositiveEdge, Within, Acyclic, rank}
 use Rattle.flows.proofs.Source.{none-enters, rank-source}
 use Rattle.flows.proofs.Cancel.{acyclic-length, acyclic-below, acyclic-balance, acyclic-acyclic}
 use Rattle.loader.specs.Load.{acyclicOf}
@@ -62,7 +62,7 @@ module _ (net : Network) (law : Lawful net) where
   pub within-first : Within (net .tails) (net .heads) (acyclicOf net) (net .vertices)
   within-first = record { start = λ e h. within .start e (omega (arith, long-first)); end = λ e h. within .end e (omega (arith, long-first)) }
 
-  pub source-unentered : (a : ℕ) → Positive (net .tails) (net .heads) (acyclicOf net) a (net .source) → ⊥
+  pub source-unentered : (a : ℕ) → PositiveEdge (net .tails) (net .heads) (acyclicOf net) a (net .source) → ⊥
   source-unentered =
       none-enters (net .tails) (net .heads) (acyclicOf net) (net .vertices) (net .source) (demandAt net) (long-tails ∙ sym long-first) within-first
       first-acyclic first-balance

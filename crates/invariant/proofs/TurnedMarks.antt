@@ -14,7 +14,7 @@ use Rattle.lists.proofs.Laws.{above-inside, Known, was-true, was-false, known, 
 use Rattle.sets.specs.Sets.{hasBit}
 use Rattle.sets.proofs.Bits.{has-none, has-joined, collect-new, collect-from}
 use Rattle.board.specs.declared.Board.{Board}
-use Rattle.flows.specs.Paths.{Positive, here, Unparted}
+use Rattle.flows.specs.Paths.{PositiveEdge, here, Unparted}
 use Rattle.flows.proofs.Reach.{path-first}
 use Rattle.guard.specs.Parts.{flow, first, tail, head, marked, demand}
 use Rattle.opening.specs.Opens.{someOpen}
@@ -122,7 +122,7 @@ module _ (b : Board) (inv : Invariant b) where
   pub now-down-closed : (e g : ℕ) → Now b e → tail b g ≡ head b e → 0 < flow b g → hasBit (marksNow b) g ≡ true
   now-down-closed e g n p h = go (now-cases b e (n .mark))
     where
-      edge : Positive (b .network .tails) (b .network .heads) (b .flows) (head b e) (head b g)
+      edge : PositiveEdge (b .network .tails) (b .network .heads) (b .flows) (head b e) (head b g)
       edge = record { edge = g; inside = above-inside (b .flows) g h; start = p; end = refl; above = h }
 
       go : (marked b e ≡ true) ⊎ Fresh b e → hasBit (marksNow b) g ≡ true
