@@ -54,7 +54,7 @@ abbrev pub isFreshBy : List ℕ → List ℕ → ℕ → ℕ → ℕ → ℕ →
 isFreshBy heads leaving positive vertices marks e = both (not (hasBit marks e)) (both (hasBit positive e) (singularBy heads leaving positive vertices e))
 
 -- the sets are those of the lists, and each edge leads to a vertex
-pub record Charted (tails heads flows leaving : List ℕ) (positive : ℕ) : Type 0 where
+pub record ChartedOut (tails heads flows leaving : List ℕ) (positive : ℕ) : Type 0 where
   pub leave : Incident tails leaving
   pub is-positive : PositiveSet flows positive
   pub all : length flows ≡ maxEdges

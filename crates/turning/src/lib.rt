@@ -17,7 +17,7 @@ ghost use Rattle.flows.specs.Trails.{edgeOf};
 ghost use Rattle.board.specs.Limits.{maxEdges, maxMoves};
 ghost use Rattle.steps.specs.Steps.{stepOf, stepsOf, InSets, isUp, every};
 ghost use Rattle.incidence.specs.Incidence.{Incident, PositiveSet};
-ghost use Rattle.marking.specs.Marking.{singularBy, Charted};
+ghost use Rattle.marking.specs.Marking.{singularBy, ChartedOut};
 ghost use Rattle.turning.specs.Turns.{meetsIn, stepsRefusal, turnRefusalIn, turnRefusal, turnedIn, turnChange, turnCall, Sound};
 
 // The rules that each step of a turn keeps.
@@ -125,7 +125,7 @@ fn steps_refusal<'a>(
     steps: &'a [u8],
 ) -> u32
     requires { ⌜ edges ≤ maxEdges ⌝ }
-    requires { ⌜ Charted (now tails) (now heads) (now flows) (now leaving) positive ⌝ }
+    requires { ⌜ ChartedOut (now tails) (now heads) (now flows) (now leaving) positive ⌝ }
     ensures { λ r. ⌜ r ≡ stepsRefusal «any_open» edges (now (tails .entry)) (now (heads .entry)) (now (flows .entry)) vertices (stepsOf (now (steps .entry))) ⌝ }
 {
     if !all_meet(
