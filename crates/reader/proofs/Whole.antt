@@ -13,7 +13,7 @@ use Rattle.board.specs.Limits.{maxEdges, maxTerminals}
 use Rattle.board.specs.declared.Network.{Network}
 use Rattle.text.specs.declared.Part.{Part}
 use Rattle.text.specs.Views.{partRead, headerPart}
-use Rattle.text.specs.Text.{Read, refused, got, then, lines, header, headed, headRanges, edgeRanges, edgeLines, terminalLines, ended, layout}
+use Rattle.text.specs.Text.{Read, refused, got, then, lines, header, headed, headRanges, edgeRanges, edgeLines, terminalLines, nothingFollows, layout}
 use Rattle.lines.proofs.Turns.{then-then, answer-read-got, answer-read-refused}
 use Rattle.text.proofs.Fields.{parts, after, header-only}
 use Rattle.text.proofs.Columns.{spelled-within}
@@ -42,7 +42,7 @@ edge-counts net out i k s rest h n =
     record { vertices = omega arith; edges = omega arith; terminals = omega arith }
 
 afterEdges : Network → List ℕ → Read Network
-afterEdges net s = then (terminalLines net 0 (net .terminals) s) (λ whole s1. ended whole s1)
+afterEdges net s = then (terminalLines net 0 (net .terminals) s) (λ whole s1. nothingFollows whole s1)
 
 afterHead : Network → List ℕ → Read Network
 afterHead net s = then (edgeLines net 0 (net .edges) s) (λ out s1. afterEdges out s1)
@@ -97,16 +97,16 @@ module _ (s : List ℕ) (h : Part) (hr : partRead h s ≡ headerPart s) where
               a ∙ sym (from-edges ∙ stopped _ _ (sym tr ∙ a))
 
           module _ (tz : t .answer ≡ 0) where
-            from-terminals : layout s ≡ ended (t .network) (drop (t .used) s)
+            from-terminals : layout s ≡ nothingFollows (t .network) (drop (t .used) s)
             unfolding afterEdges
             from-terminals = from-edges ∙ after _ (sym tr ∙ answer-read-got _ _ _ _ tz)
 
             pub whole-surplus : t .used < length s → refused 1 ≡ layout s
-            unfolding ended
+            unfolding nothingFollows
             whole-surplus less = sym (from-terminals ∙ rw (drop-cons s (t .used) 0 less))
 
             pub whole-end : length s ≤ t .used → partRead t s ≡ layout s
-            unfolding ended
+            unfolding nothingFollows
             whole-end end =
                 let none = drop-of-length-le s end in
                 answer-read-got _ _ _ _ tz ∙ rw none (sym (rw none at from-terminals))

@@ -14,7 +14,7 @@ use Rattle.board.specs.declared.Network.{Network}
 use Rattle.text.specs.declared.Reading.{Reading}
 use Rattle.board.specs.Limits.{maxEdges, maxTerminals}
 use Rattle.text.specs.Text.{Read, refused, got, header, headed, headRanges, edgeRanges, terminalRanges, lines, withEdges}
-use Rattle.text.specs.Text.{withTerminals, ended, layout, lineText, linesText, headRow, edgeRow, terminalRow, textOf}
+use Rattle.text.specs.Text.{withTerminals, nothingFollows, layout, lineText, linesText, headRow, edgeRow, terminalRow, textOf}
 use Rattle.rules.specs.Rules.{judged, Lawful}
 use Rattle.rules.proofs.Meaning.{Kept, kept, judged-zero}
 use Rattle.text.specs.Results.{judgement, outcome, readText}
@@ -57,14 +57,14 @@ layout-of-text ns rows homes laid =
     ∙ (after-in _ _ (lines-of-text 67 (rowsText 87 homes) (omega arith) (laid .edges))
     ∙ after-in _ _ (rw append-nil at (lines-of-text 87 [] (omega arith) (laid .terminals))))
 
-record Ended (whole net : Network) (s : List ℕ) : Type 0 where
+record EndsThere (whole net : Network) (s : List ℕ) : Type 0 where
   pub nothing : s ≡ []
   pub same : net ≡ whole
 
-ended-only : (whole net : Network) (s rest : List ℕ) → ended whole s ≡ got net rest → Ended whole net s
-unfolding ended
-ended-only whole net [] rest h = record { nothing = refl; same = cc }
-ended-only whole net (c ∷ s) rest h = let z : _≡_ {A = ℕ} 0 1 = cc in absurd (omega arith)
+nothing-follows-only : (whole net : Network) (s rest : List ℕ) → nothingFollows whole s ≡ got net rest → EndsThere whole net s
+unfolding nothingFollows
+nothing-follows-only whole net [] rest h = record { nothing = refl; same = cc }
+nothing-follows-only whole net (c ∷ s) rest h = let z : _≡_ {A = ℕ} 0 1 = cc in absurd (omega arith)
 
 layout-only : (s : List ℕ) (net : Network) (rest : List ℕ) → layout s ≡ got net rest → LaidText s net
 unfolding layout
@@ -75,7 +75,7 @@ layout-only s net rest h =
     let f1 = header-only ns s s1 e1 in
     let f2 = lines-only 67 _ _ rows s1 s2 e2 in
     let f3 = lines-only 87 _ _ homes s2 s3 e3 in
-    let f4 = ended-only (built ns rows homes) net s3 rest h3 in
+    let f4 = nothing-follows-only (built ns rows homes) net s3 rest h3 in
     record {
       head = ns;
       rows = rows;
