@@ -76,14 +76,14 @@ mul-field c = omega arith
 array-copy-out-field : tie.Need-array-copy-out-field Inv-loop μ-loop
 array-copy-out-field c = omega arith
 
-sub-end-of : tie.Need-sub-end-of Inv-loop μ-loop
-sub-end-of c = omega arith
+sub-end-byte : tie.Need-sub-end-byte Inv-loop μ-loop
+sub-end-byte c = omega arith
 
-sub-end-of-2 : tie.Need-sub-end-of-2 Inv-loop μ-loop
-sub-end-of-2 c = omega arith
+sub-end-byte-2 : tie.Need-sub-end-byte-2 Inv-loop μ-loop
+sub-end-byte-2 c = omega arith
 
-end-of-requires : tie.Need-end-of-requires Inv-loop μ-loop
-end-of-requires c κs = tt
+end-byte-requires : tie.Need-end-byte-requires Inv-loop μ-loop
+end-byte-requires c κs = tt
 
 field-requires : tie.Need-field-requires Inv-loop μ-loop
 field-requires c κs = tt
@@ -96,13 +96,13 @@ returns-3 c =
     let size : c .before .before .before .before .before .before .before .before .before .before .before .before .before .before .args .count ≤ length (c .before .before .before .before .before .before .before .before .before .before .before .before .before .before .args .t3) = search needs in
     let at-if3 = c .before .if3 in
     let at-field = c .before .before .before .field in
-    let at-end-of = c .before .before .before .before .end-of in
+    let at-end-byte = c .before .before .before .before .end-byte in
     let at-loop-test = c .before .before .before .before .before .before .before .loop-test in
     let at-loop = c .before .before .before .before .before .before .before .before .loop in
     let at-args = c .before .before .before .before .before .before .before .before .before .before .before .before .before .before .args in (
       answer-read-refused _ _ _ _ _ (c .refused-line3 .ensures .0) (at-if3 .taken)
           ∙ line-step-stop _ _ (at-args .s .now) (at-loop .values) (at-loop .at) (at-loop .i) _ (at-loop .inv .4) (at-loop-test .taken) size
-          (at-field .result) _ (at-end-of .ensures) (at-field .ensures .0) (at-if3 .taken),
+          (at-field .result) _ (at-end-byte .ensures) (at-field .ensures .0) (at-if3 .taken),
       omega arith,
     )
 
@@ -131,7 +131,7 @@ loop-again c =
     let size : c .before .before .before .before .before .before .before .before .before .before .before .before .before .before .args .count ≤ length (c .before .before .before .before .before .before .before .before .before .before .before .before .before .before .args .t3) = search needs in
     let at-if3 = c .before .if3 in
     let at-field = c .before .before .before .field in
-    let at-end-of = c .before .before .before .before .end-of in
+    let at-end-byte = c .before .before .before .before .end-byte in
     let at-loop-test = c .before .before .before .before .before .before .before .loop-test in
     let at-loop = c .before .before .before .before .before .before .before .before .loop in
     let at-args = c .before .before .before .before .before .before .before .before .before .before .before .before .before .before .args in (
@@ -140,7 +140,7 @@ loop-again c =
       rest-used (at-args .s .now) _ _ (at-loop .inv .2) (at-field .ensures .1),
       simp length-set (omega arith),
       line-step _ _ (at-args .s .now) (at-loop .values) (at-loop .at) (at-loop .i) _ (at-loop .inv .4) (at-loop-test .taken) size
-          (at-field .result) _ (at-end-of .ensures) (at-field .ensures .0) (at-if3 .left) (omega arith),
+          (at-field .result) _ (at-end-byte .ensures) (at-field .ensures .0) (at-if3 .left) (omega arith),
     )
 
 returns-4 : tie.Need-returns-4 Inv-loop μ-loop
@@ -173,9 +173,9 @@ line-spec =
     part-field-end
     mul-field
     array-copy-out-field
-    sub-end-of
-    sub-end-of-2
-    end-of-requires
+    sub-end-byte
+    sub-end-byte-2
+    end-byte-requires
     field-requires
     refused-line-requires-3
     returns-3
