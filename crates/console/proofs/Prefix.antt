@@ -13,7 +13,7 @@ use Rattle.text.specs.Text.{got, header, headed, headRanges, edgeRanges, termin
 use Rattle.text.specs.Text.{nothingFollows, layout}
 use Rattle.text.specs.Results.{outcome, readText}
 use Rattle.text.proofs.Fields.{parts, header-only}
-use Rattle.text.proofs.Columns.{spelled-within}
+use Rattle.text.proofs.FieldColumns.{spelled-within}
 use Rattle.loader.specs.Load.{loadText}
 use Rattle.console.specs.Inputs.{textSpace, linesOf, linesWanted}
 use Rattle.console.specs.Outputs.{sheetOutput}

@@ -16,7 +16,7 @@ use Rattle.text.specs.Views.{partRead, headerPart}
 use Rattle.text.specs.Text.{Read, refused, got, then, lines, header, headed, headRanges, edgeRanges, edgeLines, terminalLines, nothingFollows, layout}
 use Rattle.lines.proofs.Turns.{then-then, answer-read-got, answer-read-refused}
 use Rattle.text.proofs.Fields.{parts, after, header-only}
-use Rattle.text.proofs.Columns.{spelled-within}
+use Rattle.text.proofs.FieldColumns.{spelled-within}
 
 -- what the lines of edges and terminals need of the first line
 pub record Counted (net : Network) : Type 0 where

@@ -20,8 +20,8 @@ use Rattle.rules.proofs.Meaning.{Kept, kept, judged-zero}
 use Rattle.text.specs.Results.{judgement, outcome, readText}
 use Rattle.text.proofs.Fields.{Within, Rows, Heading, rowsText, parts, parts-in, after, after-in, header-of-text, header-only}
 use Rattle.text.proofs.Fields.{lines-of-text, lines-only, refused-above}
-use Rattle.text.proofs.Columns.{run, lines-run, lines-of, rows-length, row-spelled, row-within, rows-run, spelled, spelled-within}
-use Rattle.text.proofs.Columns.{stored, stored-length, stored-at, stored-past, stored-back}
+use Rattle.text.proofs.FieldColumns.{run, lines-run, lines-of, rows-length, row-spelled, row-within, rows-run, spelled, spelled-within}
+use Rattle.text.proofs.FieldColumns.{stored, stored-length, stored-at, stored-past, stored-back}
 
 abbrev pub acceptedAs : Network → Reading
 acceptedAs net = record { answer = 0; network = net }

@@ -91,14 +91,14 @@ module _ {rs : List Range} where
 
 -- ---- columns
 
-pub column-length : (j : ℕ) (rows : List (List ℕ)) → length (fieldColumn j rows) ≡ length rows
-column-length j [] = refl
-column-length j (ns ∷ rows) = ap suc (column-length j rows)
+pub field-column-length : (j : ℕ) (rows : List (List ℕ)) → length (fieldColumn j rows) ≡ length rows
+field-column-length j [] = refl
+field-column-length j (ns ∷ rows) = ap suc (field-column-length j rows)
 
-column-at : (j : ℕ) (rows : List (List ℕ)) (i : ℕ) → getD (fieldColumn j rows) i 0 ≡ getD (getD rows i []) j 0
-column-at j [] i = refl
-column-at j (ns ∷ rows) zero = refl
-column-at j (ns ∷ rows) (suc i) = column-at j rows i
+field-column-at : (j : ℕ) (rows : List (List ℕ)) (i : ℕ) → getD (fieldColumn j rows) i 0 ≡ getD (getD rows i []) j 0
+field-column-at j [] i = refl
+field-column-at j (ns ∷ rows) zero = refl
+field-column-at j (ns ∷ rows) (suc i) = field-column-at j rows i
 
 abbrev pub zeros : ℕ → List ℕ
 zeros size = replicate size 0
@@ -126,9 +126,9 @@ pub stored-at : (size j : ℕ) {k : ℕ} (rows : List (List ℕ)) (i : ℕ) → 
     → getD (stored size j rows) i 0 ≡ getD (getD rows i []) j 0
 stored-at size j rows i e h =
     let vs : List ℕ = fieldColumn j rows in
-    let fits : 0 + length vs ≤ length (zeros size) = omega (arith, column-length j rows, length-replicate {A = ℕ} size 0) in
+    let fits : 0 + length vs ≤ length (zeros size) = omega (arith, field-column-length j rows, length-replicate {A = ℕ} size 0) in
     rw (sets-eq vs (zeros size) 0 fits)
-    (zeros-behind vs _ i (λ m. getD-drop (0 + length vs) (zeros size) m 0 ∙ zeros-at size _) ∙ column-at j rows i)
+    (zeros-behind vs _ i (λ m. getD-drop (0 + length vs) (zeros size) m 0 ∙ zeros-at size _) ∙ field-column-at j rows i)
 
 pub stored-past : (size j : ℕ) {k : ℕ} (rows : List (List ℕ)) (i : ℕ) → length rows ≡ k → k ≤ size → k ≤ i → getD (stored size j rows) i 0 ≡ 0
 stored-past size j rows i e h past =
