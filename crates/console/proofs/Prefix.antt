@@ -11,7 +11,7 @@ use Rattle.board.specs.Limits.{maxEdges, maxTerminals}
 use Rattle.board.specs.declared.Network.{Network}
 use Rattle.text.specs.Text.{got, header, headed, headRanges, edgeRanges, terminalRanges, lines, withEdges, edgeLines, terminalLines}
 use Rattle.text.specs.Text.{nothingFollows, layout}
-use Rattle.text.specs.Results.{outcome, readText}
+use Rattle.text.specs.Results.{readingOf, readText}
 use Rattle.text.proofs.Fields.{parts, header-only}
 use Rattle.text.proofs.FieldColumns.{spelled-within}
 use Rattle.loader.specs.Load.{loadText}
@@ -67,7 +67,7 @@ pub read-prefix : (s : List ℕ) → readText (take textSpace s) ≡ readText s
 unfolding readText
 read-prefix s = go (near-layout .near s textSpace (omega arith))
   where
-    go : Alike textSpace textSpace s (layout (take textSpace s)) (layout s) → outcome (layout (take textSpace s)) ≡ outcome (layout s)
+    go : Alike textSpace textSpace s (layout (take textSpace s)) (layout s) → readingOf (layout (take textSpace s)) ≡ readingOf (layout s)
     go (both-refused n p o) = rw (p, o)
     go (both-got a u le p o) = rw (p, o)
 

@@ -8,7 +8,7 @@ use lib.Seq.{drop-cons}
 use borrow.Author.Tests.{eq-eqb, ne-eqb}
 use Rattle.lists.proofs.Laws.{pick-yes, pick-no}
 use Rattle.rules.specs.Rules.{judged}
-use Rattle.text.specs.Results.{refusal, judgement, outcome, readText}
+use Rattle.text.specs.Results.{refusal, judgement, readingOf, readText}
 use Rattle.board.specs.Limits.{maxEdges, maxTerminals}
 use Rattle.board.specs.declared.Network.{Network}
 use Rattle.text.specs.declared.Part.{Part}
@@ -114,12 +114,12 @@ module _ (s : List ℕ) (h : Part) (hr : partRead h s ≡ headerPart s) where
 -- the judgement of a text that was read
 module _ (s : List ℕ) (p : Part) (pr : partRead p s ≡ layout s) where
   pub read-stop : (p .answer ≡ 0 → ⊥) → refusal (p .answer) ≡ readText s
-  unfolding readText outcome
+  unfolding readText readingOf
   read-stop z = rw (sym pr ∙ answer-read-refused _ _ _ _ _ refl z)
 
   module _ (pz : p .answer ≡ 0) (n : ℕ) (j : n ≡ judged (p .network)) where
     through : readText s ≡ judgement n (p .network)
-    unfolding readText outcome
+    unfolding readText readingOf
     through = rw (sym pr ∙ answer-read-got _ _ _ _ pz, j)
 
     pub read-refused : (n ≡ 0 → ⊥) → refusal n ≡ readText s

@@ -17,7 +17,7 @@ use Rattle.text.specs.Text.{Read, refused, got, header, headed, headRang
 use Rattle.text.specs.Text.{withTerminals, nothingFollows, layout, lineText, linesText, headRow, edgeRow, terminalRow, textOf}
 use Rattle.rules.specs.Rules.{judged, Lawful}
 use Rattle.rules.proofs.Meaning.{Kept, kept, judged-zero}
-use Rattle.text.specs.Results.{judgement, outcome, readText}
+use Rattle.text.specs.Results.{judgement, readingOf, readText}
 use Rattle.text.proofs.Fields.{Within, Rows, Heading, rowsText, parts, parts-in, after, after-in, header-of-text, header-only}
 use Rattle.text.proofs.Fields.{lines-of-text, lines-only, refused-above}
 use Rattle.text.proofs.FieldColumns.{run, lines-run, lines-of, rows-length, row-spelled, row-within, rows-run, spelled, spelled-within}
@@ -203,7 +203,7 @@ through s net h = go (layout s) refl h
     judge n whole (was-true t) g = (eqb-true n 0 t, ap (λ (r : Reading). r .network) (sym (pick-yes _ _ _ t) ∙ g))
     judge n whole (was-false t) g = absurd (eqb-false n 0 t (ap (λ (r : Reading). r .answer) (sym (pick-no _ _ _ t) ∙ g)))
 
-    go : (o : Read Network) → layout s ≡ o → outcome o ≡ acceptedAs net → Through s net
+    go : (o : Read Network) → layout s ≡ o → readingOf o ≡ acceptedAs net → Through s net
     go (refused n) e g = let z : n ≡ 0 = ap (λ (r : Reading). r .answer) g in absurd (omega (arith, refused-above s n e))
     go (got whole rest) e g =
         let j = judge (judged whole) whole (known _) g in
@@ -220,7 +220,7 @@ unfolding readText
 accepts net law =
     let went : layout (textOf net) ≡ got net [] =
     cc (text-of-rows net, layout-of-text _ _ _ (laid-of net law), built-of net law) in
-    ap outcome went ∙ pick-yes _ _ _ (eq-eqb (judged net) 0 (judged-zero net law))
+    ap readingOf went ∙ pick-yes _ _ _ (eq-eqb (judged net) 0 (judged-zero net law))
 
 pub accepted-iff : (s : List ℕ) (net : Network) → (readText s ≡ acceptedAs net) ↔ ((s ≡ textOf net) × Lawful net)
 accepted-iff s net = (accepted s net, λ h. ap readText (h .0) ∙ accepts net (h .1))
