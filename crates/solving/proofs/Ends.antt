@@ -21,7 +21,7 @@ use Rattle.finishing.specs.Finishes.{ended}
 use Rattle.routing.specs.Routes.{route, share, load, largest}
 use Rattle.invariant.specs.Invariant.{Invariant}
 use Rattle.invariant.proofs.Potential.{level, first-rises}
-use Rattle.solving.specs.Complete.{passes, Simple, InUse}
+use Rattle.solving.specs.Complete.{verticesAlong, Simple, InUse}
 
 -- vertices along edges that all rise in level
 module _ (tails heads : List ℕ) (level : ℕ → ℕ) where
@@ -29,14 +29,14 @@ module _ (tails heads : List ℕ) (level : ℕ → ℕ) where
   Rising es = (e : ℕ) → has e es ≡ true → level (getD tails e 0) < level (getD heads e 0)
 
   -- a vertex below the first is not among them
-  below-missed : {v c : ℕ} (es : List ℕ) → Trail tails heads v (downs es) c → Rising es → (x : ℕ) → level x < level v → has x (passes heads v es) ≡ false
+  below-missed : {v c : ℕ} (es : List ℕ) → Trail tails heads v (downs es) c → Rising es → (x : ℕ) → level x < level v → has x (verticesAlong heads v es) ≡ false
   unfolding has
   below-missed {v} [] t rises x l = both-missed x v [] (λ q. omega (arith, l, ap level q)) refl
   below-missed {v} (e ∷ es) (go s p t) rises x l =
-      both-missed x v (passes heads (getD heads e 0) es) (λ q. omega (arith, l, ap level q))
+      both-missed x v (verticesAlong heads (getD heads e 0) es) (λ q. omega (arith, l, ap level q))
       (below-missed es t (λ g h. rises g (has-later g e es h)) x (omega (arith, l, ap level p, rises e (has-here e e es refl))))
 
-  pub rising-once : {v c : ℕ} (es : List ℕ) → Trail tails heads v (downs es) c → Rising es → Distinct (passes heads v es)
+  pub rising-once : {v c : ℕ} (es : List ℕ) → Trail tails heads v (downs es) c → Rising es → Distinct (verticesAlong heads v es)
   unfolding has
   rising-once [] t rises = (refl, tt)
   rising-once {v} (e ∷ es) (go s p t) rises =

@@ -14,14 +14,14 @@ use Rattle.routing.specs.Routes.{route, load, largest}
 use Rattle.invariant.specs.Bound.{movesBound}
 
 -- the vertices that edges lead over, from v on
-abbrev pub passes : List ℕ → ℕ → List ℕ → List ℕ
-passes heads v [] = v ∷ []
-passes heads v (e ∷ es) = v ∷ passes heads (getD heads e 0) es
+abbrev pub verticesAlong : List ℕ → ℕ → List ℕ → List ℕ
+verticesAlong heads v [] = v ∷ []
+verticesAlong heads v (e ∷ es) = v ∷ verticesAlong heads (getD heads e 0) es
 
 -- "it starts at the spring, each next channel starts where the one before ended, it ends at the mill's pool in the text, and no pool comes twice"
 pub record Simple (b : Board) (i : ℕ) : Type 0 where
   pub trail : Trail (b .network .tails) (b .network .heads) (b .network .source) (downs (route b i)) (getD (b .network .homes) i 0)
-  pub once : Distinct (passes (b .network .heads) (b .network .source) (route b i))
+  pub once : Distinct (verticesAlong (b .network .heads) (b .network .source) (route b i))
 
 -- "A channel is in use when some route holds it"
 pub record InUse (b : Board) (e : ℕ) : Type 0 where
