@@ -61,17 +61,17 @@ record Grown (s r : List Bool) : Type 0 where
   long : length r ≡ length s
   more : members s ≤ members r
   same : members r ≡ members s → r ≡ s
-  keeps : (u : ℕ) → getD s u false ≡ true → getD r u false ≡ true
+  still-in : (u : ℕ) → getD s u false ≡ true → getD r u false ≡ true
 
 grown-refl : (s : List Bool) → Grown s s
-grown-refl s = record { long = refl; more = omega arith; same = λ e. refl; keeps = λ u m. m }
+grown-refl s = record { long = refl; more = omega arith; same = λ e. refl; still-in = λ u m. m }
 
 grown-trans : {a b c : List Bool} → Grown a b → Grown b c → Grown a c
 grown-trans p q = record {
   long = q .long ∙ p .long;
   more = omega arith;
   same = λ e. q .same (omega (arith, p .more, q .more)) ∙ p .same (omega (arith, p .more, q .more));
-  keeps = λ u m. q .keeps u (p .keeps u m);
+  still-in = λ u m. q .still-in u (p .still-in u m);
 }
 
 set-keeps : (s : List Bool) (v u : ℕ) → getD s u false ≡ true → getD (set s v true) u false ≡ true
@@ -98,7 +98,7 @@ set-same (true ∷ s) (suc v) e = ap (λ (l : List Bool). true ∷ l) (set-same 
 set-same (false ∷ s) (suc v) e = ap (λ (l : List Bool). false ∷ l) (set-same s v e)
 
 set-grown : (s : List Bool) (v : ℕ) → Grown s (set s v true)
-set-grown s v = record { long = length-set s v true; more = set-more s v; same = set-same s v; keeps = set-keeps s v }
+set-grown s v = record { long = length-set s v true; more = set-more s v; same = set-same s v; still-in = set-keeps s v }
 
 pick-grown : (t : Bool) (v : ℕ) (s : List Bool) → Grown s (pick t (set s v true) s)
 unfolding pick
@@ -254,7 +254,7 @@ module _ (from to flows : List ℕ) where
   pub reached-complete : (n v u : ℕ) → Within from to flows n → v < n → Path from to flows v u → getD (reached from to flows n v) u false ≡ true
   unfolding reached
   reached-complete n v u w h here =
-      passes-grown n s .keeps v (getD-set-same (replicate n false) v true false (omega (arith, length-replicate n false)))
+      passes-grown n s .still-in v (getD-set-same (replicate n false) v true false (omega (arith, length-replicate n false)))
     where
       s : List Bool
       s = set (replicate n false) v true
