@@ -27,7 +27,7 @@ use Rattle.solving.specs.Player.{listedAll, afresh, saysTo, standingAfte
 use Rattle.solving.specs.Faithful.{Faithful}
 use Rattle.solving.proofs.Finish.{finish-completes, hint-taken}
 use Rattle.solving.proofs.Stands.{
-  Accepted,
+  AcceptedMove,
   carry-accepted,
   turn-accepted,
   without-last,
@@ -49,7 +49,7 @@ record Same (text : List ℕ) (ms : List Call) (c : Call) : Type 0 where
 
 module _ (text : List ℕ) (ms : List Call) (s : Stands text ms) where
   -- a move that is accepted and joins the list
-  joins : (c : Call) → Accepted (afresh text ms) c → saysTo text ms c ≡ 0 → standingAfter text ms c ≡ ms ++ (c ∷ []) → Same text ms c
+  joins : (c : Call) → AcceptedMove (afresh text ms) c → saysTo text ms c ≡ 0 → standingAfter text ms c ≡ ms ++ (c ∷ []) → Same text ms c
   joins c a said kept = record {
     answer = ap (λ (p : Played). p .answer) (a .called) ∙ sym said;
     board = rw kept (ap (λ (p : Played). p .board) (a .called) ∙ sym (afresh-more text ms c));
@@ -98,7 +98,7 @@ module _ (text : List ℕ) where
   undo-none f = leaves text [] none undo (undo-nothing (afresh text []) (f .standing) (f .moves)) refl
 
   -- undo after the last move c
-  undo-last : (ms : List Call) (c : Call) → Stands text ms → Accepted (afresh text ms) c → Same text (ms ++ (c ∷ [])) undo
+  undo-last : (ms : List Call) (c : Call) → Stands text ms → AcceptedMove (afresh text ms) c → Same text (ms ++ (c ∷ [])) undo
   unfolding saysTo standingAfter
   undo-last ms c s a =
       let back : undoCall (afresh text (ms ++ (c ∷ []))) ≡ record { answer = 0; board = afresh text ms } = rw (afresh-more text ms c) (a .back) in

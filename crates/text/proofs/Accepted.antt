@@ -209,8 +209,8 @@ through s net h = go (layout s) refl h
         let j = judge (judged whole) whole (known _) g in
         record { rest = rest; went = cc (e, j .1); fine = cc (j .0, j .1) }
 
-pub accepted : (s : List ℕ) (net : Network) → readText s ≡ acceptedAs net → (s ≡ textOf net) × Lawful net
-accepted s net h =
+pub accepted-text : (s : List ℕ) (net : Network) → readText s ≡ acceptedAs net → (s ≡ textOf net) × Lawful net
+accepted-text s net h =
     let t = through s net h in
     let l = layout-only s net (t .rest) (t .went) in
     rw (l .network) (l .text ∙ sym (text-built _ _ _ (l .laid)), lawful-built _ _ _ (l .laid) (kept _ (rw (l .network) at (t .fine))))
@@ -223,7 +223,7 @@ accepts net law =
     ap readingOf went ∙ pick-yes _ _ _ (eq-eqb (judged net) 0 (judged-zero net law))
 
 pub accepted-iff : (s : List ℕ) (net : Network) → (readText s ≡ acceptedAs net) ↔ ((s ≡ textOf net) × Lawful net)
-accepted-iff s net = (accepted s net, λ h. ap readText (h .0) ∙ accepts net (h .1))
+accepted-iff s net = (accepted-text s net, λ h. ap readText (h .0) ∙ accepts net (h .1))
 
 pub written-back : (s : List ℕ) (net : Network) → readText s ≡ acceptedAs net → textOf net ≡ s
-written-back s net h = sym (accepted s net h .0)
+written-back s net h = sym (accepted-text s net h .0)

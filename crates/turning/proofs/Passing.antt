@@ -79,9 +79,9 @@ module _ (anyOpen : Bool) (edges : ℕ) (tails heads flows : List ℕ) (vertices
         unfolding stepsRefusal pick
         refused-26 f u = rw (o, y, s, f, u)
 
-        pub accepted : meet Positive ≡ true → meet UpSingular ≡ true → 0 ≡ stepsRefusal anyOpen edges tails heads flows vertices w
+        pub steps-accepted : meet Positive ≡ true → meet UpSingular ≡ true → 0 ≡ stepsRefusal anyOpen edges tails heads flows vertices w
         unfolding stepsRefusal pick
-        accepted f u = rw (o, y, s, f, u)
+        steps-accepted f u = rw (o, y, s, f, u)
 
 -- the edges of up-steps are singular by the sets where they are by the lists
 pub ups-same : (tails heads flows leaving : List ℕ) (positive : ℕ) → ChartedOut tails heads flows leaving positive → positive < 2 ^ setWidth → (edges vertices : ℕ) (w : List Step)
