@@ -80,7 +80,7 @@ fn make(board: Board, steps: &[u8], kind: u32, a: u32, c: u32) -> Reply
 }
 
 // What a carry of terminal a over edge c, where the kind is 0, or else an undo would change, on a board with these parts; `last` is its last standing move.
-fn judged(
+fn move_change(
     kind: u32,
     a: u32,
     c: u32,
@@ -191,7 +191,7 @@ pub fn run(board: Board, codes: &[u32], steps: &[u8], buf: &mut [u32], hints: &m
             let step = last.step;
             let fits = guard::intact_in(net, acyclic, flows, places, moves, step);
             let plays = lists::and(b.stage == Board::PLAY, fits);
-            let change = judged(kind, a, c, plays, net, flows, b.marks, places, moves, step);
+            let change = move_change(kind, a, c, plays, net, flows, b.marks, places, moves, step);
             if change.answer == 0 {
                 let new_flows = change.flows;
                 let new_places = change.places;
