@@ -11,7 +11,7 @@ use Rattle.lists.proofs.Laws.{lt-or-ge, pick-yes, pick-no, both-left, both-righ
 use Rattle.board.specs.Limits.{maxVertices, maxEdges}
 use Rattle.board.specs.declared.Board.{Board}
 use Rattle.board.specs.declared.Network.{Network}
-use Rattle.guard.specs.Parts.{flow, first, demand, place}
+use Rattle.guard.specs.Parts.{flow, acyclicFlow, demand, place}
 use Rattle.guard.specs.Guard.{terminalIntact, intact, playing}
 use Rattle.guard.proofs.Facts.{intact-vertices, intact-edges, intact-terminals, intact-source, intact-edge, intact-terminal, intact-tail, intact-head, playing-intact}
 use Rattle.incidence.specs.Incidence.{Incident, PositiveSet}
@@ -35,8 +35,8 @@ module _ (b : Board) (play : playing b ≡ true) where
           let tests = intact-edge b sound e h in
           let numbers = sym (pick-no _ _ _ (le-ltb e (b .network .edges) above)) ∙ both-left _ _ tests in
           let text : getD (b .network .flows) e 0 ≡ 0 = eqb-true _ _ (both-right _ _ (both-right _ _ numbers)) in
-          let least : first b e ≤ getD (b .network .flows) e 0 = leb-true _ _ (both-left _ _ (both-right _ _ tests)) in
-          let none : first b e ≡ 0 = omega (arith, text, least) in
+          let least : acyclicFlow b e ≤ getD (b .network .flows) e 0 = leb-true _ _ (both-left _ _ (both-right _ _ tests)) in
+          let none : acyclicFlow b e ≡ 0 = omega (arith, text, least) in
           eqb-true _ _ (sym (pick-yes _ _ _ (eq-eqb _ _ none)) ∙ both-right _ _ (both-right _ _ tests))
       go (inr h) = List·getD-eq-default (b .flows) 0 (omega (arith, long))
 

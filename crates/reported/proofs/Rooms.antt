@@ -17,7 +17,7 @@ use Rattle.guard.specs.Parts.{head, place}
 use Rattle.routing.specs.Routes.{route}
 use Rattle.routing.specs.Tables.{routesFit}
 use Rattle.invariant.specs.Invariant.{Invariant}
-use Rattle.invariant.proofs.Potential.{level, first-rises}
+use Rattle.invariant.proofs.Potential.{level, acyclic-rises}
 use Rattle.solving.specs.Complete.{verticesAlong}
 use Rattle.solving.proofs.Ends.{rising-once}
 
@@ -42,7 +42,7 @@ module _ (b : Board) (inv : Invariant b) where
   route-short : (i : ℕ) → i < b .network .terminals → length (route b i) ≤ maxVertices
   route-short i h =
       let once =
-      rising-once (b .network .tails) (b .network .heads) (level b) (route b i) (inv .routes i h) (λ e t. first-rises b inv e (inv .on-routes i e h t)) in
+      rising-once (b .network .tails) (b .network .heads) (level b) (route b i) (inv .routes i h) (λ e t. acyclic-rises b inv e (inv .on-routes i e h t)) in
       let below = vertices-along-below (b .network .heads) (b .network .vertices) (place b i) (route b i) (inv .placed i h) head-below in
       let few = pigeon (b .network .vertices) (verticesAlong (b .network .heads) (place b i) (route b i)) once below in
       omega (arith, few, vertices-along-length (b .network .heads) (place b i) (route b i), inv .lawful .vertices)

@@ -7,7 +7,7 @@ use lib.ListN.{getD}
 use Rattle.lists.specs.Members.{has, Distinct}
 use Rattle.board.specs.Limits.{maxMoves}
 use Rattle.board.specs.declared.Board.{Board}
-use Rattle.guard.specs.Parts.{first, place}
+use Rattle.guard.specs.Parts.{acyclicFlow, place}
 use Rattle.flows.specs.Trails.{Trail, downs}
 use Rattle.finishing.specs.declared.Finished.{Finished}
 use Rattle.routing.specs.Routes.{route, load, largest}
@@ -38,7 +38,7 @@ pub record Complete (b : Board) (f : Finished) : Type 0 where
   pub home : (i : ℕ) → i < b .network .terminals → place (f .board) i ≡ b .network .source
   pub simple : (i : ℕ) → i < b .network .terminals → Simple (f .board) i
   -- the load of an edge in use, less its largest demand, is strictly below its flow in the acyclic flow
-  pub below : (e : ℕ) → InUse (f .board) e → load (f .board) e < first (f .board) e + largest (f .board) e
+  pub below : (e : ℕ) → InUse (f .board) e → load (f .board) e < acyclicFlow (f .board) e + largest (f .board) e
   -- the moves that stood and those of finish are in the journal, within the bound, which the journal has room for
   pub moves : f .board .moves ≡ b .moves + f .count
   pub few : b .moves + f .count ≤ movesBound (b .network)
