@@ -193,12 +193,12 @@ fn next_trial() -> bool {
     run_trial(&text[..n], &codes[..size], &steps[..m])
 }
 
-// A proved loop has to end, and nothing says that the input does. So the loop counts its turns down, from a number that no run
+// A proved loop has to end, and nothing says that the input does. So the loop counts its rounds down, from a number that no run
 // uses up.
 fn all_trials() {
-    let mut turns = u64::MAX;
-    while turns > 0 && next_trial() {
-        turns -= 1;
+    let mut rounds = u64::MAX;
+    while rounds > 0 && next_trial() {
+        rounds -= 1;
     }
 }
 
