@@ -18,7 +18,7 @@ use Rattle.text.specs.Text.{Read, refused, got, then, header, headed, numbersTe
 use Rattle.text.specs.Views.{partRead, headerPart}
 use Rattle.text.specs.declared.Part.{Part}
 use Rattle.text.specs.declared.Written.{Written}
-use Rattle.lines.proofs.Turns.{answer-read-got, answer-read-refused}
+use Rattle.lines.proofs.Loops.{answer-read-got, answer-read-refused}
 use Rattle.printing.proofs.Writing.{sets-append}
 use Rattle.console.specs.Inputs.{linesOf, linesWanted}
 use Rattle.loader.specs.declared.Loaded.{Loaded}

@@ -13,7 +13,7 @@ use borrow.Author.Tests.{ltb-true, ltb-false, lt-ltb}
 use Rattle.lists.specs.Choice.{pick, both}
 use Rattle.lists.proofs.Laws.{Known, was-true, was-false, known, eq-or-ne, pick-yes, pick-no, both-left, both-right, both-true}
 use Rattle.graph.specs.Graph.{opens, pass, passes, reached}
-use Rattle.graph.proofs.Turns.{passes-still}
+use Rattle.graph.proofs.Loops.{passes-still}
 use Rattle.flows.specs.Paths.{PositiveEdge, Path, here, on, Within}
 
 -- ---- paths

@@ -14,7 +14,7 @@ use Rattle.board.specs.declared.Network.{Network}
 use Rattle.text.specs.declared.Part.{Part}
 use Rattle.text.specs.Views.{partRead, headerPart}
 use Rattle.text.specs.Text.{Read, refused, got, then, lines, header, headed, headRanges, edgeRanges, edgeLines, terminalLines, nothingFollows, layout}
-use Rattle.lines.proofs.Turns.{then-then, answer-read-got, answer-read-refused}
+use Rattle.lines.proofs.Loops.{then-then, answer-read-got, answer-read-refused}
 use Rattle.text.proofs.Fields.{parts, after, header-only}
 use Rattle.text.proofs.FieldColumns.{spelled-within}
 

@@ -1,4 +1,4 @@
--- One turn of the loops over lines, and the first line, from what the code knows after it has read a line.
+-- One round of the loops over lines, and the first line, from what the code knows after it has read a line.
 use mathlib.Core.Path.{_≡_, refl, sym, ap, _∙_}
 use mathlib.Core.List.{List, [], _∷_}
 use Prim.Native.Nat.{ℕ, suc, _+_, _-_, _<_, _≤_}
@@ -15,7 +15,7 @@ use Rattle.board.specs.declared.Network.{Network}
 use Rattle.text.specs.Views.{lineRead, headerPart}
 use Rattle.text.specs.Text.{Read, refused, got, then, line, lines, headRanges, edgeRanges, terminalRanges, header, headed, withEdges, withTerminals, edgeLines, terminalLines}
 use Rattle.lists.proofs.Laws.{rest-part}
-use Rattle.lines.proofs.Turns.{answer-read-got, answer-read-refused, lines-turn, lines-stop}
+use Rattle.lines.proofs.Loops.{answer-read-got, answer-read-refused, lines-turn, lines-stop}
 
 -- a run of k lines of which i are read, and the line read next
 module _ (x n : ℕ) (rs : List Range) (k i at : ℕ) (s : List ℕ) (f : List (List ℕ) → List ℕ → Read Network) (total : Read Network)

@@ -7,7 +7,7 @@ use lib.Seq.{drop-length}
 use Rattle.graph.specs.Graph.{onward}
 use Rattle.graph.proofs.Onwards.{onward-made, onward-inside}
 use Rattle.cycles.specs.Cycles.{follow}
-use Rattle.cycles.proofs.Walks.{follow-hit, follow-on, follow-over}
+use Rattle.cycles.proofs.Loops.{follow-hit, follow-on, follow-over}
 use borrow.Author.Needs.{needs}
 use native.Mathlib.Omega.{arith}
 use Rattle.cycles.proofs.follow.Statement.{statement}

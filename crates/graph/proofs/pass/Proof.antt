@@ -7,7 +7,7 @@ use lib.ListN.{length}
 use Rattle.lists.proofs.Laws.{either-left, either-right}
 use Rattle.graph.specs.Graph.{pass}
 use Rattle.graph.specs.Bitsets.{column}
-use Rattle.graph.proofs.Turns.{pass-turn, pass-end}
+use Rattle.graph.proofs.Loops.{pass-turn, pass-end}
 use Rattle.graph.proofs.Columns.{column-turn}
 use borrow.Author.Needs.{needs}
 use native.Mathlib.Omega.{arith}

@@ -1,5 +1,5 @@
 use native.Mathlib.Omega.{arith}
-use Rattle.graph.proofs.Turns.{reach-made}
+use Rattle.graph.proofs.Loops.{reach-made}
 use borrow.Author.Needs.{needs}
 use Rattle.graph.proofs.reach.Statement.{statement}
 use Rattle.graph.proofs.reach.Tie as tie

@@ -7,7 +7,7 @@ use lib.ListN.{length}
 use borrow.Author.Tests.{not-true}
 use Rattle.graph.specs.Graph.{passes}
 use Rattle.graph.specs.Bitsets.{column}
-use Rattle.graph.proofs.Turns.{passes-turn, passes-end, passes-still}
+use Rattle.graph.proofs.Loops.{passes-turn, passes-end, passes-still}
 use borrow.Author.Needs.{needs}
 use native.Mathlib.Omega.{arith}
 use Rattle.graph.proofs.spread.Statement.{statement}

@@ -3,7 +3,7 @@ use native.Mathlib.Omega.{arith}
 use lib.Seq.{length-take-le}
 use Rattle.lists.specs.Choice.{pick}
 use Rattle.text.specs.Views.{answerRead}
-use Rattle.lines.proofs.Turns.{field-none, field-malformed, field-in, field-out}
+use Rattle.lines.proofs.Loops.{field-none, field-malformed, field-in, field-out}
 use borrow.Author.Needs.{needs}
 use Rattle.lines.proofs.field.Statement.{statement}
 use Rattle.lines.proofs.field.Tie as tie

@@ -4,7 +4,7 @@ use native.Mathlib.Omega.{arith}
 use borrow.Author.Needs.{needs}
 use lib.ListN.{length, take, length-set, length-take}
 use Rattle.text.specs.Text.{line}
-use Rattle.lines.proofs.Turns.{lineRest, line-end, line-step, line-step-stop, rest-used, then-got, answer-read-got, answer-read-refused, line-letter, line-comma, line-opened, two-bytes}
+use Rattle.lines.proofs.Loops.{lineRest, line-end, line-step, line-step-stop, rest-used, then-got, answer-read-got, answer-read-refused, line-letter, line-comma, line-opened, two-bytes}
 use Rattle.lines.proofs.line.Statement.{statement}
 use Rattle.lines.proofs.line.Tie as tie
 

@@ -5,7 +5,7 @@ use lib.ListN.{take, drop}
 use Rattle.text.specs.declared.Range.{Range}
 use Rattle.board.specs.declared.Network.{Network}
 use Rattle.text.specs.Text.{got, line, headed}
-use Rattle.lines.proofs.Turns.{answer-read-got, answer-read-refused}
+use Rattle.lines.proofs.Loops.{answer-read-got, answer-read-refused}
 use Rattle.rows.proofs.Loops.{head-stop, head-source, head-got}
 use borrow.Author.Needs.{needs}
 use Rattle.reader.proofs.header.Statement.{statement}

@@ -1,6 +1,6 @@
 use mathlib.Core.Path.{_∙_}
 use native.Mathlib.Omega.{arith}
-use Rattle.lines.proofs.Turns.{answer-read-refused}
+use Rattle.lines.proofs.Loops.{answer-read-refused}
 use Rattle.reader.proofs.Whole.{first-counts, second-counts, whole-head-stop, whole-edge-stop, whole-terminal-stop, whole-surplus, whole-end}
 use borrow.Author.Needs.{needs}
 use Rattle.reader.proofs.layout.Statement.{statement}

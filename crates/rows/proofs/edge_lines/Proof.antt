@@ -5,7 +5,7 @@ use native.Mathlib.Omega.{arith}
 use borrow.Author.Needs.{needs}
 use lib.ListN.{length, take, drop}
 use Rattle.text.specs.Text.{edgeRanges, edgeLines}
-use Rattle.lines.proofs.Turns.{answer-read-got, answer-read-refused, rest-used}
+use Rattle.lines.proofs.Loops.{answer-read-got, answer-read-refused, rest-used}
 use Rattle.rows.proofs.Loops.{edge-stop, edge-step, edge-end}
 use Rattle.rows.proofs.edge_lines.Statement.{statement}
 use Rattle.rows.proofs.edge_lines.Tie as tie

@@ -5,7 +5,7 @@ use native.Mathlib.Omega.{arith}
 use borrow.Author.Needs.{needs}
 use lib.ListN.{length, take, drop}
 use Rattle.text.specs.Text.{terminalRanges, terminalLines}
-use Rattle.lines.proofs.Turns.{answer-read-got, answer-read-refused, rest-used}
+use Rattle.lines.proofs.Loops.{answer-read-got, answer-read-refused, rest-used}
 use Rattle.rows.proofs.Loops.{terminal-stop, terminal-step, terminal-end}
 use Rattle.rows.proofs.terminal_lines.Statement.{statement}
 use Rattle.rows.proofs.terminal_lines.Tie as tie

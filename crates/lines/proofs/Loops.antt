@@ -125,7 +125,7 @@ two-bytes (a ∷ b ∷ s) h = omega arith
 pub rest-used : (s : List ℕ) (at used : ℕ) → at ≤ length s → used ≤ length (take (length s - at) (drop at s)) → at + used ≤ length s
 rest-used s at used h u = let e = ap length (rest-part s at) in let d = length-drop at s in omega arith
 
--- one turn of the line's loop, from what the code knows
+-- one round of the line's loop, from what the code knows
 module _ (ranges : List Range) (count : ℕ) (s values : List ℕ) (at i : ℕ) (total : Read (List ℕ))
     (inv : lineRest (take count ranges) s values at i ≡ total) (hi : i < count) (hc : count ≤ length ranges) (f : Field) (e : ℕ)
     (end : e ≡ pick (ltb 0 (count - i - 1)) 44 10)
