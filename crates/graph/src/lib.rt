@@ -39,7 +39,13 @@ fn join(bitsets: &mut [u64], start: usize, end: usize) -> bool
 }
 
 // Where edge e is positive, the bitset of its end takes in the bitset of its start. Answers whether the bitsets changed.
-fn cross<'a>(from: &'a [u32], to: &'a [u32], flows: &'a [u32], bitsets: &mut [u64], e: usize) -> bool
+fn cross<'a>(
+    from: &'a [u32],
+    to: &'a [u32],
+    flows: &'a [u32],
+    bitsets: &mut [u64],
+    e: usize,
+) -> bool
     ensures { λ _. ⌜ now (bitsets .exit) ≡ pick (ltb 0 (getD (now (flows .entry)) e 0)) (set (now (bitsets .entry)) (getD (now (to .entry)) e 0) (joined (getD (now (bitsets .entry)) (getD (now (to .entry)) e 0) 0) (getD (now (bitsets .entry)) (getD (now (from .entry)) e 0) 0))) (now (bitsets .entry)) ⌝ }
     ensures { λ r. ⌜ (r ≡ false → now (bitsets .exit) ≡ now (bitsets .entry)) ⌝ }
 {
