@@ -6,7 +6,7 @@ ghost use Rattle.text.specs.Results.{writeText, written};
 ghost use Rattle.loader.specs.Load.{loadText};
 ghost use Rattle.finishing.specs.Finishes.{finishCall};
 ghost use Rattle.calls.specs.Calls.{answers, Told};
-ghost use Rattle.calls.specs.Codes.{callsOf, listed};
+ghost use Rattle.calls.specs.Codes.{callsOf, journalCoded};
 ghost use lib.Seq.{sets};
 ghost use Rattle.reporting.specs.Reports.{sheetCall, sheeted};
 ghost use Rattle.catalog.specs.Catalog.{catalogCall, catalogued};
@@ -71,7 +71,7 @@ pub extern "C" fn vulprow_play(
     ensures { λ _. ⌜ now (places .exit) ≡ after (now (text .entry)) (now (steps .entry)) (now (codes .entry)) .places ⌝ }
     ensures { λ _. ⌜ now (marks .exit) ≡ after (now (text .entry)) (now (steps .entry)) (now (codes .entry)) .marks ⌝ }
     ensures { λ _. ⌜ now (moves .exit) ≡ after (now (text .entry)) (now (steps .entry)) (now (codes .entry)) .moves ⌝ }
-    ensures { λ _. ⌜ now (journal .exit) ≡ listed (now (journal .entry)) 0 (after (now (text .entry)) (now (steps .entry)) (now (codes .entry)) .journal) ⌝ }
+    ensures { λ _. ⌜ now (journal .exit) ≡ journalCoded (now (journal .entry)) 0 (after (now (text .entry)) (now (steps .entry)) (now (codes .entry)) .journal) ⌝ }
 {
     let loaded = loader::load(text);
     let board = loaded.board;
@@ -112,7 +112,7 @@ pub extern "C" fn vulprow_finish(
     ensures { λ _. ⌜ now (places .exit) ≡ finished (now (text .entry)) (now (steps .entry)) (now (codes .entry)) .board .places ⌝ }
     ensures { λ _. ⌜ now (marks .exit) ≡ finished (now (text .entry)) (now (steps .entry)) (now (codes .entry)) .board .marks ⌝ }
     ensures { λ _. ⌜ now (moves .exit) ≡ finished (now (text .entry)) (now (steps .entry)) (now (codes .entry)) .board .moves ⌝ }
-    ensures { λ _. ⌜ now (journal .exit) ≡ listed (now (journal .entry)) 0 (finished (now (text .entry)) (now (steps .entry)) (now (codes .entry)) .board .journal) ⌝ }
+    ensures { λ _. ⌜ now (journal .exit) ≡ journalCoded (now (journal .entry)) 0 (finished (now (text .entry)) (now (steps .entry)) (now (codes .entry)) .board .journal) ⌝ }
 {
     let through = playthrough::play_through(text, codes, steps, given, hints);
     let finish = through.finish;

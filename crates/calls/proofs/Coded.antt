@@ -1,4 +1,4 @@
--- The laws that the functions cite: what a list of numbers holds is read and written from its front, so each turn of a loop does the first of
+-- The laws that the functions cite: what a list of numbers holds is read and written from its front, so each round of a loop does the first of
 -- what is left, and leaves the rest.
 use mathlib.Core.Path.{_≡_, refl, sym, _∙_}
 use mathlib.Core.Bool.{Bool, true, false, true≢false}
@@ -19,7 +19,7 @@ use Rattle.board.specs.declared.Played.{Played}
 use Rattle.choosing.specs.declared.Advice.{Advice}
 use Rattle.calls.specs.declared.Reply.{Reply}
 use Rattle.calls.specs.Calls.{Call, carry, turn, undo, hint, made, played, answers, isHint, plain, Replied, adviceCode, adviceWidth, behind, noted, Told}
-use Rattle.calls.specs.Codes.{part, callOf, callsOf, moveCode, listed}
+use Rattle.calls.specs.Codes.{part, callOf, callsOf, moveCode, journalCoded}
 
 -- the steps of a turn
 module _ (steps : List ℕ) (a c : ℕ) where
@@ -102,7 +102,7 @@ one-told b hint given makes cs buf r out k k' er ek t =
 abbrev pub Onward : List ℕ → Board → List Call → List ℕ → ℕ → Board → List Call → Type 0
 Onward first start all buf k b cs = (out : List ℕ) → Told buf k b cs out → Told first 0 start all out
 
--- the calls that are left, with this many numbers; one turn makes the first of them
+-- the calls that are left, with this many numbers; one round makes the first of them
 module _ (steps codes : List ℕ) (left : ℕ) where
   abbrev at : ℕ
   at = length codes - left
@@ -146,7 +146,7 @@ module _ (steps codes : List ℕ) (left : ℕ) where
           rw (calls-turn steps codes at (omega arith))
           (one-told b (callOf steps (getD codes at 0) (getD codes (at + 1) 0) (getD codes (at + 2) 0)) given makes _ buf r out k k' er ek (rw next at t))
 
--- before the first turn all is left
+-- before the first round all is left
 pub all-left : (codes : List ℕ) → drop (length codes - length codes) codes ≡ codes
 all-left codes = let none : length codes - length codes ≡ 0 = omega arith in rw none
 
@@ -216,13 +216,13 @@ module _ (buf : List ℕ) (k : ℕ) (hinted : Bool) (a : Advice) where
 
 -- the entries from place i on
 module _ (js : List Entry) (i k : ℕ) (buf : List ℕ) where
-  pub listed-turn : (m z : Entry) (code r : List ℕ) → i < length js → m ≡ getD js i z → code ≡ moveCode (m .step) → r ≡ sets buf k code
-      → listed r (k + 5) (drop (i + 1) js) ≡ listed buf k (drop i js)
-  unfolding listed
-  listed-turn m z code r h em ec er =
+  pub journal-coded-turn : (m z : Entry) (code r : List ℕ) → i < length js → m ≡ getD js i z → code ≡ moveCode (m .step) → r ≡ sets buf k code
+      → journalCoded r (k + 5) (drop (i + 1) js) ≡ journalCoded buf k (drop i js)
+  unfolding journalCoded
+  journal-coded-turn m z code r h em ec er =
       let five : k + 5 ≡ suc (suc (suc (suc (suc k)))) = omega arith in
       rw (er, ec, em, five, drop-cons js i z h, add-one i)
 
-  pub listed-end : length js ≤ i → buf ≡ listed buf k (drop i js)
-  unfolding listed
-  listed-end h = rw (drop-of-length-le js h)
+  pub journal-coded-end : length js ≤ i → buf ≡ journalCoded buf k (drop i js)
+  unfolding journalCoded
+  journal-coded-end h = rw (drop-of-length-le js h)

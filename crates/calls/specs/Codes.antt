@@ -31,6 +31,6 @@ moveCode (Carry r) = 0 ∷ r .terminal ∷ r .edge ∷ 0 ∷ 0 ∷ []
 moveCode (Turn a) = 1 ∷ a .amount ∷ a .down ∷ a .up ∷ a .marked ∷ []
 
 -- the buffer with these entries from place k on
-unfoldable pub listed : List ℕ → ℕ → List Entry → List ℕ
-listed buf k [] = buf
-listed buf k (m ∷ ms) = listed (sets buf k (moveCode (m .step))) (suc (suc (suc (suc (suc k))))) ms
+unfoldable pub journalCoded : List ℕ → ℕ → List Entry → List ℕ
+journalCoded buf k [] = buf
+journalCoded buf k (m ∷ ms) = journalCoded (sets buf k (moveCode (m .step))) (suc (suc (suc (suc (suc k))))) ms

@@ -18,7 +18,7 @@ ghost use Rattle.board.specs.Limits.{maxMoves};
 ghost use Rattle.carrying.specs.Carries.{carryChange};
 ghost use Rattle.undoing.specs.Undone.{Small, undoChange};
 ghost use Rattle.calls.specs.Calls.{hint, played, answers, plain, Replied, adviceCode, lastPlace, behind, Told};
-ghost use Rattle.calls.specs.Codes.{part, callOf, callsOf, moveCode, listed};
+ghost use Rattle.calls.specs.Codes.{part, callOf, callsOf, moveCode, journalCoded};
 ghost use lib.Seq.{sets};
 
 // A turn along the steps from a up to c.
@@ -80,7 +80,7 @@ fn make(board: Board, steps: &[u8], kind: u32, a: u32, c: u32) -> Reply
 }
 
 // What a carry of terminal a over edge c, where the kind is 0, or else an undo would change, on a board with these parts; `last` is its last standing move.
-fn judged(
+fn move_change(
     kind: u32,
     a: u32,
     c: u32,
@@ -191,7 +191,7 @@ pub fn run(board: Board, codes: &[u32], steps: &[u8], buf: &mut [u32], hints: &m
             let step = last.step;
             let fits = guard::intact_in(net, acyclic, flows, places, moves, step);
             let plays = lists::and(b.stage == Board::PLAY, fits);
-            let change = judged(kind, a, c, plays, net, flows, b.marks, places, moves, step);
+            let change = move_change(kind, a, c, plays, net, flows, b.marks, places, moves, step);
             if change.answer == 0 {
                 let new_flows = change.flows;
                 let new_places = change.places;
@@ -253,7 +253,7 @@ fn move_code(step: Move) -> [u64; 5]
 
 // Writes the journal into the buffer, five numbers a place.
 pub fn put_journal(journal: [Entry; Board::JOURNAL], buf: &mut [u64])
-    ensures { λ _. ⌜ now (buf .exit) ≡ listed (now (buf .entry)) 0 journal ⌝ }
+    ensures { λ _. ⌜ now (buf .exit) ≡ journalCoded (now (buf .entry)) 0 journal ⌝ }
 {
     let mut i: usize = 0;
     let mut k: usize = 0;

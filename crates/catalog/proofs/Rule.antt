@@ -15,7 +15,7 @@ use Rattle.decimal.specs.Decimal.{decimal, numberOf}
 use Rattle.text.specs.Text.{numbersText}
 use Rattle.text.specs.Results.{readText}
 use Rattle.catalog.specs.Table.{table}
-use Rattle.catalog.specs.Catalog.{boards, span, boardsFrom, boardText, catalogText, catalogCall, catalogued, accepted, allAccepted}
+use Rattle.catalog.specs.Catalog.{boards, span, boardsFrom, boardText, catalogText, catalogCall, catalogued, entryAccepted, allAccepted}
 use Rattle.catalog.proofs.Laws.{call-none, call-short, call-done}
 
 pub all-accepted : allAccepted boards table ≡ true
@@ -23,26 +23,26 @@ unfolding allAccepted table numbersText decimal indexOf numberOf keyed
 all-accepted = refl
 
 -- each board of a list whose boards are accepted
-each-accepted : (n k : ℕ) (t : List ℕ) → allAccepted n t ≡ true → k < n → accepted (boardsFrom k t) ≡ true
+each-entry-accepted : (n k : ℕ) (t : List ℕ) → allAccepted n t ≡ true → k < n → entryAccepted (boardsFrom k t) ≡ true
 unfolding allAccepted boardsFrom
-each-accepted zero k t h l = absurd (omega arith)
-each-accepted (suc n) zero t h l = both-left (accepted t) (allAccepted n (drop (span t) t)) h
-each-accepted (suc n) (suc k) t h l = each-accepted n k (drop (span t) t) (both-right (accepted t) (allAccepted n (drop (span t) t)) h) (omega arith)
+each-entry-accepted zero k t h l = absurd (omega arith)
+each-entry-accepted (suc n) zero t h l = both-left (entryAccepted t) (allAccepted n (drop (span t) t)) h
+each-entry-accepted (suc n) (suc k) t h l = each-entry-accepted n k (drop (span t) t) (both-right (entryAccepted t) (allAccepted n (drop (span t) t)) h) (omega arith)
 
 -- what the test of a board says
-accepted-board : (t : List ℕ) → accepted t ≡ true → (span t ≤ length t) × (readText (boardText t) .answer ≡ 0)
-unfolding accepted
-accepted-board t h =
+entry-facts : (t : List ℕ) → entryAccepted t ≡ true → (span t ≤ length t) × (readText (boardText t) .answer ≡ 0)
+unfolding entryAccepted
+entry-facts t h =
     let there = leb (span t) (length t) in
     let read = eqb (readText (boardText t) .answer) 0 in
     (leb-true (span t) (length t) (both-left there read h), eqb-true (readText (boardText t) .answer) 0 (both-right there read h))
 
 pub whole : (k : ℕ) → k < boards → span (boardsFrom k table) ≤ length (boardsFrom k table)
-whole k h = accepted-board (boardsFrom k table) (each-accepted boards k table all-accepted h) .0
+whole k h = entry-facts (boardsFrom k table) (each-entry-accepted boards k table all-accepted h) .0
 
 pub board-accepted : (k : ℕ) → k < boards → readText (catalogText k) .answer ≡ 0
 unfolding catalogText
-board-accepted k h = accepted-board (boardsFrom k table) (each-accepted boards k table all-accepted h) .1
+board-accepted k h = entry-facts (boardsFrom k table) (each-entry-accepted boards k table all-accepted h) .1
 
 -- the table is short enough for the code
 table-short : length table ≤ 4096

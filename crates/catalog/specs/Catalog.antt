@@ -54,12 +54,12 @@ catalogued k buf =
     pick (eqb (catalogCall k (length buf) .answer) 0) (catalogText k ++ drop (length (catalogText k)) buf) buf
 
 -- "every entry, written as text, is an accepted board": the first board of a list is there whole, and its text is accepted
-unfoldable pub accepted : List ℕ → Bool
+unfoldable pub entryAccepted : List ℕ → Bool
 unfolding boardText readText both pick lineText linesText
-accepted t = both (leb (span t) (length t)) (eqb (readText (boardText t) .answer) 0)
+entryAccepted t = both (leb (span t) (length t)) (eqb (readText (boardText t) .answer) 0)
 
 -- so many boards, one after the other, are accepted, and nothing is behind them
 unfoldable pub allAccepted : ℕ → List ℕ → Bool
-unfolding accepted
+unfolding entryAccepted
 allAccepted zero t = eqb (length t) 0
-allAccepted (suc k) t = both (accepted t) (allAccepted k (drop (span t) t))
+allAccepted (suc k) t = both (entryAccepted t) (allAccepted k (drop (span t) t))

@@ -11,10 +11,10 @@ use Rattle.lists.proofs.Laws.{lt-or-ge, pick-yes, pick-no, both-left, both-righ
 use Rattle.board.specs.Limits.{maxVertices, maxEdges}
 use Rattle.board.specs.declared.Board.{Board}
 use Rattle.board.specs.declared.Network.{Network}
-use Rattle.guard.specs.Parts.{flow, first, demand, place}
+use Rattle.guard.specs.Parts.{flow, acyclicFlow, demand, place}
 use Rattle.guard.specs.Guard.{terminalIntact, intact, playing}
 use Rattle.guard.proofs.Facts.{intact-vertices, intact-edges, intact-terminals, intact-source, intact-edge, intact-terminal, intact-tail, intact-head, playing-intact}
-use Rattle.incidence.specs.Incidence.{Incident, Positive}
+use Rattle.incidence.specs.Incidence.{Incident, PositiveSet}
 use Rattle.searching.specs.Search.{Searched}
 use Rattle.walking.specs.Chart.{Charted}
 use Rattle.choosing.specs.Parts.{Searchable, Walkable}
@@ -35,8 +35,8 @@ module _ (b : Board) (play : playing b ≡ true) where
           let tests = intact-edge b sound e h in
           let numbers = sym (pick-no _ _ _ (le-ltb e (b .network .edges) above)) ∙ both-left _ _ tests in
           let text : getD (b .network .flows) e 0 ≡ 0 = eqb-true _ _ (both-right _ _ (both-right _ _ numbers)) in
-          let least : first b e ≤ getD (b .network .flows) e 0 = leb-true _ _ (both-left _ _ (both-right _ _ tests)) in
-          let none : first b e ≡ 0 = omega (arith, text, least) in
+          let least : acyclicFlow b e ≤ getD (b .network .flows) e 0 = leb-true _ _ (both-left _ _ (both-right _ _ tests)) in
+          let none : acyclicFlow b e ≡ 0 = omega (arith, text, least) in
           eqb-true _ _ (sym (pick-yes _ _ _ (eq-eqb _ _ none)) ∙ both-right _ _ (both-right _ _ tests))
       go (inr h) = List·getD-eq-default (b .flows) 0 (omega (arith, long))
 
@@ -68,7 +68,7 @@ module _ (b : Board) (play : playing b ≡ true) where
   }
 
 -- with the sets
-module _ (net : Network) (flows : List ℕ) (positive : ℕ) (is-positive : Positive flows positive) (long : length flows ≡ maxEdges) where
+module _ (net : Network) (flows : List ℕ) (positive : ℕ) (is-positive : PositiveSet flows positive) (long : length flows ≡ maxEdges) where
   pub searched : (places entering : List ℕ) → Searchable net flows places → Incident (net .heads) entering
       → Searched (net .heads) entering (net .demands) (net .terminals) (net .edges) flows positive places
   searched places entering s at = record {

@@ -21,7 +21,7 @@ use Rattle.decimal.specs.declared.Number.the-variants.{Value, Malformed}
 use Rattle.decimal.specs.Decimal.{numberOf}
 use Rattle.decimal.proofs.Laws.{number-long}
 use Rattle.text.specs.declared.Range.{Range}
-use Rattle.text.specs.Text.{Read, refused, got, then, letter, ranged, field, endOf, numbers, line, lines}
+use Rattle.text.specs.Text.{Read, refused, got, then, letter, ranged, field, endByte, numbers, line, lines}
 
 -- ---- readers in general
 
@@ -169,7 +169,7 @@ pub near-numbers : (rs : List Range) → Near (8 * length rs) (numbers rs)
 unfolding numbers
 near-numbers [] = near-got []
 near-numbers (r ∷ rs) =
-    near-more _ (near-then (near-field r (endOf rs)) λ n s rest e. near-then (near-numbers rs) λ ns s1 rest1 e1. near-got (n ∷ ns)) (omega arith)
+    near-more _ (near-then (near-field r (endByte rs)) λ n s rest e. near-then (near-numbers rs) λ ns s1 rest1 e1. near-got (n ∷ ns)) (omega arith)
 
 pub near-line : (x : ℕ) (rs : List Range) → Near (2 + 8 * length rs) (line x rs)
 unfolding line

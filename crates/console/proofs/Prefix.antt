@@ -10,10 +10,10 @@ use lib.ListN.{getD, take}
 use Rattle.board.specs.Limits.{maxEdges, maxTerminals}
 use Rattle.board.specs.declared.Network.{Network}
 use Rattle.text.specs.Text.{got, header, headed, headRanges, edgeRanges, terminalRanges, lines, withEdges, edgeLines, terminalLines}
-use Rattle.text.specs.Text.{ended, layout}
-use Rattle.text.specs.Results.{outcome, readText}
+use Rattle.text.specs.Text.{nothingFollows, layout}
+use Rattle.text.specs.Results.{readingOf, readText}
 use Rattle.text.proofs.Fields.{parts, header-only}
-use Rattle.text.proofs.Columns.{spelled-within}
+use Rattle.text.proofs.FieldColumns.{spelled-within}
 use Rattle.loader.specs.Load.{loadText}
 use Rattle.console.specs.Inputs.{textSpace, linesOf, linesWanted}
 use Rattle.console.specs.Outputs.{sheetOutput}
@@ -35,11 +35,11 @@ unfolding terminalLines
 near-terminals net i k h =
     near-more _ (near-then (near-lines 87 (terminalRanges (net .vertices)) k) λ rows s rest e. near-got _) (omega arith)
 
-near-ended : (net : Network) → Near 1 (ended net)
-unfolding ended
-near-ended net = record { near = go }
+near-nothing-follows : (net : Network) → Near 1 (nothingFollows net)
+unfolding nothingFollows
+near-nothing-follows net = record { near = go }
   where
-    go : (s : List ℕ) (m : ℕ) → 1 ≤ m → Alike 1 m s (ended net (take m s)) (ended net s)
+    go : (s : List ℕ) (m : ℕ) → 1 ≤ m → Alike 1 m s (nothingFollows net (take m s)) (nothingFollows net s)
     go s zero h = absurd (omega arith)
     go [] (suc m) h = both-got net 0 (omega arith) (rw sub-zero) refl
     go (c ∷ s) (suc m) h = both-refused 1 refl refl
@@ -59,7 +59,7 @@ near-layout =
     let counts = spelled-within headRanges ns (header-only ns s rest e .facts .within) in
     near-then (near-edges (headed ns) 0 (getD ns 1 0) (omega arith)) λ net s1 rest1 e1.
     near-then (near-terminals net 0 (net .terminals) (omega (arith, edges-kept (headed ns) net 0 (getD ns 1 0) s1 rest1 e1))) λ whole s2 rest2 e2.
-    near-ended whole) (omega arith)
+    near-nothing-follows whole) (omega arith)
 
 -- ---- the theorem about long texts
 
@@ -67,7 +67,7 @@ pub read-prefix : (s : List ℕ) → readText (take textSpace s) ≡ readText s
 unfolding readText
 read-prefix s = go (near-layout .near s textSpace (omega arith))
   where
-    go : Alike textSpace textSpace s (layout (take textSpace s)) (layout s) → outcome (layout (take textSpace s)) ≡ outcome (layout s)
+    go : Alike textSpace textSpace s (layout (take textSpace s)) (layout s) → readingOf (layout (take textSpace s)) ≡ readingOf (layout s)
     go (both-refused n p o) = rw (p, o)
     go (both-got a u le p o) = rw (p, o)
 

@@ -18,7 +18,7 @@ use Rattle.text.specs.Text.{Read, refused, got, then, header, headed, numbersTe
 use Rattle.text.specs.Views.{partRead, headerPart}
 use Rattle.text.specs.declared.Part.{Part}
 use Rattle.text.specs.declared.Written.{Written}
-use Rattle.lines.proofs.Turns.{answered-got, answered-refused}
+use Rattle.lines.proofs.Loops.{answer-read-got, answer-read-refused}
 use Rattle.printing.proofs.Writing.{sets-append}
 use Rattle.console.specs.Inputs.{linesOf, linesWanted}
 use Rattle.loader.specs.declared.Loaded.{Loaded}
@@ -94,8 +94,8 @@ same-counts net rest (got ns s) e = let same : headed ns ≡ net = cc in rw (←
 module _ (s : List ℕ) (h : Part) (hr : partRead h s ≡ headerPart s) where
   pub wanted-refused : (h .answer ≡ 0 → ⊥) → 1 ≡ linesWanted s
   unfolding linesWanted headerPart
-  wanted-refused z = sym (same-refusal (h .answer) (header s) (sym hr ∙ answered-refused _ (h .network) (h .used) s _ refl z))
+  wanted-refused z = sym (same-refusal (h .answer) (header s) (sym hr ∙ answer-read-refused _ (h .network) (h .used) s _ refl z))
 
   pub wanted-counted : h .answer ≡ 0 → 1 + h .network .edges + h .network .terminals ≡ linesWanted s
   unfolding linesWanted headerPart
-  wanted-counted z = sym (same-counts (h .network) _ (header s) (sym hr ∙ answered-got _ _ _ s z))
+  wanted-counted z = sym (same-counts (h .network) _ (header s) (sym hr ∙ answer-read-got _ _ _ s z))

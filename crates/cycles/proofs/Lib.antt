@@ -1,2 +1,2 @@
-pub mod Walks
-pub mod Rows
+pub mod Loops
+pub mod Bitsets

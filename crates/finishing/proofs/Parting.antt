@@ -15,7 +15,7 @@ use Rattle.lists.proofs.Laws.{Known, was-true, was-false, known, eq-or-ne, pick
 use Rattle.sets.specs.Sets.{hasBit, dropped}
 use Rattle.sets.proofs.Scan.{has-dropped}
 use Rattle.board.specs.Limits.{maxEdges}
-use Rattle.incidence.specs.Incidence.{Positive}
+use Rattle.incidence.specs.Incidence.{PositiveSet}
 use Rattle.board.specs.Record.{blank}
 use Rattle.board.specs.declared.Entry.{Entry}
 use Rattle.board.specs.declared.Move.the-variants.{Carry}
@@ -44,8 +44,8 @@ module _ (m e k : ℕ) where
       go true = refl
       go false = refl
 
-pub positive-falls : (flows : List ℕ) (positive e rest : ℕ) → length flows ≡ maxEdges → Positive flows positive → rest ≤ getD flows e 0
-    → Positive (set flows e rest) (positiveAfter positive rest e)
+pub positive-falls : (flows : List ℕ) (positive e rest : ℕ) → length flows ≡ maxEdges → PositiveSet flows positive → rest ≤ getD flows e 0
+    → PositiveSet (set flows e rest) (positiveAfter positive rest e)
 unfolding positiveAfter
 positive-falls flows positive e rest long is-positive less k h = go (known (eqb rest 0)) (eq-or-ne k e)
   where
@@ -65,7 +65,7 @@ positive-falls flows positive e rest long is-positive less k h = go (known (eqb 
     go (was-false t) (inr n) = rw (pick-no _ (dropped positive e) positive t, getD-set-other flows e k rest 0 n) (is-positive k h)
 
 -- no move
-pub stop-made : (answer : ℕ) (flows : List ℕ) (marks : ℕ) (places : List ℕ) (positive : ℕ) (entry : Entry) → Positive flows positive → allSmall flows ≡ true
+pub stop-made : (answer : ℕ) (flows : List ℕ) (marks : ℕ) (places : List ℕ) (positive : ℕ) (entry : Entry) → PositiveSet flows positive → allSmall flows ≡ true
     → entry ≡ blank
     → Makes (unchanged answer flows marks places)
     (record { change = record { answer = answer; flows = flows; marks = marks; places = places; entry = entry }; positive = positive; small = true })
@@ -79,7 +79,7 @@ module _ (net : Network) (flows : List ℕ) (marks : ℕ) (places : List ℕ) (p
 
   pub carry-made : (f d t rest after : ℕ) (flows' places' : List ℕ) → p ≢ net .source → f ≡ getD flows e 0 → d ≡ getD (net .demands) i 0
       → t ≡ getD (net .tails) e 0 → rest ≡ f - d → flows' ≡ set flows e rest → places' ≡ set places i t → after ≡ positiveAfter positive rest e
-      → length flows ≡ maxEdges → Positive flows positive → allSmall flows ≡ true
+      → length flows ≡ maxEdges → PositiveSet flows positive → allSmall flows ≡ true
       → Makes (carryStep net flows marks places i e)
       (record {
         change = record { answer = 0; flows = flows'; marks = marks; places = places'; entry = record { step = Carry (record { terminal = i; edge = e }) } };

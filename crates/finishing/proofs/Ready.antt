@@ -10,7 +10,7 @@ use lib.Seq.{length-sets}
 use borrow.Author.Tests.{lt-ltb, le-ltb}
 use Rattle.lists.proofs.Laws.{pick-yes, pick-no}
 use Rattle.board.specs.Limits.{maxEdges}
-use Rattle.incidence.specs.Incidence.{Incident, Positive}
+use Rattle.incidence.specs.Incidence.{Incident, PositiveSet}
 use Rattle.board.specs.declared.Network.{Network}
 use Rattle.flows.specs.Trails.{Step}
 use Rattle.journal.specs.Moved.{unchanged}
@@ -46,7 +46,7 @@ module _ (net : Network) (flows : List ℕ) (marks : ℕ) (places : List ℕ) (p
   pub ready-walks : Walkable net
   ready-walks = rw (p .its-network) at (playing-walkable (p .board) (p .play) (rw (p .its-network) (p .sized .tails)) (rw (p .its-network) (p .sized .heads)))
 
-  module _ (positive : ℕ) (is-positive : Positive flows positive) where
+  module _ (positive : ℕ) (is-positive : PositiveSet flows positive) where
     pub ready-searched : (entering : List ℕ) → Incident (net .heads) entering
         → Searched (net .heads) entering (net .demands) (net .terminals) (net .edges) flows positive places
     ready-searched entering at = searched net flows positive is-positive (p .long) places entering searchable at

@@ -9,7 +9,7 @@ use lib.ListN.{length, getD}
 use Rattle.lists.specs.Choice.{pick, both}
 use Rattle.lists.specs.Lists.{all, lowest}
 use Rattle.sets.specs.Sets.{dropped}
-use Rattle.incidence.specs.Incidence.{Positive}
+use Rattle.incidence.specs.Incidence.{PositiveSet}
 use Rattle.board.specs.Limits.{maxEdges, maxTerminals, maxMoves, maxTotal}
 use Rattle.board.specs.declared.Board.{Board}
 use Rattle.board.specs.declared.Network.{Network}
@@ -75,7 +75,7 @@ pub record InPlay (net : Network) (flows : List ℕ) (marks : ℕ) (places : Lis
 -- a move of the solver is this change, with the wet channels after it, and whether the flows are small then
 pub record Makes (change : Change) (made : Made) : Type 0 where
   pub changes : made .change ≡ change
-  pub is-positive : Positive (made .change .flows) (made .positive)
+  pub is-positive : PositiveSet (made .change .flows) (made .positive)
   pub smalls : made .small ≡ allSmall (made .change .flows)
 
 -- the moves that are left of a run where the board is in play after one of them, else none

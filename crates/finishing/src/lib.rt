@@ -8,7 +8,7 @@ use board::Relocation;
 use journal::Change;
 ghost use mathlib.Core.Path.{_≡_};
 ghost use mathlib.Core.Bool.{true};
-ghost use Rattle.incidence.specs.Incidence.{Incident, Positive};
+ghost use Rattle.incidence.specs.Incidence.{Incident, PositiveSet};
 ghost use Rattle.journal.specs.Moved.{unchanged};
 ghost use Rattle.finishing.specs.Finishes.{finishCall};
 ghost use Rattle.finishing.specs.Run.{allSmall, positiveAfter, carryStep, turnStep, stepChange, InPlay, Makes, leftAfter};
@@ -60,7 +60,7 @@ fn stopped(
     places: [u32; Board::MAX_TERMINALS],
     positive: EdgeSet,
 ) -> Made
-    requires { ⌜ Positive flows positive ⌝ }
+    requires { ⌜ PositiveSet flows positive ⌝ }
     requires { ⌜ allSmall flows ≡ true ⌝ }
     ensures { λ r. ⌜ Makes (unchanged answer flows marks places) r ⌝ }
 {
@@ -100,7 +100,7 @@ fn carried(
     e: u32,
 ) -> Made
     requires { ⌜ InPlay net flows marks places ⌝ }
-    requires { ⌜ Positive flows positive ⌝ }
+    requires { ⌜ PositiveSet flows positive ⌝ }
     ensures { λ r. ⌜ Makes (carryStep net flows marks places i e) r ⌝ }
 {
     let place = lists::word_at(&places, i as usize);
@@ -146,7 +146,7 @@ fn turned<'a>(
     requires { ⌜ InPlay net flows marks places ⌝ }
     requires { ⌜ Incident (net .tails) (now leaving) ⌝ }
     requires { ⌜ Incident (net .heads) (now entering) ⌝ }
-    requires { ⌜ Positive flows positive ⌝ }
+    requires { ⌜ PositiveSet flows positive ⌝ }
     ensures { λ r. ⌜ Makes (turnStep net flows marks places) r ⌝ }
 {
     if choosing::all_home(&places, net.terminals, net.source) {
@@ -198,7 +198,7 @@ fn advance<'a>(
     requires { ⌜ InPlay net flows marks places ⌝ }
     requires { ⌜ Incident (net .tails) (now leaving) ⌝ }
     requires { ⌜ Incident (net .heads) (now entering) ⌝ }
-    requires { ⌜ Positive flows positive ⌝ }
+    requires { ⌜ PositiveSet flows positive ⌝ }
     ensures { λ r. ⌜ Makes (stepChange net flows marks places) r ⌝ }
 {
     let found = searching::open_carry(

@@ -19,7 +19,7 @@ use Rattle.lists.proofs.Pigeon.{has-nothing, has-here, has-later, has-cases}
 use Rattle.cycles.specs.Cycles.{onCycle, cycleVertex, cycleFrom}
 use Rattle.lowering.specs.Lowering.{smallest, lowered, lowerCycle}
 use Rattle.cancelling.specs.Cancelling.{cancelled, acyclicFlows}
-use Rattle.flows.specs.Trails.{down, edgesOf, changed, Fits, downs}
+use Rattle.flows.specs.Trails.{down, edgesOf, changedAlong, Fits, downs}
 use Rattle.flows.specs.Paths.{Acyclic, Within}
 use Rattle.flows.proofs.Change.{changed-length, closed-trail, In, changed-at}
 use Rattle.flows.proofs.Positives.{positives, positives-some, positives-most, positives-fewer}
@@ -89,8 +89,8 @@ module _ (flows : List ℕ) where
       at (inr i) ih = ih i
 
 -- lowering is a change along a trail of down-steps
-lowered-changed : (flows : List ℕ) (x : ℕ) (es : List ℕ) → lowered flows x es ≡ changed flows x (downs es)
-unfolding lowered changed
+lowered-changed : (flows : List ℕ) (x : ℕ) (es : List ℕ) → lowered flows x es ≡ changedAlong flows x (downs es)
+unfolding lowered changedAlong
 lowered-changed flows x [] = refl
 lowered-changed flows x (e ∷ es) = lowered-changed (set flows e (getD flows e 0 - x)) x es
 
@@ -158,7 +158,7 @@ module _ (tails heads flows : List ℕ) where
     fits : Fits flows (least es) (downs es)
     fits = fits-downs flows (least es) es (c .edge) (smallest-each flows (getD flows (getD es 0 0) 0) es) (c .distinct)
 
-    is-changed : lowerCycle flows es ≡ changed flows (least es) (downs es)
+    is-changed : lowerCycle flows es ≡ changedAlong flows (least es) (downs es)
     unfolding lowerCycle
     is-changed = lowered-changed flows (least es) es
 
@@ -181,7 +181,7 @@ module _ (tails heads flows : List ℕ) where
     lower-fewer =
         let a = least-attained es (c .some) in
         let d = a .edge in
-        let zero-now : getD (changed flows (least es) (downs es)) d 0 ≡ 0 =
+        let zero-now : getD (changedAlong flows (least es) (downs es)) d 0 ≡ 0 =
         changed-at flows (least es) (downs es) (down d) fits (in-downs d es (a .among)) ∙ omega (arith, a .value) in
         positives-fewer (lowerCycle flows es) flows d lower-long (λ g h. omega (arith, h, lower-below g)) (rw is-changed zero-now) (c .positive d (a .among))
 

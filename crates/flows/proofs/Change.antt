@@ -11,7 +11,7 @@ use lib.Seq.{getD-set-same, getD-set-other}
 use Rattle.lists.specs.Lists.{keyed, sumAt}
 use Rattle.lists.specs.Members.{has}
 use Rattle.lists.proofs.Pigeon.{has-nothing, has-here, has-later, has-cases, misses-both}
-use Rattle.flows.specs.Trails.{Step, down, up, edgeOf, edgesOf, startOf, endOf, changed, Trail, stay, go, Room, Fits}
+use Rattle.flows.specs.Trails.{Step, down, up, edgeOf, edgesOf, startOf, endOf, changedAlong, Trail, stay, go, Room, Fits}
 use Rattle.flows.proofs.Sums.{keyed-add, sum-set}
 
 -- the new flow of a step's edge
@@ -20,13 +20,13 @@ after flows x (down e) = getD flows e 0 - x
 after flows x (up e) = getD flows e 0 + x
 
 -- one step, then the others
-changed-step : (flows : List ℕ) (x : ℕ) (s : Step) (w : List Step) → changed flows x (s ∷ w) ≡ changed (set flows (edgeOf s) (after flows x s)) x w
-unfolding changed
+changed-step : (flows : List ℕ) (x : ℕ) (s : Step) (w : List Step) → changedAlong flows x (s ∷ w) ≡ changedAlong (set flows (edgeOf s) (after flows x s)) x w
+unfolding changedAlong
 changed-step flows x (down e) w = refl
 changed-step flows x (up e) w = refl
 
-pub changed-length : (flows : List ℕ) (x : ℕ) (w : List Step) → length (changed flows x w) ≡ length flows
-unfolding changed
+pub changed-length : (flows : List ℕ) (x : ℕ) (w : List Step) → length (changedAlong flows x w) ≡ length flows
+unfolding changedAlong
 changed-length flows x [] = refl
 changed-length flows x (s ∷ w) =
     ap length (changed-step flows x s w) ∙ changed-length (set flows (edgeOf s) (after flows x s)) x w ∙ length-set flows (edgeOf s) (after flows x s)
@@ -68,8 +68,8 @@ module _ (tails heads : List ℕ) where
 
   pub telescoped : {a b : ℕ} {w : List Step} (flows : List ℕ) (x v : ℕ) → Trail tails heads a w b → Fits flows x w
       → length tails ≡ length flows → length heads ≡ length flows
-      → sumAt heads (changed flows x w) v + sumAt tails flows v + keyed b v x ≡ sumAt heads flows v + sumAt tails (changed flows x w) v + keyed a v x
-  unfolding changed
+      → sumAt heads (changedAlong flows x w) v + sumAt tails flows v + keyed b v x ≡ sumAt heads flows v + sumAt tails (changedAlong flows x w) v + keyed a v x
+  unfolding changedAlong
   telescoped flows x v stay f lt lh = refl
   telescoped {w = _ ∷ w} flows x v (go s e t) f lt lh =
       let now = set flows (edgeOf s) (after flows x s) in
@@ -80,12 +80,12 @@ module _ (tails heads : List ℕ) where
 
   pub closed-trail : {a : ℕ} {w : List Step} (flows : List ℕ) (x v : ℕ) → Trail tails heads a w a → Fits flows x w
       → length tails ≡ length flows → length heads ≡ length flows
-      → sumAt heads (changed flows x w) v + sumAt tails flows v ≡ sumAt heads flows v + sumAt tails (changed flows x w) v
+      → sumAt heads (changedAlong flows x w) v + sumAt tails flows v ≡ sumAt heads flows v + sumAt tails (changedAlong flows x w) v
   closed-trail flows x v t f lt lh = omega (arith, telescoped flows x v t f lt lh)
 
 -- one edge: where no step goes over it, it keeps its flow
-pub changed-other : (flows : List ℕ) (x : ℕ) (w : List Step) (e : ℕ) → has e (edgesOf w) ≡ false → getD (changed flows x w) e 0 ≡ getD flows e 0
-unfolding changed
+pub changed-other : (flows : List ℕ) (x : ℕ) (w : List Step) (e : ℕ) → has e (edgesOf w) ≡ false → getD (changedAlong flows x w) e 0 ≡ getD flows e 0
+unfolding changedAlong
 changed-other flows x [] e h = refl
 changed-other flows x (s ∷ w) e h =
     let m = misses-both e (edgeOf s) (edgesOf w) h in
@@ -121,7 +121,7 @@ after-set : (flows : List ℕ) (x e y : ℕ) (s : Step) → edgeOf s ≢ e → a
 after-set flows x e y (down d) n = rw (getD-set-other flows e d y 0 n)
 after-set flows x e y (up d) n = rw (getD-set-other flows e d y 0 n)
 
-pub changed-at : (flows : List ℕ) (x : ℕ) (w : List Step) (s : Step) → Fits flows x w → In s w → getD (changed flows x w) (edgeOf s) 0 ≡ after flows x s
+pub changed-at : (flows : List ℕ) (x : ℕ) (w : List Step) (s : Step) → Fits flows x w → In s w → getD (changedAlong flows x w) (edgeOf s) 0 ≡ after flows x s
 changed-at flows x [] s f i = absurd i
 changed-at flows x (t ∷ w) s f (inl q) =
     let e = edgeOf t in

@@ -13,7 +13,7 @@ use Rattle.lists.specs.Choice.{both}
 use Rattle.lists.proofs.Laws.{Known, was-true, was-false, known, both-left, both-right, both-true}
 use Rattle.lists.proofs.Counts.{count-none, count-less, count-miss}
 use Rattle.graph.specs.Graph.{reached}
-use Rattle.flows.specs.Paths.{Positive, Path, here, on, Acyclic, Within, rank}
+use Rattle.flows.specs.Paths.{PositiveEdge, Path, here, on, Acyclic, Within, rank}
 use Rattle.flows.proofs.Reach.{reaching-sound, reaching-complete}
 
 module _ (tails heads flows : List ℕ) (n : ℕ) where
@@ -36,7 +36,7 @@ module _ (tails heads flows : List ℕ) (n : ℕ) where
   unfolding both
   counted-self v = rw (eq-eqb v v refl)
 
-  pub rank-rises : (a b : ℕ) → Within tails heads flows n → Acyclic tails heads flows → Positive tails heads flows a b
+  pub rank-rises : (a b : ℕ) → Within tails heads flows n → Acyclic tails heads flows → PositiveEdge tails heads flows a b
       → rank tails heads flows n a < rank tails heads flows n b
   unfolding rank
   rank-rises a b w acyclic d =

@@ -13,8 +13,8 @@ use borrow.Author.Tests.{ltb-true, ltb-false, lt-ltb}
 use Rattle.lists.specs.Choice.{pick, both}
 use Rattle.lists.proofs.Laws.{Known, was-true, was-false, known, eq-or-ne, pick-yes, pick-no, both-left, both-right, both-true}
 use Rattle.graph.specs.Graph.{opens, pass, passes, reached}
-use Rattle.graph.proofs.Turns.{passes-still}
-use Rattle.flows.specs.Paths.{Positive, Path, here, on, Within}
+use Rattle.graph.proofs.Loops.{passes-still}
+use Rattle.flows.specs.Paths.{PositiveEdge, Path, here, on, Within}
 
 -- ---- paths
 
@@ -23,11 +23,11 @@ path-join p here = p
 path-join p (on q d) = on (path-join p q) d
 
 -- an edge in front of a path
-pub path-first : {from to flows : List ℕ} {a b c : ℕ} → Positive from to flows a b → Path from to flows b c → Path from to flows a c
+pub path-first : {from to flows : List ℕ} {a b c : ℕ} → PositiveEdge from to flows a b → Path from to flows b c → Path from to flows a c
 path-first d p = path-join (on here d) p
 
 -- against the direction of the edges
-pub turned : {from to flows : List ℕ} {a b : ℕ} → Positive from to flows a b → Positive to from flows b a
+pub turned : {from to flows : List ℕ} {a b : ℕ} → PositiveEdge from to flows a b → PositiveEdge to from flows b a
 turned d = record { edge = d .edge; inside = d .inside; start = d .end; end = d .start; above = d .above }
 
 pub backward : {from to flows : List ℕ} {a b : ℕ} → Path from to flows a b → Path to from flows b a
@@ -61,17 +61,17 @@ record Grown (s r : List Bool) : Type 0 where
   long : length r ≡ length s
   more : members s ≤ members r
   same : members r ≡ members s → r ≡ s
-  keeps : (u : ℕ) → getD s u false ≡ true → getD r u false ≡ true
+  still-in : (u : ℕ) → getD s u false ≡ true → getD r u false ≡ true
 
 grown-refl : (s : List Bool) → Grown s s
-grown-refl s = record { long = refl; more = omega arith; same = λ e. refl; keeps = λ u m. m }
+grown-refl s = record { long = refl; more = omega arith; same = λ e. refl; still-in = λ u m. m }
 
 grown-trans : {a b c : List Bool} → Grown a b → Grown b c → Grown a c
 grown-trans p q = record {
   long = q .long ∙ p .long;
   more = omega arith;
   same = λ e. q .same (omega (arith, p .more, q .more)) ∙ p .same (omega (arith, p .more, q .more));
-  keeps = λ u m. q .keeps u (p .keeps u m);
+  still-in = λ u m. q .still-in u (p .still-in u m);
 }
 
 set-keeps : (s : List Bool) (v u : ℕ) → getD s u false ≡ true → getD (set s v true) u false ≡ true
@@ -98,7 +98,7 @@ set-same (true ∷ s) (suc v) e = ap (λ (l : List Bool). true ∷ l) (set-same 
 set-same (false ∷ s) (suc v) e = ap (λ (l : List Bool). false ∷ l) (set-same s v e)
 
 set-grown : (s : List Bool) (v : ℕ) → Grown s (set s v true)
-set-grown s v = record { long = length-set s v true; more = set-more s v; same = set-same s v; keeps = set-keeps s v }
+set-grown s v = record { long = length-set s v true; more = set-more s v; same = set-same s v; still-in = set-keeps s v }
 
 pick-grown : (t : Bool) (v : ℕ) (s : List Bool) → Grown s (pick t (set s v true) s)
 unfolding pick
@@ -124,7 +124,7 @@ module _ (from to flows : List ℕ) where
 
   -- ---- sound: whatever holds of the first members and passes on along positive edges holds of all members
 
-  module _ (P : ℕ → Type 0) (along : (a b : ℕ) → Positive from to flows a b → P a → P b) where
+  module _ (P : ℕ → Type 0) (along : (a b : ℕ) → PositiveEdge from to flows a b → P a → P b) where
     abbrev Only : List Bool → Type 0
     Only s = (u : ℕ) → getD s u false ≡ true → P u
 
@@ -138,7 +138,7 @@ module _ (from to flows : List ℕ) where
         member : Bool
         member = getD s (getD from e 0) false
 
-        edge-e : both flow member ≡ true → Positive from to flows (getD from e 0) (getD to e 0)
+        edge-e : both flow member ≡ true → PositiveEdge from to flows (getD from e 0) (getD to e 0)
         edge-e t = record { edge = e; inside = h; start = refl; end = refl; above = ltb-true 0 (getD flows e 0) (both-left flow member t) }
 
         go : Known (opens from flows s e) → (u ≡ getD to e 0) ⊎ (u ≢ getD to e 0) → P u
@@ -228,7 +228,7 @@ module _ (from to flows : List ℕ) where
       passes-only (λ u. Path from to flows v u) (λ a b d p. on p d) n (set (replicate n false) v true) (λ u q. rw (start-alone n v u q) here)
 
   -- so n passes from one vertex of n close the set
-  reached-closed : (n v a b : ℕ) → Within from to flows n → v < n → Positive from to flows a b
+  reached-closed : (n v a b : ℕ) → Within from to flows n → v < n → PositiveEdge from to flows a b
       → getD (reached from to flows n v) a false ≡ true → getD (reached from to flows n v) b false ≡ true
   unfolding reached
   reached-closed n v a b w h d m = go (stages n s)
@@ -254,7 +254,7 @@ module _ (from to flows : List ℕ) where
   pub reached-complete : (n v u : ℕ) → Within from to flows n → v < n → Path from to flows v u → getD (reached from to flows n v) u false ≡ true
   unfolding reached
   reached-complete n v u w h here =
-      passes-grown n s .keeps v (getD-set-same (replicate n false) v true false (omega (arith, length-replicate n false)))
+      passes-grown n s .still-in v (getD-set-same (replicate n false) v true false (omega (arith, length-replicate n false)))
     where
       s : List Bool
       s = set (replicate n false) v true

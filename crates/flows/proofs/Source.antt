@@ -11,23 +11,23 @@ use lib.ListN.{length, getD}
 use Rattle.lists.specs.Lists.{sumAt}
 use Rattle.lists.proofs.Laws.{eq-or-ne}
 use Rattle.graph.specs.Graph.{reached}
-use Rattle.flows.specs.Paths.{Positive, Path, here, on, Acyclic, Within, rank}
+use Rattle.flows.specs.Paths.{PositiveEdge, Path, here, on, Acyclic, Within, rank}
 use Rattle.flows.proofs.Sums.{Entry, sum-entry, entry-within}
 use Rattle.flows.proofs.Reach.{reached-complete}
 use Rattle.flows.proofs.Rank.{rank-rises, rank-none}
 
 -- a vertex with inflow has a positive edge into it, and the tail of a positive edge has outflow
-pub edge-into : (tails heads flows : List ℕ) (v : ℕ) (i : Entry heads flows v) → Positive tails heads flows (getD tails (i .e) 0) v
+pub edge-into : (tails heads flows : List ℕ) (v : ℕ) (i : Entry heads flows v) → PositiveEdge tails heads flows (getD tails (i .e) 0) v
 edge-into tails heads flows v i = record { edge = i .e; inside = i .in-values; start = refl; end = i .key; above = i .above }
 
-pub tail-outflow : (tails heads flows : List ℕ) (a b : ℕ) → length tails ≡ length flows → Positive tails heads flows a b → 0 < sumAt tails flows a
+pub tail-outflow : (tails heads flows : List ℕ) (a b : ℕ) → length tails ≡ length flows → PositiveEdge tails heads flows a b → 0 < sumAt tails flows a
 tail-outflow tails heads flows a b long d =
     omega (arith, d .above, d .inside, entry-within tails flows a (d .edge) (omega (arith, d .inside)) (d .inside) (d .start))
 
 module _ (tails heads flows : List ℕ) (n source : ℕ) (need : ℕ → ℕ)
     (long : length tails ≡ length flows) (within : Within tails heads flows n) (acyclic : Acyclic tails heads flows)
     (balance : (v : ℕ) → v < n → (v ≡ source → ⊥) → sumAt heads flows v ≡ sumAt tails flows v + need v) where
-  tail-below : (a b : ℕ) → Positive tails heads flows a b → a < n
+  tail-below : (a b : ℕ) → PositiveEdge tails heads flows a b → a < n
   tail-below a b d = rw (d .start) at (within .start (d .edge) (d .inside))
 
   -- by induction over a bound k of the rank
@@ -41,7 +41,7 @@ module _ (tails heads flows : List ℕ) (n source : ℕ) (need : ℕ → ℕ)
       u : ℕ
       u = getD tails (i .e) 0
 
-      d : Positive tails heads flows u v
+      d : PositiveEdge tails heads flows u v
       d = edge-into tails heads flows v i
 
       go : (u ≡ source) ⊎ (u ≢ source)
@@ -56,7 +56,7 @@ module _ (tails heads flows : List ℕ) (n source : ℕ) (need : ℕ → ℕ)
   pub fed : (v : ℕ) → v < n → 0 < sumAt heads flows v → Path tails heads flows source v
   fed v h g = fed-by (suc (rank tails heads flows n v)) v (omega arith) h g
 
-  pub none-enters : (a : ℕ) → Positive tails heads flows a source → ⊥
+  pub none-enters : (a : ℕ) → PositiveEdge tails heads flows a source → ⊥
   none-enters a d = go (eq-or-ne a source)
     where
       below : a < n

@@ -11,7 +11,7 @@ use Rattle.graph.specs.Graph.{reached}
 
 module _ (from to flows : List ℕ) where
   -- a positive edge from a to b
-  pub record Positive (a b : ℕ) : Type 0 where
+  pub record PositiveEdge (a b : ℕ) : Type 0 where
     pub edge : ℕ
     pub inside : edge < length flows
     pub start : getD from edge 0 ≡ a
@@ -21,17 +21,17 @@ module _ (from to flows : List ℕ) where
   -- a path over positive edges
   pub data Path : ℕ → ℕ → Type 0 where
     here : {a : ℕ} → Path a a
-    on : {a b c : ℕ} → Path a b → Positive b c → Path a c
+    on : {a b c : ℕ} → Path a b → PositiveEdge b c → Path a c
 
   -- a path with an edge, which it starts with; from a vertex to itself: the vertex is on a cycle
   pub record First (a c : ℕ) : Type 0 where
     pub next : ℕ
-    pub edge : Positive a next
+    pub edge : PositiveEdge a next
     pub rest : Path next c
 
   -- no positive edge is on a cycle
   abbrev pub Acyclic : Type 0
-  Acyclic = (a b : ℕ) → Positive a b → Path b a → ⊥
+  Acyclic = (a b : ℕ) → PositiveEdge a b → Path b a → ⊥
 
   -- at most one positive edge leaves v
   abbrev pub OneLeaves : ℕ → Type 0

@@ -35,10 +35,10 @@ endOf tails heads (down e) = getD heads e 0
 endOf tails heads (up e) = getD tails e 0
 
 -- the flows, lowered by x on each down-step and raised by x on each up-step
-unfoldable pub changed : List ℕ → ℕ → List Step → List ℕ
-changed flows x [] = flows
-changed flows x (down e ∷ w) = changed (set flows e (getD flows e 0 - x)) x w
-changed flows x (up e ∷ w) = changed (set flows e (getD flows e 0 + x)) x w
+unfoldable pub changedAlong : List ℕ → ℕ → List Step → List ℕ
+changedAlong flows x [] = flows
+changedAlong flows x (down e ∷ w) = changedAlong (set flows e (getD flows e 0 - x)) x w
+changedAlong flows x (up e ∷ w) = changedAlong (set flows e (getD flows e 0 + x)) x w
 
 -- each step starts where the last one ended; the steps lead from a to b
 pub data Trail (tails heads : List ℕ) : ℕ → List Step → ℕ → Type 0 where

@@ -1,5 +1,5 @@
--- Rows of bits are as many sets at once: column v, the vertices whose row has v, goes through the very steps of the set of the vertices that can be
--- reached from v. Where the row of an edge's start joins the row of its end, column v gains that end exactly where it has the start.
+-- A bitset for each vertex is as many sets at once: column v, the vertices whose bitset has v, goes through the very steps of the set of the vertices that can be
+-- reached from v. Where the bitset of an edge's start joins the bitset of its end, column v gains that end exactly where it has the start.
 use mathlib.Core.Path.{_≡_, refl, sym, ap, _∙_}
 use mathlib.Core.Bool.{Bool, true, false}
 use mathlib.Core.List.{List, [], _∷_}
@@ -15,24 +15,24 @@ use Rattle.lists.proofs.Laws.{Known, was-true, was-false, known, eq-or-ne, pick
 use Rattle.sets.specs.Sets.{hasBit, withBit, joined}
 use Rattle.sets.proofs.Bits.{has-none, has-joined, has-with-same, has-with-other}
 use Rattle.graph.specs.Graph.{opens}
-use Rattle.graph.specs.Rows.{column}
+use Rattle.graph.specs.Bitsets.{column}
 
-pub column-length : (rows : List ℕ) (v : ℕ) → length (column rows v) ≡ length rows
+pub column-length : (bitsets : List ℕ) (v : ℕ) → length (column bitsets v) ≡ length bitsets
 unfolding column
 column-length [] v = refl
-column-length (r ∷ rows) v = ap suc (column-length rows v)
+column-length (r ∷ bitsets) v = ap suc (column-length bitsets v)
 
-pub column-at : (rows : List ℕ) (v u : ℕ) → getD (column rows v) u false ≡ hasBit (getD rows u 0) v
+pub column-at : (bitsets : List ℕ) (v u : ℕ) → getD (column bitsets v) u false ≡ hasBit (getD bitsets u 0) v
 unfolding column
 column-at [] v u = sym (has-none v)
-column-at (r ∷ rows) v zero = refl
-column-at (r ∷ rows) v (suc u) = column-at rows v u
+column-at (r ∷ bitsets) v zero = refl
+column-at (r ∷ bitsets) v (suc u) = column-at bitsets v u
 
-column-set : (rows : List ℕ) (u x v : ℕ) → column (set rows u x) v ≡ set (column rows v) u (hasBit x v)
+column-set : (bitsets : List ℕ) (u x v : ℕ) → column (set bitsets u x) v ≡ set (column bitsets v) u (hasBit x v)
 unfolding column
 column-set [] u x v = refl
-column-set (r ∷ rows) zero x v = refl
-column-set (r ∷ rows) (suc u) x v = ap (λ (l : List Bool). hasBit r v ∷ l) (column-set rows u x v)
+column-set (r ∷ bitsets) zero x v = refl
+column-set (r ∷ bitsets) (suc u) x v = ap (λ (l : List Bool). hasBit r v ∷ l) (column-set bitsets u x v)
 
 pub either-true : (a : Bool) → either a true ≡ true
 unfolding either
@@ -44,35 +44,35 @@ unfolding either
 either-false true = refl
 either-false false = refl
 
--- the row of u takes in the row of w
-column-joined : (rows : List ℕ) (u w v : ℕ)
-    → column (set rows u (joined (getD rows u 0) (getD rows w 0))) v ≡ pick (getD (column rows v) w false) (set (column rows v) u true) (column rows v)
-column-joined rows u w v = go (known (hasBit (getD rows w 0) v))
+-- the bitset of u takes in the bitset of w
+column-joined : (bitsets : List ℕ) (u w v : ℕ)
+    → column (set bitsets u (joined (getD bitsets u 0) (getD bitsets w 0))) v ≡ pick (getD (column bitsets v) w false) (set (column bitsets v) u true) (column bitsets v)
+column-joined bitsets u w v = go (known (hasBit (getD bitsets w 0) v))
   where
-    both-rows : column (set rows u (joined (getD rows u 0) (getD rows w 0))) v ≡ set (column rows v) u (either (hasBit (getD rows u 0) v) (hasBit (getD rows w 0) v))
-    both-rows = column-set rows u _ v ∙ ap (λ (b : Bool). set (column rows v) u b) (has-joined (getD rows u 0) (getD rows w 0) v)
+    both-bitsets : column (set bitsets u (joined (getD bitsets u 0) (getD bitsets w 0))) v ≡ set (column bitsets v) u (either (hasBit (getD bitsets u 0) v) (hasBit (getD bitsets w 0) v))
+    both-bitsets = column-set bitsets u _ v ∙ ap (λ (b : Bool). set (column bitsets v) u b) (has-joined (getD bitsets u 0) (getD bitsets w 0) v)
 
-    go : Known (hasBit (getD rows w 0) v)
-        → column (set rows u (joined (getD rows u 0) (getD rows w 0))) v ≡ pick (getD (column rows v) w false) (set (column rows v) u true) (column rows v)
+    go : Known (hasBit (getD bitsets w 0) v)
+        → column (set bitsets u (joined (getD bitsets u 0) (getD bitsets w 0))) v ≡ pick (getD (column bitsets v) w false) (set (column bitsets v) u true) (column bitsets v)
     go (was-true t) =
-        both-rows
-        ∙ ap (λ (b : Bool). set (column rows v) u b) (ap (either (hasBit (getD rows u 0) v)) t ∙ either-true _)
-        ∙ sym (pick-yes _ _ _ (column-at rows v w ∙ t))
+        both-bitsets
+        ∙ ap (λ (b : Bool). set (column bitsets v) u b) (ap (either (hasBit (getD bitsets u 0) v)) t ∙ either-true _)
+        ∙ sym (pick-yes _ _ _ (column-at bitsets v w ∙ t))
     go (was-false t) =
-        both-rows
-        ∙ ap (λ (b : Bool). set (column rows v) u b) (ap (either (hasBit (getD rows u 0) v)) t ∙ either-false _ ∙ sym (column-at rows v u))
-        ∙ set-getD (column rows v) u false
-        ∙ sym (pick-no _ _ _ (column-at rows v w ∙ t))
+        both-bitsets
+        ∙ ap (λ (b : Bool). set (column bitsets v) u b) (ap (either (hasBit (getD bitsets u 0) v)) t ∙ either-false _ ∙ sym (column-at bitsets v u))
+        ∙ set-getD (column bitsets v) u false
+        ∙ sym (pick-no _ _ _ (column-at bitsets v w ∙ t))
 
 -- one edge of a pass
-pub column-turn : (from to flows rows r : List ℕ) (e v : ℕ)
-    → r ≡ pick (ltb 0 (getD flows e 0)) (set rows (getD to e 0) (joined (getD rows (getD to e 0) 0) (getD rows (getD from e 0) 0))) rows
-    → column r v ≡ pick (opens from flows (column rows v) e) (set (column rows v) (getD to e 0) true) (column rows v)
+pub column-turn : (from to flows bitsets r : List ℕ) (e v : ℕ)
+    → r ≡ pick (ltb 0 (getD flows e 0)) (set bitsets (getD to e 0) (joined (getD bitsets (getD to e 0) 0) (getD bitsets (getD from e 0) 0))) bitsets
+    → column r v ≡ pick (opens from flows (column bitsets v) e) (set (column bitsets v) (getD to e 0) true) (column bitsets v)
 unfolding opens both
-column-turn from to flows rows r e v q = go (known (ltb 0 (getD flows e 0)))
+column-turn from to flows bitsets r e v q = go (known (ltb 0 (getD flows e 0)))
   where
-    go : Known (ltb 0 (getD flows e 0)) → column r v ≡ pick (opens from flows (column rows v) e) (set (column rows v) (getD to e 0) true) (column rows v)
-    go (was-true t) = rw (q, t) (ap (λ (l : List ℕ). column l v) (pick-yes _ _ _ refl) ∙ column-joined rows (getD to e 0) (getD from e 0) v)
+    go : Known (ltb 0 (getD flows e 0)) → column r v ≡ pick (opens from flows (column bitsets v) e) (set (column bitsets v) (getD to e 0) true) (column bitsets v)
+    go (was-true t) = rw (q, t) (ap (λ (l : List ℕ). column l v) (pick-yes _ _ _ refl) ∙ column-joined bitsets (getD to e 0) (getD from e 0) v)
     go (was-false t) = rw (q, t) (ap (λ (l : List ℕ). column l v) (pick-no _ _ _ refl) ∙ sym (pick-no _ _ _ refl))
 
 -- one more element stored, where those before it are f of their index
@@ -84,34 +84,34 @@ stored-more f l i a d inside before e k h = go (eq-or-ne k i)
     go (inl s) = rw s (getD-set-same l i a d inside ∙ e)
     go (inr n) = getD-set-other l i k a d n ∙ before k (omega (arith, n))
 
--- each vertex alone in its row
-pub column-alone : (rows : List ℕ) (n v : ℕ) → length rows ≡ n → ((u : ℕ) → u < n → getD rows u 0 ≡ withBit 0 u) → v < n
-    → column rows v ≡ set (replicate n false) v true
-column-alone rows n v size alone inside =
-    ext-getD false (column rows v) (set (replicate n false) v true)
-    (column-length rows v ∙ size ∙ sym (length-set (replicate n false) v true ∙ length-replicate n false))
-    (λ u h. go u (omega (arith, column-length rows v)) (eq-or-ne u v))
+-- each vertex alone in its bitset
+pub column-alone : (bitsets : List ℕ) (n v : ℕ) → length bitsets ≡ n → ((u : ℕ) → u < n → getD bitsets u 0 ≡ withBit 0 u) → v < n
+    → column bitsets v ≡ set (replicate n false) v true
+column-alone bitsets n v size alone inside =
+    ext-getD false (column bitsets v) (set (replicate n false) v true)
+    (column-length bitsets v ∙ size ∙ sym (length-set (replicate n false) v true ∙ length-replicate n false))
+    (λ u h. go u (omega (arith, column-length bitsets v)) (eq-or-ne u v))
   where
-    go : (u : ℕ) → u < n → (u ≡ v) ⊎ (u ≢ v) → getD (column rows v) u false ≡ getD (set (replicate n false) v true) u false
+    go : (u : ℕ) → u < n → (u ≡ v) ⊎ (u ≢ v) → getD (column bitsets v) u false ≡ getD (set (replicate n false) v true) u false
     go u h (inl e) =
         let long : v < length (replicate n false) = omega (arith, length-replicate n false) in
-        rw e (column-at rows v v ∙ ap (λ (r : ℕ). hasBit r v) (alone v inside) ∙ has-with-same 0 v ∙ sym (getD-set-same (replicate n false) v true false long))
+        rw e (column-at bitsets v v ∙ ap (λ (r : ℕ). hasBit r v) (alone v inside) ∙ has-with-same 0 v ∙ sym (getD-set-same (replicate n false) v true false long))
     go u h (inr ne) =
-        column-at rows v u
+        column-at bitsets v u
         ∙ ap (λ (r : ℕ). hasBit r v) (alone u h)
         ∙ has-with-other 0 u v (λ e. ne (sym e))
         ∙ has-none v
         ∙ sym (getD-set-other (replicate n false) v u true false ne ∙ getD-replicate n u false false h)
 
 -- a set that agrees with the column at every vertex
-pub column-made : (rows : List ℕ) (v : ℕ) (seen : List Bool) → length seen ≡ length rows
-    → ((u : ℕ) → u < length rows → getD seen u false ≡ getD (column rows v) u false) → seen ≡ column rows v
-column-made rows v seen size same =
-    ext-getD false seen (column rows v) (size ∙ sym (column-length rows v)) (λ u h. same u (omega arith))
+pub column-made : (bitsets : List ℕ) (v : ℕ) (seen : List Bool) → length seen ≡ length bitsets
+    → ((u : ℕ) → u < length bitsets → getD seen u false ≡ getD (column bitsets v) u false) → seen ≡ column bitsets v
+column-made bitsets v seen size same =
+    ext-getD false seen (column bitsets v) (size ∙ sym (column-length bitsets v)) (λ u h. same u (omega arith))
 
--- a row that is stored anew stays the same
-pub stored-same : (rows : List ℕ) (u x : ℕ) → x ≡ getD rows u 0 → set rows u x ≡ rows
-stored-same rows u x e = ap (λ (r : ℕ). set rows u r) e ∙ set-getD rows u 0
+-- a bitset that is stored anew stays the same
+pub stored-same : (bitsets : List ℕ) (u x : ℕ) → x ≡ getD bitsets u 0 → set bitsets u x ≡ bitsets
+stored-same bitsets u x e = ap (λ (r : ℕ). set bitsets u r) e ∙ set-getD bitsets u 0
 
 -- an edge that is crossed: only a positive one
 module _ {A : Type 0} (x : ℕ) (a b : A) where

@@ -1,4 +1,4 @@
--- The edges that lead on, as a set for each vertex: edge e joins the row of the vertex that it leaves, and no other. So the row of v collects the edges
+-- The edges that lead on, as a set for each vertex: edge e joins the bitset of the vertex that it leaves, and no other. So the bitset of v collects the edges
 -- that lead on from v, and its lowest number is the lowest such edge.
 use mathlib.Core.Path.{_≡_, refl, sym, ap, _∙_}
 use mathlib.Core.Bool.{Bool, true, false, true≢false}
@@ -42,29 +42,29 @@ module _ (from to flows : List ℕ) (s : List Bool) (e : ℕ) where
   unfolding leads both
   leads-here v some inside h = let above : 0 < getD flows e 0 = omega (arith, some) in rw (lt-ltb 0 (getD flows e 0) above, eq-eqb (getD from e 0) v h, inside)
 
-  module _ (rows : List ℕ) where
+  module _ (bitsets : List ℕ) where
     -- edge e does not lead on, from any vertex
-    stayed : (v : ℕ) → leads from to flows s v e ≡ false → getD rows v 0 ≡ pick (leads from to flows s v e) (withBit (getD rows v 0) e) (getD rows v 0)
+    stayed : (v : ℕ) → leads from to flows s v e ≡ false → getD bitsets v 0 ≡ pick (leads from to flows s v e) (withBit (getD bitsets v 0) e) (getD bitsets v 0)
     stayed v h = sym (pick-no _ _ _ h)
 
-    pub left-zero : getD flows e 0 ≡ 0 → (v : ℕ) → getD rows v 0 ≡ pick (leads from to flows s v e) (withBit (getD rows v 0) e) (getD rows v 0)
+    pub left-zero : getD flows e 0 ≡ 0 → (v : ℕ) → getD bitsets v 0 ≡ pick (leads from to flows s v e) (withBit (getD bitsets v 0) e) (getD bitsets v 0)
     left-zero h v = stayed v (leads-zero v h)
 
     pub left-outside : getD s (getD to e 0) false ≡ false → (v : ℕ)
-        → getD rows v 0 ≡ pick (leads from to flows s v e) (withBit (getD rows v 0) e) (getD rows v 0)
+        → getD bitsets v 0 ≡ pick (leads from to flows s v e) (withBit (getD bitsets v 0) e) (getD bitsets v 0)
     left-outside h v = stayed v (leads-outside v h)
 
     pub left : (r : List ℕ) → (getD flows e 0 ≡ 0 → ⊥) → getD s (getD to e 0) false ≡ true
-        → r ≡ set rows (getD from e 0) (withBit (getD rows (getD from e 0) 0) e) → (v : ℕ) → v < length rows
-        → getD r v 0 ≡ pick (leads from to flows s v e) (withBit (getD rows v 0) e) (getD rows v 0)
+        → r ≡ set bitsets (getD from e 0) (withBit (getD bitsets (getD from e 0) 0) e) → (v : ℕ) → v < length bitsets
+        → getD r v 0 ≡ pick (leads from to flows s v e) (withBit (getD bitsets v 0) e) (getD bitsets v 0)
     left r some inside q v h = ap (λ (l : List ℕ). getD l v 0) q ∙ go (eq-or-ne (getD from e 0) v)
       where
-        go : (getD from e 0 ≡ v) ⊎ (getD from e 0 ≢ v) → getD (set rows (getD from e 0) (withBit (getD rows (getD from e 0) 0) e)) v 0
-            ≡ pick (leads from to flows s v e) (withBit (getD rows v 0) e) (getD rows v 0)
-        go (inl t) = sym (pick-yes _ _ _ (leads-here v some inside t) ∙ sym (rw t (getD-set-same rows v (withBit (getD rows v 0) e) 0 h)))
-        go (inr n) = getD-set-other rows (getD from e 0) v _ 0 (λ t. n (sym t)) ∙ stayed v (leads-other v n)
+        go : (getD from e 0 ≡ v) ⊎ (getD from e 0 ≢ v) → getD (set bitsets (getD from e 0) (withBit (getD bitsets (getD from e 0) 0) e)) v 0
+            ≡ pick (leads from to flows s v e) (withBit (getD bitsets v 0) e) (getD bitsets v 0)
+        go (inl t) = sym (pick-yes _ _ _ (leads-here v some inside t) ∙ sym (rw t (getD-set-same bitsets v (withBit (getD bitsets v 0) e) 0 h)))
+        go (inr n) = getD-set-other bitsets (getD from e 0) v _ 0 (λ t. n (sym t)) ∙ stayed v (leads-other v n)
 
--- collecting into a row that is empty, and one edge of it
+-- collecting into a bitset that is empty, and one edge of it
 pub collect-none : (p : ℕ → Bool) (m n : ℕ) → m ≡ 0 → collect p m 0 (n - 0) ≡ collect p 0 0 n
 collect-none p m n e = rw (e, sub-zero)
 
@@ -98,19 +98,19 @@ module _ (p q : ℕ → Bool) (n k r : ℕ) (fits : n ≤ k) (same : (u : ℕ) �
   cut-none h = sym (lowest-is p n n (omega arith) (λ l. absurd (omega arith)) (λ u l. sym (same u l) ∙ least .miss u (omega arith) (omega arith)))
 
 module _ (from to flows : List ℕ) (s : List Bool) (v : ℕ) where
-  -- the lowest edge of the row of v
-  pub onward-made : (row e : ℕ) → length flows ≤ setWidth → row ≡ collect (leads from to flows s v) 0 0 (length flows)
-      → e ≡ pick (ltb (lowest (hasBit row) 0 setWidth) (length flows)) (lowest (hasBit row) 0 setWidth) (length flows) → e ≡ onward from to flows s v
+  -- the lowest edge of the bitset of v
+  pub onward-made : (bitset e : ℕ) → length flows ≤ setWidth → bitset ≡ collect (leads from to flows s v) 0 0 (length flows)
+      → e ≡ pick (ltb (lowest (hasBit bitset) 0 setWidth) (length flows)) (lowest (hasBit bitset) 0 setWidth) (length flows) → e ≡ onward from to flows s v
   unfolding onward
-  onward-made row e fits p q = q ∙ go (lt-or-ge (lowest (hasBit row) 0 setWidth) (length flows))
+  onward-made bitset e fits p q = q ∙ go (lt-or-ge (lowest (hasBit bitset) 0 setWidth) (length flows))
     where
-      same : (u : ℕ) → u < length flows → hasBit row u ≡ leads from to flows s v u
+      same : (u : ℕ) → u < length flows → hasBit bitset u ≡ leads from to flows s v u
       same u h = rw p (collected (leads from to flows s v) (length flows) u h)
 
-      go : (lowest (hasBit row) 0 setWidth < length flows) ⊎ (length flows ≤ lowest (hasBit row) 0 setWidth)
-          → pick (ltb (lowest (hasBit row) 0 setWidth) (length flows)) (lowest (hasBit row) 0 setWidth) (length flows) ≡ onward from to flows s v
-      go (inl h) = pick-yes _ _ _ (lt-ltb _ _ h) ∙ cut-found (leads from to flows s v) (hasBit row) (length flows) setWidth _ fits same refl h
-      go (inr h) = pick-no _ _ _ (le-ltb _ _ h) ∙ cut-none (leads from to flows s v) (hasBit row) (length flows) setWidth _ fits same refl h
+      go : (lowest (hasBit bitset) 0 setWidth < length flows) ⊎ (length flows ≤ lowest (hasBit bitset) 0 setWidth)
+          → pick (ltb (lowest (hasBit bitset) 0 setWidth) (length flows)) (lowest (hasBit bitset) 0 setWidth) (length flows) ≡ onward from to flows s v
+      go (inl h) = pick-yes _ _ _ (lt-ltb _ _ h) ∙ cut-found (leads from to flows s v) (hasBit bitset) (length flows) setWidth _ fits same refl h
+      go (inr h) = pick-no _ _ _ (le-ltb _ _ h) ∙ cut-none (leads from to flows s v) (hasBit bitset) (length flows) setWidth _ fits same refl h
 
   -- the edge that leads on ends in the set; past the edges the end is 0
   pub onward-inside : length to ≤ length flows → 0 < length s → getD to (onward from to flows s v) 0 < length s
@@ -127,7 +127,7 @@ module _ (from to flows : List ℕ) (s : List Bool) (v : ℕ) where
           inside (getD to (onward from to flows s v) 0) (both-right _ _ (both-right _ _ t)) (lt-or-ge _ _)
       go (inr h) = let long : length to ≤ onward from to flows s v = omega arith in rw (List·getD-eq-default to 0 long) some
 
--- the lowest number of a row, where it is an edge
+-- the lowest number of a bitset, where it is an edge
 module _ (low count e : ℕ) (q : e ≡ low) where
   pub lowest-taken : e < count → e ≡ pick (ltb low count) low count
   lowest-taken h = q ∙ sym (pick-yes _ _ _ (lt-ltb _ _ (rw q at h)))

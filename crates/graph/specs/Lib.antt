@@ -1,2 +1,2 @@
 pub mod Graph
-pub mod Rows
+pub mod Bitsets

@@ -18,8 +18,8 @@ use Rattle.journal.specs.Moved.{lastEntry}
 
 -- an edge's numbers fit; its acyclic flow is at most the text's, and where that is 0 its flow is 0
 abbrev pub edgeNumbersIntact : Bool → ℕ → ℕ → ℕ → ℕ → ℕ → ℕ → Bool
-edgeNumbersIntact isEdge tail head text first flow vertices =
-    both (edgeNumbersFit isEdge tail head text vertices) (both (leb first text) (pick (eqb first 0) (eqb flow 0) (leb flow maxTotal)))
+edgeNumbersIntact isEdge tail head text acyclic flow vertices =
+    both (edgeNumbersFit isEdge tail head text vertices) (both (leb acyclic text) (pick (eqb acyclic 0) (eqb flow 0) (leb flow maxTotal)))
 
 -- the same at place i of a network, the acyclic flows and the flows
 abbrev pub edgeIntactIn : Network → List ℕ → List ℕ → ℕ → Bool

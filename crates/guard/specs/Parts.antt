@@ -9,8 +9,8 @@ use Rattle.board.specs.declared.Board.{Board}
 abbrev pub flow : Board → ℕ → ℕ
 flow b e = getD (b .flows) e 0
 
-abbrev pub first : Board → ℕ → ℕ
-first b e = getD (b .acyclic) e 0
+abbrev pub acyclicFlow : Board → ℕ → ℕ
+acyclicFlow b e = getD (b .acyclic) e 0
 
 abbrev pub tail : Board → ℕ → ℕ
 tail b e = getD (b .network .tails) e 0

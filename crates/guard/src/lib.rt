@@ -10,10 +10,10 @@ ghost use Rattle.board.specs.Limits.{maxEdges, maxTerminals, maxTotal};
 ghost use Rattle.guard.specs.Guard.{edgeNumbersIntact, edgeIntactIn, terminalNumbersIntact, terminalIntactIn, moveIntact, intactIn, intact, playing};
 
 // Whether an edge's flow is small, and 0 where its acyclic flow is.
-fn small_flow(first: u32, flow: u32) -> bool
-    ensures { λ r. ⌜ r ≡ pick (eqb first 0) (eqb flow 0) (leb flow maxTotal) ⌝ }
+fn small_flow(acyclic: u32, flow: u32) -> bool
+    ensures { λ r. ⌜ r ≡ pick (eqb acyclic 0) (eqb flow 0) (leb flow maxTotal) ⌝ }
 {
-    if first == 0 {
+    if acyclic == 0 {
         flow == 0
     } else {
         flow <= Board::MAX_TOTAL
@@ -26,15 +26,15 @@ fn edge_intact(
     tail: u32,
     head: u32,
     text: u32,
-    first: u32,
+    acyclic: u32,
     flow: u32,
     vertices: u32,
 ) -> bool
-    ensures { λ r. ⌜ r ≡ edgeNumbersIntact «is_edge» tail head text first flow vertices ⌝ }
+    ensures { λ r. ⌜ r ≡ edgeNumbersIntact «is_edge» tail head text acyclic flow vertices ⌝ }
 {
     let fits = rules::edge_numbers_fit(is_edge, tail, head, text, vertices);
-    let small = small_flow(first, flow);
-    lists::and(fits, lists::and(first <= text, small))
+    let small = small_flow(acyclic, flow);
+    lists::and(fits, lists::and(acyclic <= text, small))
 }
 
 // Whether every edge is intact.

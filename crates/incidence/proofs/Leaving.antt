@@ -20,7 +20,7 @@ use Rattle.sets.proofs.Bits.{has-none}
 use Rattle.sets.proofs.Scan.{has-dropped, lowest-below, lowest-has}
 use Rattle.board.specs.Limits.{maxVertices, maxEdges}
 use Rattle.singular.specs.Singular.{leaves, leaving}
-use Rattle.incidence.specs.Incidence.{Incident, Positive, touchingAt}
+use Rattle.incidence.specs.Incidence.{Incident, PositiveSet, touchingAt}
 use Rattle.incidence.proofs.Meeting.{touching-is}
 
 dropped-most : (m c : ℕ) → dropped m c ≤ m
@@ -31,7 +31,7 @@ dropped-most m c = go (known (hasBit m c))
     go (was-true t) = rw (pick-yes (hasBit m c) (m - 2 ^ c) m t) (omega arith)
     go (was-false t) = rw (pick-no (hasBit m c) (m - 2 ^ c) m t) (omega arith)
 
-module _ (ends flows edges : List ℕ) (positive v : ℕ) (at : Incident ends edges) (is-positive : Positive flows positive) (small : v < maxVertices)
+module _ (ends flows edges : List ℕ) (positive v : ℕ) (at : Incident ends edges) (is-positive : PositiveSet flows positive) (small : v < maxVertices)
     (fits : positive < 2 ^ setWidth) (long : length flows ≡ maxEdges) where
   abbrev here : ℕ
   here = touchingAt edges positive v

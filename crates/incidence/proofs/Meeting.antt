@@ -17,7 +17,7 @@ use Rattle.sets.proofs.Bits.{has-past}
 use Rattle.sets.proofs.Scan.{has-common}
 use Rattle.board.specs.Limits.{maxVertices, maxEdges}
 use Rattle.singular.specs.Singular.{leaves}
-use Rattle.incidence.specs.Incidence.{Incident, Positive, touchingAt}
+use Rattle.incidence.specs.Incidence.{Incident, PositiveSet, touchingAt}
 
 both-swap : (a b : Bool) → both a b ≡ both b a
 unfolding both
@@ -31,7 +31,7 @@ pub leaves-past : (ends flows : List ℕ) (v e : ℕ) → length flows ≤ e →
 unfolding leaves both
 leaves-past ends flows v e h = rw (List·getD-eq-default flows 0 h, le-ltb 0 0 (omega arith))
 
-module _ (ends flows edges : List ℕ) (positive v : ℕ) (at : Incident ends edges) (is-positive : Positive flows positive) (small : v < maxVertices) where
+module _ (ends flows edges : List ℕ) (positive v : ℕ) (at : Incident ends edges) (is-positive : PositiveSet flows positive) (small : v < maxVertices) where
   pub touching-at : (e : ℕ) → e < maxEdges → hasBit (touchingAt edges positive v) e ≡ leaves ends flows v e
   unfolding leaves
   touching-at e h = has-common (getD edges v 0) positive e ∙ rw (at v e small h, is-positive e h) (both-swap (eqb (getD ends e 0) v) (ltb 0 (getD flows e 0)))

@@ -12,8 +12,8 @@ abbrev pub Incident : List ℕ → List ℕ → Type 0
 Incident ends sets = (v e : ℕ) → v < maxVertices → e < maxEdges → hasBit (getD sets v 0) e ≡ eqb (getD ends e 0) v
 
 -- the set has the wet channels
-abbrev pub Positive : List ℕ → ℕ → Type 0
-Positive flows m = (e : ℕ) → e < maxEdges → hasBit m e ≡ ltb 0 (getD flows e 0)
+abbrev pub PositiveSet : List ℕ → ℕ → Type 0
+PositiveSet flows m = (e : ℕ) → e < maxEdges → hasBit m e ≡ ltb 0 (getD flows e 0)
 
 -- the wet channels of the set of v
 abbrev pub touchingAt : List ℕ → ℕ → ℕ → ℕ

@@ -5,7 +5,7 @@ ghost use mathlib.Core.Path.{_≡_};
 ghost use Prim.Native.Nat.{_<_};
 ghost use lib.ListN.{getD, set};
 ghost use Rattle.sets.specs.Sets.{setWidth, withBit};
-ghost use Rattle.incidence.specs.Incidence.{Incident, Positive, touchingAt};
+ghost use Rattle.incidence.specs.Incidence.{Incident, PositiveSet, touchingAt};
 
 // Adds edge e to the set of vertex v, where there is such a vertex.
 fn join(edges: &mut [EdgeSet], v: u32, e: usize)
@@ -33,7 +33,7 @@ pub fn at_vertices(ends: [u32; Board::MAX_EDGES]) -> [EdgeSet; Board::MAX_VERTIC
 
 // The set of the positive edges.
 pub fn positive(flows: [u32; Board::MAX_EDGES]) -> EdgeSet
-    ensures { λ r. ⌜ Positive flows r ⌝ }
+    ensures { λ r. ⌜ PositiveSet flows r ⌝ }
 {
     let mut m: EdgeSet = 0;
     let mut e: usize = 0;

@@ -134,14 +134,14 @@ module _ (b : Board) where
       at (inl p) (inr q) = inr (record { terminal = i; below = omega arith; short = q .0; value = p ∙ q .1 })
 
   -- every edge of the steps is positive
-  abbrev Wet : List Step → Type 0
-  Wet w = (s : Step) → In s w → 0 < flow b (edgeOf s)
+  abbrev AllPositive : List Step → Type 0
+  AllPositive w = (s : Step) → In s w → 0 < flow b (edgeOf s)
 
   allowed-old : (a : ℕ) (s : Step) → 0 < flow b (edgeOf s) → 0 < a → Under a (allowed b a s)
   allowed-old a (down e) f p = smaller-so a (flow b e) f .old p
   allowed-old a (up e) f p = raise-old e a 0 (b .network .terminals) p
 
-  from-old : (a : ℕ) (w : List Step) → Wet w → 0 < a → Under a (amountFrom b a w)
+  from-old : (a : ℕ) (w : List Step) → AllPositive w → 0 < a → Under a (amountFrom b a w)
   unfolding amountFrom
   from-old a [] above p = (p, omega arith)
   from-old a (s ∷ w) above p =
@@ -149,7 +149,7 @@ module _ (b : Board) where
       under-trans a (allowed b a s) (amountFrom b (allowed b a s) w) u (from-old (allowed b a s) w (λ t i. above t (inr i)) (u .0))
 
   -- what one step bounds, the amount keeps
-  from-new : (a : ℕ) (w : List Step) (s : Step) (x : ℕ) → Wet w → In s w → ((c : ℕ) → Under x (allowed b c s)) → Under x (amountFrom b a w)
+  from-new : (a : ℕ) (w : List Step) (s : Step) (x : ℕ) → AllPositive w → In s w → ((c : ℕ) → Under x (allowed b c s)) → Under x (amountFrom b a w)
   unfolding amountFrom
   from-new a [] s x above i f = absurd i
   from-new a (t ∷ w) s x above (inl q) f =
@@ -179,7 +179,7 @@ module _ (b : Board) where
       at (inl q) = inl q
       at (inr l) = inr (lack-got e (inl refl) (rw zero-add at l))
 
-  from-one : (a : ℕ) (w : List Step) → Wet w → (amountFrom b a w ≡ a) ⊎ Got w (amountFrom b a w)
+  from-one : (a : ℕ) (w : List Step) → AllPositive w → (amountFrom b a w ≡ a) ⊎ Got w (amountFrom b a w)
   unfolding amountFrom
   from-one a [] above = inl refl
   from-one a (s ∷ w) above = at (from-one (allowed b a s) w (λ t i. above t (inr i))) (allowed-one a s w (above s (inl refl)))
@@ -191,7 +191,7 @@ module _ (b : Board) where
       at (inl p) (inr g) = inr (rw p g)
 
 -- the amount
-down-under : (b : Board) (w : List Step) (e : ℕ) → Wet b w → In (down e) w → Under (flow b e) (amount b w)
+down-under : (b : Board) (w : List Step) (e : ℕ) → AllPositive b w → In (down e) w → Under (flow b e) (amount b w)
 unfolding amount
 down-under b w e above i = from-new b 0 w (down e) (flow b e) above i (λ c. smaller-so c (flow b e) (above (down e) i) .new)
 

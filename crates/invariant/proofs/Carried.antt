@@ -20,7 +20,7 @@ use Rattle.board.specs.declared.Move.the-variants.{Carry}
 use Rattle.rules.specs.Rules.{Lawful}
 use Rattle.flows.specs.Trails.{Trail, go, down, downs}
 use Rattle.flows.proofs.Sums.{keyed-add, sum-set, sum-key}
-use Rattle.guard.specs.Parts.{flow, first, tail, head, marked, demand, place}
+use Rattle.guard.specs.Parts.{flow, acyclicFlow, tail, head, marked, demand, place}
 use Rattle.guard.specs.Guard.{moveIntact}
 use Rattle.carrying.specs.Carries.{carried}
 use Rattle.routing.specs.Routes.{route, load, largest}
@@ -165,24 +165,24 @@ module _ (b : Board) (i e : ℕ) (inv : Invariant b) (c : Carriable b i e) where
         at (inr n) = rw (getD-set-other (b .journal) (b .moves) k entry blank n) (inv .amounts k)
 
     -- the loads
-    load-unmarked : (g : ℕ) → marked b g ≡ false → flow (carried b i e) g + load (carried b i e) g ≤ first b g
+    load-unmarked : (g : ℕ) → marked b g ≡ false → flow (carried b i e) g + load (carried b i e) g ≤ acyclicFlow b g
     load-unmarked g m = at (eq-or-ne g e)
       where
-        at : (g ≡ e) ⊎ (g ≢ e) → flow (carried b i e) g + load (carried b i e) g ≤ first b g
+        at : (g ≡ e) ⊎ (g ≢ e) → flow (carried b i e) g + load (carried b i e) g ≤ acyclicFlow b g
         at (inl q) = rw q (omega (arith, flow-moved, load-moved b i e in-journal, inv .load-unmarked e (rw q at m), c .covers))
         at (inr n) = omega (arith, flow-kept g n, load-kept b i e in-journal g n, inv .load-unmarked g m)
 
-    load-positive : (g : ℕ) → Marked (carried b i e) g → load (carried b i e) g < first b g
+    load-positive : (g : ℕ) → Marked (carried b i e) g → load (carried b i e) g < acyclicFlow b g
     load-positive g m = at (eq-or-ne g e)
       where
-        at : (g ≡ e) ⊎ (g ≢ e) → load (carried b i e) g < first b g
+        at : (g ≡ e) ⊎ (g ≢ e) → load (carried b i e) g < acyclicFlow b g
         at (inl q) = absurd (omega (arith, emptied (rw q at (was-marked g m .mark)), rw q at (m .above)))
         at (inr n) = omega (arith, load-kept b i e in-journal g n, inv .load-positive g (was-marked g m))
 
-    load-zero : (g : ℕ) → marked b g ≡ true → flow (carried b i e) g ≡ 0 → load (carried b i e) g < first b g + largest (carried b i e) g
+    load-zero : (g : ℕ) → marked b g ≡ true → flow (carried b i e) g ≡ 0 → load (carried b i e) g < acyclicFlow b g + largest (carried b i e) g
     load-zero g m z = at (eq-or-ne g e)
       where
-        at : (g ≡ e) ⊎ (g ≢ e) → load (carried b i e) g < first b g + largest (carried b i e) g
+        at : (g ≡ e) ⊎ (g ≢ e) → load (carried b i e) g < acyclicFlow b g + largest (carried b i e) g
         at (inl q) = rw q (omega (
           arith,
           load-moved b i e in-journal,
@@ -204,14 +204,14 @@ module _ (b : Board) (i e : ℕ) (inv : Invariant b) (c : Carriable b i e) where
             rw (q, place-moved, route-moved b i e in-journal) (go (down e) refl before)
         at (inr n) = rw (place-kept k n, route-kept b i e in-journal k n) (inv .routes k h)
 
-    on-routes : (k g : ℕ) → k < b .network .terminals → has g (route (carried b i e) k) ≡ true → 0 < first b g
+    on-routes : (k g : ℕ) → k < b .network .terminals → has g (route (carried b i e) k) ≡ true → 0 < acyclicFlow b g
     on-routes k g h t = at (eq-or-ne k i)
       where
-        in-front : (g ≡ e) ⊎ (has g (route b i) ≡ true) → 0 < first b g
+        in-front : (g ≡ e) ⊎ (has g (route b i) ≡ true) → 0 < acyclicFlow b g
         in-front (inl q) = rw q (inv .support e positive)
         in-front (inr r) = inv .on-routes i g (c .terminal) r
 
-        at : (k ≡ i) ⊎ (k ≢ i) → 0 < first b g
+        at : (k ≡ i) ⊎ (k ≢ i) → 0 < acyclicFlow b g
         at (inl q) = in-front (has-cases g e (route b i) (rw (q, route-moved b i e in-journal) at t))
         at (inr n) = inv .on-routes k g h (rw (route-kept b i e in-journal k n) at t)
 

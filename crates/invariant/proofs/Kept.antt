@@ -15,14 +15,14 @@ use Rattle.board.specs.Limits.{maxEdges, maxTerminals, maxMoves, maxFlow, maxTo
 use Rattle.board.specs.declared.Board.{Board}
 use Rattle.rules.specs.Rules.{edgeFits, terminalFits, countsFit, judged, lawful, Lawful}
 use Rattle.rules.proofs.Meaning.{lawful-tested}
-use Rattle.flows.specs.Paths.{Positive, Within, rank}
+use Rattle.flows.specs.Paths.{PositiveEdge, Within, rank}
 use Rattle.flows.proofs.Rank.{rank-rises}
 use Rattle.flows.proofs.Cut.{flow-most}
 use Rattle.loader.specs.Load.{acyclicOf}
-use Rattle.guard.specs.Parts.{flow, first, place}
+use Rattle.guard.specs.Parts.{flow, acyclicFlow, place}
 use Rattle.guard.specs.Guard.{edgeIntact, terminalIntact, intact}
 use Rattle.invariant.specs.Invariant.{Invariant}
-use Rattle.invariant.proofs.Network.{within, within-first, long-tails, long-heads, long-first, first-below, first-acyclic, source-rank}
+use Rattle.invariant.proofs.Network.{within, within-acyclic, long-tails, long-heads, long-acyclic, acyclic-of-below, acyclic-of-acyclic, source-rank}
 
 module _ (b : Board) (inv : Invariant b) where
   law : Lawful (b .network)
@@ -44,21 +44,21 @@ module _ (b : Board) (inv : Invariant b) where
   heads-long = long-heads (b .network) law ∙ sym (inv .flows-size)
 
   -- a positive edge is positive in the acyclic flow, so it leads up
-  pub positive-first : (u v : ℕ) → Positive (b .network .tails) (b .network .heads) (b .flows) u v
-      → Positive (b .network .tails) (b .network .heads) (acyclicOf (b .network)) u v
-  positive-first u v p = record {
+  pub positive-acyclic : (u v : ℕ) → PositiveEdge (b .network .tails) (b .network .heads) (b .flows) u v
+      → PositiveEdge (b .network .tails) (b .network .heads) (acyclicOf (b .network)) u v
+  positive-acyclic u v p = record {
     edge = p .edge;
-    inside = omega (arith, p .inside, inv .flows-size, long-first (b .network) law);
+    inside = omega (arith, p .inside, inv .flows-size, long-acyclic (b .network) law);
     start = p .start;
     end = p .end;
     above = rw (inv .acyclic) at (inv .support (p .edge) (p .above));
   }
 
-  rises : (u v : ℕ) → Positive (b .network .tails) (b .network .heads) (b .flows) u v → level u < level v
+  rises : (u v : ℕ) → PositiveEdge (b .network .tails) (b .network .heads) (b .flows) u v → level u < level v
   unfolding level
   rises u v p =
-      rank-rises (b .network .tails) (b .network .heads) (acyclicOf (b .network)) (b .network .vertices) u v (within-first (b .network) law)
-      (first-acyclic (b .network) law) (positive-first u v p)
+      rank-rises (b .network .tails) (b .network .heads) (acyclicOf (b .network)) (b .network .vertices) u v (within-acyclic (b .network) law)
+      (acyclic-of-acyclic (b .network) law) (positive-acyclic u v p)
 
   at-vertex : (i : ℕ) → place b i < b .network .vertices
   at-vertex i = go (lt-or-ge i (b .network .terminals))
@@ -87,17 +87,17 @@ module _ (b : Board) (inv : Invariant b) where
   unfolding lawful
   fits = lawful-tested (b .network) law
 
-  below : (e : ℕ) → first b e ≤ getD (b .network .flows) e 0
-  below e = rw (inv .acyclic) (first-below (b .network) law e)
+  below : (e : ℕ) → acyclicFlow b e ≤ getD (b .network .flows) e 0
+  below e = rw (inv .acyclic) (acyclic-of-below (b .network) law e)
 
   edge-intact : (i : ℕ) → i < maxEdges → edgeIntact b i ≡ true
   edge-intact i h = both-true _ _ (all-from (edgeFits (b .network)) maxEdges i (both-left _ _ (both-right _ _ fits)) h)
-      (both-true _ _ (le-leb _ _ (below i)) (go (known (eqb (first b i) 0)) (lt-or-ge 0 (flow b i))))
+      (both-true _ _ (le-leb _ _ (below i)) (go (known (eqb (acyclicFlow b i) 0)) (lt-or-ge 0 (flow b i))))
     where
-      go : Known (eqb (first b i) 0) → (0 < flow b i) ⊎ (flow b i ≤ 0) → pick (eqb (first b i) 0) (eqb (flow b i) 0) (leb (flow b i) maxTotal) ≡ true
-      go (was-true t) (inl q) = let z : first b i ≡ 0 = eqb-true _ _ t in absurd (omega (arith, inv .support i q))
-      go (was-true t) (inr q) = let z : flow b i ≡ 0 = omega arith in pick-yes (eqb (first b i) 0) _ _ t ∙ eq-eqb _ _ z
-      go (was-false t) q = pick-no (eqb (first b i) 0) _ _ t ∙ le-leb (flow b i) maxTotal (small-flows i)
+      go : Known (eqb (acyclicFlow b i) 0) → (0 < flow b i) ⊎ (flow b i ≤ 0) → pick (eqb (acyclicFlow b i) 0) (eqb (flow b i) 0) (leb (flow b i) maxTotal) ≡ true
+      go (was-true t) (inl q) = let z : acyclicFlow b i ≡ 0 = eqb-true _ _ t in absurd (omega (arith, inv .support i q))
+      go (was-true t) (inr q) = let z : flow b i ≡ 0 = omega arith in pick-yes (eqb (acyclicFlow b i) 0) _ _ t ∙ eq-eqb _ _ z
+      go (was-false t) q = pick-no (eqb (acyclicFlow b i) 0) _ _ t ∙ le-leb (flow b i) maxTotal (small-flows i)
 
   terminal-intact : (j : ℕ) → j < maxTerminals → terminalIntact b j ≡ true
   terminal-intact j h = both-true _ _ (all-from (terminalFits (b .network)) maxTerminals j (both-left _ _ (both-right _ _ (both-right _ _ fits))) h)

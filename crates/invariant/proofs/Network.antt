@@ -10,14 +10,14 @@ use Rattle.lists.proofs.Laws.{lt-or-ge}
 use Rattle.board.specs.Limits.{maxFlow}
 use Rattle.board.specs.declared.Network.{Network}
 use Rattle.rules.specs.Rules.{demandAt, Lawful}
-use Rattle.flows.specs.Paths.{Positive, Within, Acyclic, rank}
+use Rattle.flows.specs.Paths.{PositiveEdge, Within, Acyclic, rank}
 use Rattle.flows.proofs.Source.{none-enters, rank-source}
 use Rattle.flows.proofs.Cancel.{acyclic-length, acyclic-below, acyclic-balance, acyclic-acyclic}
 use Rattle.loader.specs.Load.{acyclicOf}
 
 module _ (net : Network) (law : Lawful net) where
-  abbrev pub first : ℕ → ℕ
-  first e = getD (acyclicOf net) e 0
+  abbrev pub acyclicFlowIn : ℕ → ℕ
+  acyclicFlowIn e = getD (acyclicOf net) e 0
 
   pub long-tails : length (net .tails) ≡ length (net .flows)
   long-tails = law .tails-size ∙ sym (law .flows-size)
@@ -44,30 +44,30 @@ module _ (net : Network) (law : Lawful net) where
       go (inl h) = law .flow e h
       go (inr h) = omega (arith, law .no-edge e h .2)
 
-  pub first-below : (e : ℕ) → first e ≤ getD (net .flows) e 0
-  first-below = acyclic-below (net .tails) (net .heads) (net .flows) (net .vertices) within long-tails long-heads
+  pub acyclic-of-below : (e : ℕ) → acyclicFlowIn e ≤ getD (net .flows) e 0
+  acyclic-of-below = acyclic-below (net .tails) (net .heads) (net .flows) (net .vertices) within long-tails long-heads
 
-  pub first-acyclic : Acyclic (net .tails) (net .heads) (acyclicOf net)
-  first-acyclic = acyclic-acyclic (net .tails) (net .heads) (net .flows) (net .vertices) within long-tails long-heads
+  pub acyclic-of-acyclic : Acyclic (net .tails) (net .heads) (acyclicOf net)
+  acyclic-of-acyclic = acyclic-acyclic (net .tails) (net .heads) (net .flows) (net .vertices) within long-tails long-heads
 
-  pub first-balance : (v : ℕ) → v < net .vertices → (v ≡ net .source → ⊥)
+  pub acyclic-of-balance : (v : ℕ) → v < net .vertices → (v ≡ net .source → ⊥)
       → sumAt (net .heads) (acyclicOf net) v ≡ sumAt (net .tails) (acyclicOf net) v + demandAt net v
-  first-balance v h s =
+  acyclic-of-balance v h s =
       omega (arith, acyclic-balance (net .tails) (net .heads) (net .flows) (net .vertices) within long-tails long-heads v, law .balance v h s)
 
   -- no positive edge enters the source, and its rank is 0
-  pub long-first : length (acyclicOf net) ≡ length (net .flows)
-  long-first = acyclic-length (net .tails) (net .heads) (net .flows) (net .vertices) within long-tails long-heads
+  pub long-acyclic : length (acyclicOf net) ≡ length (net .flows)
+  long-acyclic = acyclic-length (net .tails) (net .heads) (net .flows) (net .vertices) within long-tails long-heads
 
-  pub within-first : Within (net .tails) (net .heads) (acyclicOf net) (net .vertices)
-  within-first = record { start = λ e h. within .start e (omega (arith, long-first)); end = λ e h. within .end e (omega (arith, long-first)) }
+  pub within-acyclic : Within (net .tails) (net .heads) (acyclicOf net) (net .vertices)
+  within-acyclic = record { start = λ e h. within .start e (omega (arith, long-acyclic)); end = λ e h. within .end e (omega (arith, long-acyclic)) }
 
-  pub source-unentered : (a : ℕ) → Positive (net .tails) (net .heads) (acyclicOf net) a (net .source) → ⊥
+  pub source-unentered : (a : ℕ) → PositiveEdge (net .tails) (net .heads) (acyclicOf net) a (net .source) → ⊥
   source-unentered =
-      none-enters (net .tails) (net .heads) (acyclicOf net) (net .vertices) (net .source) (demandAt net) (long-tails ∙ sym long-first) within-first
-      first-acyclic first-balance
+      none-enters (net .tails) (net .heads) (acyclicOf net) (net .vertices) (net .source) (demandAt net) (long-tails ∙ sym long-acyclic) within-acyclic
+      acyclic-of-acyclic acyclic-of-balance
 
   pub source-rank : rank (net .tails) (net .heads) (acyclicOf net) (net .vertices) (net .source) ≡ 0
   source-rank =
-      rank-source (net .tails) (net .heads) (acyclicOf net) (net .vertices) (net .source) (demandAt net) (long-tails ∙ sym long-first) within-first
-      first-acyclic first-balance
+      rank-source (net .tails) (net .heads) (acyclicOf net) (net .vertices) (net .source) (demandAt net) (long-tails ∙ sym long-acyclic) within-acyclic
+      acyclic-of-acyclic acyclic-of-balance

@@ -24,7 +24,7 @@ use Rattle.guard.specs.Guard.{moveIntact}
 use Rattle.loader.specs.Load.{acyclicOf, opened}
 use Rattle.routing.specs.Routes.{routeBy, route, share, load}
 use Rattle.invariant.specs.Invariant.{Invariant}
-use Rattle.invariant.proofs.Network.{long-first, first-balance}
+use Rattle.invariant.proofs.Network.{long-acyclic, acyclic-of-balance}
 
 module _ (net : Network) (law : Lawful net) where
   -- the board before the first move
@@ -65,14 +65,14 @@ module _ (net : Network) (law : Lawful net) where
   opened-invariant = record {
     lawful = law;
     acyclic = refl;
-    flows-size = long-first net law;
+    flows-size = long-acyclic net law;
     places-size = refl;
     placed = law .home;
     unplaced = λ i h. law .no-terminal i h .0;
     journal-size = length-replicate maxMoves blank;
     blanks = λ i h. getD-blank maxMoves i;
     amounts = λ i. ap (λ (m : Entry). moveIntact (m .step)) (getD-blank maxMoves i);
-    balance = first-balance net law;
+    balance = acyclic-of-balance net law;
     support = λ e h. h;
     one-out = λ e g g' m. no-mark e (m .mark);
     down-closed = λ e g m. no-mark e (m .mark);

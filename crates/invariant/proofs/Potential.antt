@@ -21,12 +21,12 @@ use Rattle.flows.proofs.Rank.{rank-rises, rank-below}
 use Rattle.lists.proofs.Totals.{total-less, total-most}
 use Rattle.flows.proofs.Positives.{positives, positives-within, positives-below}
 use Rattle.loader.specs.Load.{acyclicOf}
-use Rattle.guard.specs.Parts.{flow, first, tail, head, demand, place}
+use Rattle.guard.specs.Parts.{flow, acyclicFlow, tail, head, demand, place}
 use Rattle.opening.specs.Opens.{someOpen}
 use Rattle.carrying.specs.Carries.{carried}
 use Rattle.invariant.specs.Bound.{movesBound}
 use Rattle.invariant.specs.Invariant.{Invariant}
-use Rattle.invariant.proofs.Network.{within-first, first-acyclic}
+use Rattle.invariant.proofs.Network.{within-acyclic, acyclic-of-acyclic}
 use Rattle.invariant.proofs.Carriable.{Carriable}
 use Rattle.invariant.proofs.Carried.{in-flows}
 use Rattle.invariant.proofs.TurnedMarks.{positive-inside}
@@ -50,11 +50,11 @@ one-most false = omega arith
 
 module _ (b : Board) (inv : Invariant b) where
   -- it rises along every edge of the acyclic flow, and so along every positive edge
-  pub first-rises : (e : ℕ) → 0 < first b e → level b (tail b e) < level b (head b e)
-  first-rises e h =
+  pub acyclic-rises : (e : ℕ) → 0 < acyclicFlow b e → level b (tail b e) < level b (head b e)
+  acyclic-rises e h =
       rw (inv .acyclic)
-      (rank-rises (b .network .tails) (b .network .heads) _ (b .network .vertices) (tail b e) (head b e) (within-first (b .network) (inv .lawful))
-      (first-acyclic (b .network) (inv .lawful))
+      (rank-rises (b .network .tails) (b .network .heads) _ (b .network .vertices) (tail b e) (head b e) (within-acyclic (b .network) (inv .lawful))
+      (acyclic-of-acyclic (b .network) (inv .lawful))
       (record {
         edge = e;
         inside = above-inside (acyclicOf (b .network)) e (rw (inv .acyclic) at h);
@@ -64,7 +64,7 @@ module _ (b : Board) (inv : Invariant b) where
       }))
 
   pub level-rises : (e : ℕ) → 0 < flow b e → level b (tail b e) < level b (head b e)
-  level-rises e h = first-rises e (inv .support e h)
+  level-rises e h = acyclic-rises e (inv .support e h)
 
   pub potential-first : potential b ≤ movesBound (b .network)
   unfolding potential movesBound

@@ -16,7 +16,7 @@ use Rattle.lists.proofs.Laws.{above-inside, Known, was-true, was-false, known, 
 use Rattle.lists.proofs.Lowest.{lowest-least, lowest-found}
 use Rattle.lists.proofs.Pigeon.{has-nothing, has-here, has-later, has-cases, pigeon}
 use Rattle.singular.specs.Singular.{leaves, leaving, straight}
-use Rattle.flows.specs.Paths.{Positive, Path, here, on, OneLeaves, Unparted, Within}
+use Rattle.flows.specs.Paths.{PositiveEdge, Path, here, on, OneLeaves, Unparted, Within}
 use Rattle.flows.proofs.Reach.{path-first}
 
 -- ---- the edges that leave one vertex
@@ -216,6 +216,6 @@ module _ (tails heads flows : List ℕ) where
       at (was-true p) (was-false q) ih =
           let e = leaving tails flows v 0 in
           let l = leaving-leaves tails flows v 0 (ltb-true _ _ p) in
-          let d : Positive tails heads flows v (getD heads e 0) =
+          let d : PositiveEdge tails heads flows v (getD heads e 0) =
           record { edge = e; inside = ltb-true _ _ p; start = l .start; end = refl; above = l .above } in
           rw (p, q, straight) (ih (getD heads e 0) (λ u path. f u (path-first d path)))

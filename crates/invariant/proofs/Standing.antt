@@ -41,16 +41,16 @@ pub record Standing (b : Board) : Type 0 where
 
 -- a loaded board
 pub loaded-standing : (s : List ℕ) → loadText s .answer ≡ 0 → Standing (loadText s .board)
-loaded-standing s h = rw (load-accepted s h) first
+loaded-standing s h = rw (load-accepted s h) start-standing
   where
     start : Board
     start = opened (readText s .network) (acyclicOf (readText s .network))
 
-    keeps : Invariant start
-    keeps = opened-invariant (readText s .network) (loaded-lawful s h)
+    start-inv : Invariant start
+    start-inv = opened-invariant (readText s .network) (loaded-lawful s h)
 
-    first : Standing start
-    first = record { stage = refl; inv = keeps; room = omega (arith, potential-first start keeps) }
+    start-standing : Standing start
+    start-standing = record { stage = refl; inv = start-inv; room = omega (arith, potential-first start start-inv) }
 
 module _ (b : Board) (st : Standing b) where
   pub never-full : b .moves ≤ movesBound (b .network)

@@ -13,7 +13,7 @@ use Rattle.lists.specs.Members.{has, Distinct}
 use Rattle.lists.proofs.Laws.{Known, was-true, was-false, known, lt-or-ge}
 use Rattle.sets.specs.Sets.{hasBit}
 use Rattle.board.specs.declared.Board.{Board}
-use Rattle.flows.specs.Trails.{Step, down, up, edgeOf, edgesOf, changed, Room, Fits}
+use Rattle.flows.specs.Trails.{Step, down, up, edgeOf, edgesOf, changedAlong, Room, Fits}
 use Rattle.flows.proofs.Change.{In, over, changed-length, changed-other, changed-at, closed-trail}
 use Rattle.guard.specs.Parts.{flow, head, demand}
 use Rattle.steps.specs.Steps.{gather}
@@ -51,7 +51,7 @@ module _ (b : Board) (w : List Step) (inv : Invariant b) (t : Turnable b w) wher
       (λ s i. omega (arith, t .inside s i, inv .flows-size, inv .lawful .flows-size, inv .lawful .edges))
       (λ e i. amount-down b w e (t .above) i) (t .cycle .distinct)
 
-  pub now-changed : flowsNow b w ≡ changed (b .flows) (amount b w) w
+  pub now-changed : flowsNow b w ≡ changedAlong (b .flows) (amount b w) w
   now-changed = shifted-changed (b .flows) (amount b w) w turn-fits
 
   pub now-length : length (flowsNow b w) ≡ length (b .flows)
@@ -60,13 +60,13 @@ module _ (b : Board) (w : List Step) (inv : Invariant b) (t : Turnable b w) wher
   became : (e : ℕ) → Became b w e
   became e = go (known (has e (edgesOf w)))
     where
-      same : getD (flowsNow b w) e 0 ≡ getD (changed (b .flows) (amount b w) w) e 0
+      same : getD (flowsNow b w) e 0 ≡ getD (changedAlong (b .flows) (amount b w) w) e 0
       same = ap (λ (l : List ℕ). getD l e 0) now-changed
 
       by : (s : Step) → edgeOf s ≡ e → In s w → Became b w e
       by (down d) q i =
           let now = changed-at (b .flows) (amount b w) w (down d) turn-fits i in
-          let at : getD (changed (b .flows) (amount b w) w) e 0 ≤ flow b e = rw (← q) (omega (arith, now)) in
+          let at : getD (changedAlong (b .flows) (amount b w) w) e 0 ≤ flow b e = rw (← q) (omega (arith, now)) in
           lower (omega (arith, same, at))
       by (up d) q i = higher (rw (← q) i) (same ∙ rw (← q) (changed-at (b .flows) (amount b w) w (up d) turn-fits i))
 

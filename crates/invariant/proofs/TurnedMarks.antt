@@ -14,14 +14,14 @@ use Rattle.lists.proofs.Laws.{above-inside, Known, was-true, was-false, known, 
 use Rattle.sets.specs.Sets.{hasBit}
 use Rattle.sets.proofs.Bits.{has-none, has-joined, collect-new, collect-from}
 use Rattle.board.specs.declared.Board.{Board}
-use Rattle.flows.specs.Paths.{Positive, here, Unparted}
+use Rattle.flows.specs.Paths.{PositiveEdge, here, Unparted}
 use Rattle.flows.proofs.Reach.{path-first}
-use Rattle.guard.specs.Parts.{flow, first, tail, head, marked, demand}
+use Rattle.guard.specs.Parts.{flow, acyclicFlow, tail, head, marked, demand}
 use Rattle.opening.specs.Opens.{someOpen}
 use Rattle.marking.specs.Marking.{singular, isFresh, fresh}
 use Rattle.routing.specs.Routes.{load, largest}
 use Rattle.invariant.specs.Invariant.{Invariant, Marked, At}
-use Rattle.invariant.proofs.Network.{first-below}
+use Rattle.invariant.proofs.Network.{acyclic-of-below}
 use Rattle.invariant.proofs.Kept.{joined}
 use Rattle.invariant.proofs.Single.{straight-unparted, unparted-straight}
 use Rattle.invariant.proofs.Carriable.{facts-open, none-open}
@@ -94,7 +94,7 @@ module _ (b : Board) (inv : Invariant b) where
       go (inl l) = l
       go (inr l) =
           let above = rw (inv .acyclic) at (inv .support e h) in
-          absurd (omega (arith, above, first-below (b .network) (inv .lawful) e, inv .lawful .no-edge e l .2))
+          absurd (omega (arith, above, acyclic-of-below (b .network) (inv .lawful) e, inv .lawful .no-edge e l .2))
 
   abbrev Unpartedly : ℕ → Type 0
   Unpartedly v = Unparted (b .network .tails) (b .network .heads) (b .flows) v
@@ -122,7 +122,7 @@ module _ (b : Board) (inv : Invariant b) where
   pub now-down-closed : (e g : ℕ) → Now b e → tail b g ≡ head b e → 0 < flow b g → hasBit (marksNow b) g ≡ true
   now-down-closed e g n p h = go (now-cases b e (n .mark))
     where
-      edge : Positive (b .network .tails) (b .network .heads) (b .flows) (head b e) (head b g)
+      edge : PositiveEdge (b .network .tails) (b .network .heads) (b .flows) (head b e) (head b g)
       edge = record { edge = g; inside = above-inside (b .flows) g h; start = p; end = refl; above = h }
 
       go : (marked b e ≡ true) ⊎ Fresh b e → hasBit (marksNow b) g ≡ true
@@ -171,17 +171,17 @@ module _ (b : Board) (inv : Invariant b) where
         go (inl m) (inr f) = inr (fresh-less e' j f (rw p at'))
 
   -- the loads
-  pub now-load-positive : (e : ℕ) → Now b e → load b e < first b e
+  pub now-load-positive : (e : ℕ) → Now b e → load b e < acyclicFlow b e
   now-load-positive e n = go (now-cases b e (n .mark))
     where
-      go : (marked b e ≡ true) ⊎ Fresh b e → load b e < first b e
+      go : (marked b e ≡ true) ⊎ Fresh b e → load b e < acyclicFlow b e
       go (inl m) = inv .load-positive e (old e n m)
       go (inr f) = omega (arith, inv .load-unmarked e (f .unmarked), f .above)
 
-  pub now-load : (e : ℕ) → hasBit (marksNow b) e ≡ true → load b e < first b e + largest b e
+  pub now-load : (e : ℕ) → hasBit (marksNow b) e ≡ true → load b e < acyclicFlow b e + largest b e
   now-load e m = go (lt-or-ge 0 (flow b e)) (now-cases b e m)
     where
-      go : (0 < flow b e) ⊎ (flow b e ≤ 0) → (marked b e ≡ true) ⊎ Fresh b e → load b e < first b e + largest b e
+      go : (0 < flow b e) ⊎ (flow b e ≤ 0) → (marked b e ≡ true) ⊎ Fresh b e → load b e < acyclicFlow b e + largest b e
       go (inl h) q = omega (arith, now-load-positive e (record { mark = m; above = h }))
       go (inr h) (inl t) = inv .load-zero e t (omega arith)
       go (inr h) (inr f) = absurd (omega (arith, f .above))

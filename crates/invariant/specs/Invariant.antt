@@ -12,7 +12,7 @@ use Rattle.board.specs.declared.Board.{Board}
 use Rattle.rules.specs.Rules.{Lawful}
 use Rattle.cancelling.specs.Cancelling.{acyclicFlows}
 use Rattle.flows.specs.Trails.{Trail, downs}
-use Rattle.guard.specs.Parts.{flow, first, tail, head, marked, demand, place}
+use Rattle.guard.specs.Parts.{flow, acyclicFlow, tail, head, marked, demand, place}
 use Rattle.guard.specs.Guard.{moveIntact}
 use Rattle.routing.specs.Routes.{route, load, largest}
 
@@ -42,7 +42,7 @@ module _ (b : Board) where
     -- the flow that enters a vertex is the flow that leaves it and the demands of the terminals at it
     pub balance : (v : ℕ) → v < b .network .vertices → (v ≡ b .network .source → ⊥)
         → sumAt (b .network .heads) (b .flows) v ≡ sumAt (b .network .tails) (b .flows) v + sumAt (b .places) (b .network .demands) v
-    pub support : (e : ℕ) → 0 < flow b e → 0 < first b e
+    pub support : (e : ℕ) → 0 < flow b e → 0 < acyclicFlow b e
     -- at the head of a positive marked edge: one positive edge leaves at most, it is marked, and so is every positive edge that enters
     pub one-out : (e g g' : ℕ) → Marked e → tail b g ≡ head b e → 0 < flow b g → tail b g' ≡ head b e → 0 < flow b g' → g ≡ g'
     pub down-closed : (e g : ℕ) → Marked e → tail b g ≡ head b e → 0 < flow b g → marked b g ≡ true
@@ -52,9 +52,9 @@ module _ (b : Board) where
     pub one-misfit : (e e' i j : ℕ) → Marked e → Marked e' → head b e' ≡ head b e → At i (head b e) → At j (head b e) → (i ≡ j → ⊥)
         → (flow b e ≤ demand b i) ⊎ (flow b e' ≤ demand b j)
     -- the load of an edge and the flow left on it
-    pub load-unmarked : (e : ℕ) → marked b e ≡ false → flow b e + load b e ≤ first b e
-    pub load-positive : (e : ℕ) → Marked e → load b e < first b e
-    pub load-zero : (e : ℕ) → marked b e ≡ true → flow b e ≡ 0 → load b e < first b e + largest b e
+    pub load-unmarked : (e : ℕ) → marked b e ≡ false → flow b e + load b e ≤ acyclicFlow b e
+    pub load-positive : (e : ℕ) → Marked e → load b e < acyclicFlow b e
+    pub load-zero : (e : ℕ) → marked b e ≡ true → flow b e ≡ 0 → load b e < acyclicFlow b e + largest b e
     -- a terminal's route leads from where it is to its vertex in the text, over edges positive in the acyclic flow
     pub routes : (i : ℕ) → i < b .network .terminals → Trail (b .network .tails) (b .network .heads) (place b i) (downs (route b i)) (getD (b .network .homes) i 0)
-    pub on-routes : (i e : ℕ) → i < b .network .terminals → has e (route b i) ≡ true → 0 < first b e
+    pub on-routes : (i e : ℕ) → i < b .network .terminals → has e (route b i) ≡ true → 0 < acyclicFlow b e

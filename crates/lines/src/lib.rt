@@ -73,7 +73,7 @@ pub fn line(s: &[u8], letter: u8, ranges: [Range; 4], count: usize) -> Line
     let mut at: usize = 2;
     let mut i: usize = 0;
     while i < count {
-        let f = field(&s[at..], ranges[i], text::end_of(count - i - 1));
+        let f = field(&s[at..], ranges[i], text::end_byte(count - i - 1));
         if f.answer != 0 {
             return refused_line(f.answer);
         }

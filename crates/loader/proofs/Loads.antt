@@ -13,7 +13,7 @@ use Rattle.board.specs.declared.Board.{Board}
 use Rattle.rules.specs.Rules.{Lawful}
 use Rattle.text.specs.declared.Reading.{Reading}
 use Rattle.text.specs.Results.{readText}
-use Rattle.text.proofs.Accepted.{acceptedAs, accepted}
+use Rattle.text.proofs.Accepted.{acceptedAs, accepted-text}
 use Rattle.loader.specs.declared.Loaded.{Loaded}
 use Rattle.loader.specs.Load.{acyclicOf, opened, loadText}
 
@@ -22,7 +22,7 @@ pub read-accepted : (s : List ℕ) → readText s .answer ≡ 0 → readText s �
 read-accepted s h = λ t. record { answer = h t; network = readText s .network }
 
 pub read-lawful : (s : List ℕ) → readText s .answer ≡ 0 → Lawful (readText s .network)
-read-lawful s h = accepted s (readText s .network) (read-accepted s h) .1
+read-lawful s h = accepted-text s (readText s .network) (read-accepted s h) .1
 
 module _ (s : List ℕ) (t : Reading) (read : t ≡ readText s) where
   pub bounded : t .answer ≡ 0 → t .network .vertices ≤ maxVertices

@@ -24,7 +24,7 @@ fn acyclic_flows(net: Network) -> [u32; Board::MAX_EDGES]
     let mut flows = net.flows;
     let mut seen = [false; Board::MAX_VERTICES as usize];
     let mut walk = [0usize; Board::MAX_VERTICES as usize];
-    let mut rows = [0u64; Board::MAX_VERTICES as usize];
+    let mut bitsets = [0u64; Board::MAX_VERTICES as usize];
     let n = net.vertices as usize;
     cancelling::cancel(
         &tails,
@@ -33,7 +33,7 @@ fn acyclic_flows(net: Network) -> [u32; Board::MAX_EDGES]
         net.vertices,
         &mut seen[..n],
         &mut walk[..n],
-        &mut rows[..n],
+        &mut bitsets[..n],
     );
     flows
 }

@@ -16,13 +16,13 @@ use Rattle.board.specs.Limits.{maxVertices}
 use Rattle.singular.specs.Singular.{leaving, straight}
 use Rattle.incidence.proofs.Leaving.{first-in, some-in, more-in}
 use Rattle.marking.proofs.Gathering.{has-collect}
-use Rattle.marking.specs.Marking.{singularIn, isFreshIn, straightBy, singularBy, isFreshBy, Charted}
+use Rattle.marking.specs.Marking.{singularIn, isFreshIn, straightBy, singularBy, isFreshBy, ChartedOut}
 
 -- one vertex: whether an edge leaves it, whether a second does, and the way on
 abbrev through : Bool → Bool → Bool → Bool
 through one two on = elim one [ true ↦ elim two [ true ↦ false | false ↦ on ] | false ↦ true ]
 
-module _ (tails heads flows sets : List ℕ) (positive : ℕ) (chart : Charted tails heads flows sets positive) (fits : positive < 2 ^ setWidth) where
+module _ (tails heads flows sets : List ℕ) (positive : ℕ) (chart : ChartedOut tails heads flows sets positive) (fits : positive < 2 ^ setWidth) where
   pub straight-same : (k v : ℕ) → v < maxVertices → straightBy heads sets positive k v ≡ straight tails heads flows k v
   unfolding straightBy straight
   straight-same zero v small = refl

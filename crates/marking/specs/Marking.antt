@@ -12,7 +12,7 @@ use Rattle.sets.specs.Sets.{setWidth, hasBit, dropped, collect}
 use Rattle.singular.specs.Singular.{straight}
 use Rattle.board.specs.Limits.{maxVertices, maxEdges}
 use Rattle.board.specs.declared.Board.{Board}
-use Rattle.incidence.specs.Incidence.{Incident, Positive, touchingAt}
+use Rattle.incidence.specs.Incidence.{Incident, PositiveSet, touchingAt}
 
 -- "A channel is single when its head, and every pool that can be reached from the head over wet channels, has at most one wet channel leaving"
 unfoldable pub singularIn : List ℕ → List ℕ → List ℕ → ℕ → ℕ → Bool
@@ -54,8 +54,8 @@ abbrev pub isFreshBy : List ℕ → List ℕ → ℕ → ℕ → ℕ → ℕ →
 isFreshBy heads leaving positive vertices marks e = both (not (hasBit marks e)) (both (hasBit positive e) (singularBy heads leaving positive vertices e))
 
 -- the sets are those of the lists, and each edge leads to a vertex
-pub record Charted (tails heads flows leaving : List ℕ) (positive : ℕ) : Type 0 where
+pub record ChartedOut (tails heads flows leaving : List ℕ) (positive : ℕ) : Type 0 where
   pub leave : Incident tails leaving
-  pub is-positive : Positive flows positive
+  pub is-positive : PositiveSet flows positive
   pub all : length flows ≡ maxEdges
   pub headed : (e : ℕ) → getD heads e 0 < maxVertices

@@ -58,19 +58,19 @@ module _ (c : ℕ) (s f : List ℕ) where
   byte-fields e = rw (e, fieldsOf) (into-onto f c (fieldsOf s))
 
 -- the record after a comma, and after another byte
-abbrev ended : Scan → Scan
-ended t = record { form = formTaken (t .form) (t .piece); piece = noPiece }
+abbrev fieldEnded : Scan → Scan
+fieldEnded t = record { form = formTaken (t .form) (t .piece); piece = noPiece }
 
 abbrev joined : Scan → ℕ → Scan
 joined t c = record { form = t .form; piece = pieceTaken (t .piece) c }
 
-comma-scan : (t : Scan) (c : ℕ) → eqb c 44 ≡ true → scanTaken t c ≡ ended t
+comma-scan : (t : Scan) (c : ℕ) → eqb c 44 ≡ true → scanTaken t c ≡ fieldEnded t
 unfolding scanTaken
-comma-scan t c e = pick-yes (eqb c 44) (ended t) (joined t c) e
+comma-scan t c e = pick-yes (eqb c 44) (fieldEnded t) (joined t c) e
 
 byte-scan : (t : Scan) (c : ℕ) → eqb c 44 ≡ false → scanTaken t c ≡ joined t c
 unfolding scanTaken
-byte-scan t c e = pick-no (eqb c 44) (ended t) (joined t c) e
+byte-scan t c e = pick-no (eqb c 44) (fieldEnded t) (joined t c) e
 
 -- from a shape and a field begun on
 rest-exact : (s : List ℕ) (t : Scan) (sh : Shape) (f : List ℕ) → Follows sh (t .form) → Reads f (t .piece)
@@ -86,7 +86,7 @@ rest-exact (c ∷ s) t sh f a r = split (known (eqb c 44)) (λ u z g b q. rest-e
         → Stands (orderFrom sh (into f (fieldsOf (c ∷ s)))) (scanned (scanAll (scanTaken t c) s))
     split (was-true e) ih =
         rw (comma-fields c s f e, comma-scan t c e, shape-step sh f (fieldsOf s), ← (into-none s))
-        (ih (ended t) (shapeTaken sh f) [] (follows-next sh (t .form) f (t .piece) r a) reads-none)
+        (ih (fieldEnded t) (shapeTaken sh f) [] (follows-next sh (t .form) f (t .piece) r a) reads-none)
     split (was-false e) ih = rw (byte-fields c s f e, byte-scan t c e) (ih (joined t c) sh (f ++ (c ∷ [])) a (reads-next f (t .piece) c r))
 
 pub line-exact : (s : List ℕ) → Stands (orderOf s) (scanned (scanAll noScan s))

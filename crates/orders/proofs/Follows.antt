@@ -18,7 +18,7 @@ use Rattle.orders.specs.Orders.{isLetter, turnOf, carryOf, byFields}
 use Rattle.orders.specs.Scans.{pieceNumber, nothingRead, otherForm, hintForm, undoForm, finishForm, carryForm, carryFrom, carryWhole, turnForm, turnEdge, ofKind, withFirst, withSecond, numbered, withStep, begun, wayTaken, formTaken, Nothing, Stands}
 use Rattle.orders.proofs.Pieces.{Reads, is-number, is-letter}
 use Rattle.orders.proofs.Shapes.{Shape, begin, wrong, hinted, undone, finished, carry-none, carry-one, carry-both, turn-even, turn-odd, orderFrom, shapeBy, begunBy, wayBy, shapeTaken}
-use Rattle.orders.proofs.Grown.{Holds, grown, holds-none, keeps}
+use Rattle.orders.proofs.Grown.{Holds, grown, holds-none, keeps-steps}
 
 abbrev pub Follows : Shape → Form → Type 0
 Follows begin f = (f .kind ≡ nothingRead) × (f .count ≡ 0) × (f .greatest ≡ 0) × (length (f .steps) ≡ maxEdges)
@@ -119,5 +119,5 @@ follows-end finished f a = a
 follows-end carry-none f a = nothing f carryForm a refl refl refl refl refl
 follows-end (carry-one i) f a = nothing f carryFrom (a .0) refl refl refl refl refl
 follows-end (carry-both i e) f a = a
-follows-end (turn-even w) f a = rw append-nil (keeps w f (a .0) (a .1))
+follows-end (turn-even w) f a = rw append-nil (keeps-steps w f (a .0) (a .1))
 follows-end (turn-odd w e) f a = nothing f turnEdge (a .0) refl refl refl refl refl

@@ -18,7 +18,7 @@ use Rattle.flows.specs.Trails.{Step, down, up, edgeOf}
 use Rattle.steps.specs.Steps.{upFrom, stepOf, stepsOf}
 use Rattle.steps.proofs.Bytes.{step-up, step-down}
 use Rattle.orders.specs.declared.Form.{Form}
-use Rattle.orders.specs.Scans.{stepByte, withStep, greatestEdge, Keeps, turnForm}
+use Rattle.orders.specs.Scans.{stepByte, withStep, greatestEdge, KeepsSteps, turnForm}
 
 -- what a form keeps of the steps w
 pub record Holds (w : List Step) (f : Form) : Type 0 where
@@ -122,5 +122,5 @@ unfolding greatestEdge stepsOf
 holds-none f c g l = record { places = l; greatest = g; few = λ m. c; many = λ m. absurd (omega arith); steps = λ m b. rw c }
 
 -- a form that keeps steps is that of their turn
-pub keeps : (w : List Step) (f : Form) → f .kind ≡ turnForm → Holds w f → Keeps w f
-keeps w f k h = record { kind = k; greatest = h .greatest; few = h .few; many = h .many; steps = h .steps }
+pub keeps-steps : (w : List Step) (f : Form) → f .kind ≡ turnForm → Holds w f → KeepsSteps w f
+keeps-steps w f k h = record { kind = k; greatest = h .greatest; few = h .few; many = h .many; steps = h .steps }

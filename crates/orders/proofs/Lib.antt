@@ -1,4 +1,4 @@
-pub mod Turns
+pub mod Loops
 pub mod Pieces
 pub mod Shapes
 pub mod Grown

@@ -165,7 +165,7 @@ greatestEdge [] = 0
 greatestEdge (s ∷ w) = pick (ltb (edgeOf s) (greatestEdge w)) (greatestEdge w) (edgeOf s)
 
 -- the steps of a turn: all of them, where they are few and their edges small
-pub record Keeps (w : List Step) (f : Form) : Type 0 where
+pub record KeepsSteps (w : List Step) (f : Form) : Type 0 where
   pub kind : f .kind ≡ turnForm
   pub greatest : f .greatest ≡ greatestEdge w
   pub few : length w ≤ maxEdges → f .count ≡ length w
@@ -182,7 +182,7 @@ pub record Nothing (f : Form) : Type 0 where
 
 abbrev pub Stands : Order → Form → Type 0
 Stands (carry i e) f = (f .kind ≡ carryWhole) × (f .first ≡ i) × (f .second ≡ e)
-Stands (turn w) f = Keeps w f
+Stands (turn w) f = KeepsSteps w f
 Stands hint f = f .kind ≡ hintForm
 Stands undo f = f .kind ≡ undoForm
 Stands finish f = f .kind ≡ finishForm

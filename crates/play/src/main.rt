@@ -16,19 +16,19 @@ fn next_piece(session: Session) -> Served {
     serving::serve(session, &space[..got])
 }
 
-// A proved loop has to end, and nothing says that the input does. So the loop counts its turns down, from a number that no run
+// A proved loop has to end, and nothing says that the input does. So the loop counts its rounds down, from a number that no run
 // uses up.
 fn all_pieces(session: Session) -> Session {
     let mut current = session;
-    let mut turns = u64::MAX;
-    while 0 < turns {
+    let mut rounds = u64::MAX;
+    while 0 < rounds {
         let served = next_piece(current);
         let going = served.going;
         current = served.session;
         if !going {
             return current;
         }
-        turns -= 1;
+        rounds -= 1;
     }
     current
 }

@@ -37,7 +37,7 @@ held text cs given given' hints hints' r e g t loads = rw e here
     here : Held text cs given given' hints hints' (outcome text cs)
     here = record {
       faithful = u;
-      answered = g ∙ ap (λ (xs : List ℕ). sets given 0 xs) (u .answered);
+      answers-written = g ∙ ap (λ (xs : List ℕ). sets given 0 xs) (u .same-answers);
       hinted = record { suggestions = t .hints; kept = u .hinted (t .hints) (t .kept); written = t .written };
       finished = u .finish;
     }

@@ -31,7 +31,7 @@ module _ (text : List ℕ) (cs : List Call) (given given' hints hints' : List �
   -- demand 3, of what was answered, written and given
   pub record Held : Type 0 where
     pub faithful : Faithful text cs (r .board)
-    pub answered : given' ≡ sets given 0 (says text [] cs)
+    pub answers-written : given' ≡ sets given 0 (says text [] cs)
     pub hinted : HintsWritten
     pub finished : Complete (r .board) (r .finish)
 

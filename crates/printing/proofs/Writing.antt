@@ -67,7 +67,7 @@ pub line-length : (x at : ℕ) (vs : List ℕ) → at + 2 + length (numbersText 
 unfolding lineText
 line-length x at vs = omega arith
 
--- one turn of the line's loop, from what the code knows
+-- one round of the line's loop, from what the code knows
 pub line-turned : (values : List ℕ) (i : ℕ) → i < length values → {buf total : List ℕ} {to end : ℕ} → Left buf total to end (numbersText (drop i values))
     → (b1 b2 : List ℕ) (p e : ℕ) → b1 ≡ sets buf to (decimal (getD values i 0)) → p ≡ to + length (decimal (getD values i 0))
     → e ≡ pick (ltb 0 (length values - i - 1)) 44 10 → b2 ≡ set b1 p e → Left b2 total (p + 1) end (numbersText (drop (i + 1) values))
@@ -81,7 +81,7 @@ pub line-done : (values : List ℕ) (i : ℕ) → length values ≤ i → {buf t
 unfolding numbersText
 line-done values i h l = left-none (rw (drop-of-length-le values h) at l)
 
--- one turn of a loop over lines: vs are the numbers of its row
+-- one round of a loop over lines: vs are the numbers of its row
 pub lines-turned : (x : ℕ) (row : ℕ → List ℕ) (n i : ℕ) → i < n → {buf total : List ℕ} {to end : ℕ} → Left buf total to end (linesText x row i (n - i))
     → (vs b : List ℕ) (p : ℕ) → vs ≡ row i → b ≡ sets buf to (lineText x vs) → p ≡ to + length (lineText x vs)
     → Left b total p end (linesText x row (i + 1) (n - (i + 1)))

@@ -21,7 +21,7 @@ pub fn put_line(buf: &mut [u8], at: usize, letter: u8, values: &[u32]) -> usize
     let mut i: usize = 0;
     while i < count {
         let end = decimal::write_number(buf, to, values[i]);
-        lists::put_byte(buf, end, text::end_of(count - i - 1));
+        lists::put_byte(buf, end, text::end_byte(count - i - 1));
         to = end + 1;
         i += 1;
     }

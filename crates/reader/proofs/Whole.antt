@@ -8,15 +8,15 @@ use lib.Seq.{drop-cons}
 use borrow.Author.Tests.{eq-eqb, ne-eqb}
 use Rattle.lists.proofs.Laws.{pick-yes, pick-no}
 use Rattle.rules.specs.Rules.{judged}
-use Rattle.text.specs.Results.{refusal, judgement, outcome, readText}
+use Rattle.text.specs.Results.{refusal, judgement, readingOf, readText}
 use Rattle.board.specs.Limits.{maxEdges, maxTerminals}
 use Rattle.board.specs.declared.Network.{Network}
 use Rattle.text.specs.declared.Part.{Part}
 use Rattle.text.specs.Views.{partRead, headerPart}
-use Rattle.text.specs.Text.{Read, refused, got, then, lines, header, headed, headRanges, edgeRanges, edgeLines, terminalLines, ended, layout}
-use Rattle.lines.proofs.Turns.{then-then, answered-got, answered-refused}
+use Rattle.text.specs.Text.{Read, refused, got, then, lines, header, headed, headRanges, edgeRanges, edgeLines, terminalLines, nothingFollows, layout}
+use Rattle.lines.proofs.Loops.{then-then, answer-read-got, answer-read-refused}
 use Rattle.text.proofs.Fields.{parts, after, header-only}
-use Rattle.text.proofs.Columns.{spelled-within}
+use Rattle.text.proofs.FieldColumns.{spelled-within}
 
 -- what the lines of edges and terminals need of the first line
 pub record Counted (net : Network) : Type 0 where
@@ -42,7 +42,7 @@ edge-counts net out i k s rest h n =
     record { vertices = omega arith; edges = omega arith; terminals = omega arith }
 
 afterEdges : Network → List ℕ → Read Network
-afterEdges net s = then (terminalLines net 0 (net .terminals) s) (λ whole s1. ended whole s1)
+afterEdges net s = then (terminalLines net 0 (net .terminals) s) (λ whole s1. nothingFollows whole s1)
 
 afterHead : Network → List ℕ → Read Network
 afterHead net s = then (edgeLines net 0 (net .edges) s) (λ out s1. afterEdges out s1)
@@ -58,12 +58,12 @@ stopped n f e = rw e
 module _ (s : List ℕ) (h : Part) (hr : partRead h s ≡ headerPart s) where
   pub whole-head-stop : (h .answer ≡ 0 → ⊥) → partRead h s ≡ layout s
   whole-head-stop z =
-      let a = answered-refused _ (h .network) (h .used) s _ refl z in
+      let a = answer-read-refused _ (h .network) (h .used) s _ refl z in
       a ∙ sym (layout-parts s ∙ stopped _ _ (sym hr ∙ a))
 
   module _ (hz : h .answer ≡ 0) where
     head-part : headerPart s ≡ got (h .network) (drop (h .used) s)
-    head-part = sym hr ∙ answered-got _ _ _ _ hz
+    head-part = sym hr ∙ answer-read-got _ _ _ _ hz
 
     pub first-counts : Counted (h .network)
     first-counts = head-counts s _ _ head-part
@@ -75,12 +75,12 @@ module _ (s : List ℕ) (h : Part) (hr : partRead h s ≡ headerPart s) where
       pub whole-edge-stop : (e .answer ≡ 0 → ⊥) → partRead e s ≡ layout s
       unfolding afterHead
       whole-edge-stop z =
-          let a = answered-refused _ (e .network) (e .used) s _ refl z in
+          let a = answer-read-refused _ (e .network) (e .used) s _ refl z in
           a ∙ sym (from-head ∙ stopped _ _ (sym er ∙ a))
 
       module _ (ez : e .answer ≡ 0) where
         edge-part : edgeLines (h .network) 0 (h .network .edges) (drop (h .used) s) ≡ got (e .network) (drop (e .used) s)
-        edge-part = sym er ∙ answered-got _ _ _ _ ez
+        edge-part = sym er ∙ answer-read-got _ _ _ _ ez
 
         pub second-counts : Counted (e .network)
         second-counts = edge-counts _ _ _ _ _ _ edge-part first-counts
@@ -93,34 +93,34 @@ module _ (s : List ℕ) (h : Part) (hr : partRead h s ≡ headerPart s) where
           pub whole-terminal-stop : (t .answer ≡ 0 → ⊥) → partRead t s ≡ layout s
           unfolding afterEdges
           whole-terminal-stop z =
-              let a = answered-refused _ (t .network) (t .used) s _ refl z in
+              let a = answer-read-refused _ (t .network) (t .used) s _ refl z in
               a ∙ sym (from-edges ∙ stopped _ _ (sym tr ∙ a))
 
           module _ (tz : t .answer ≡ 0) where
-            from-terminals : layout s ≡ ended (t .network) (drop (t .used) s)
+            from-terminals : layout s ≡ nothingFollows (t .network) (drop (t .used) s)
             unfolding afterEdges
-            from-terminals = from-edges ∙ after _ (sym tr ∙ answered-got _ _ _ _ tz)
+            from-terminals = from-edges ∙ after _ (sym tr ∙ answer-read-got _ _ _ _ tz)
 
             pub whole-surplus : t .used < length s → refused 1 ≡ layout s
-            unfolding ended
+            unfolding nothingFollows
             whole-surplus less = sym (from-terminals ∙ rw (drop-cons s (t .used) 0 less))
 
             pub whole-end : length s ≤ t .used → partRead t s ≡ layout s
-            unfolding ended
+            unfolding nothingFollows
             whole-end end =
                 let none = drop-of-length-le s end in
-                answered-got _ _ _ _ tz ∙ rw none (sym (rw none at from-terminals))
+                answer-read-got _ _ _ _ tz ∙ rw none (sym (rw none at from-terminals))
 
 -- the judgement of a text that was read
 module _ (s : List ℕ) (p : Part) (pr : partRead p s ≡ layout s) where
   pub read-stop : (p .answer ≡ 0 → ⊥) → refusal (p .answer) ≡ readText s
-  unfolding readText outcome
-  read-stop z = rw (sym pr ∙ answered-refused _ _ _ _ _ refl z)
+  unfolding readText readingOf
+  read-stop z = rw (sym pr ∙ answer-read-refused _ _ _ _ _ refl z)
 
   module _ (pz : p .answer ≡ 0) (n : ℕ) (j : n ≡ judged (p .network)) where
     through : readText s ≡ judgement n (p .network)
-    unfolding readText outcome
-    through = rw (sym pr ∙ answered-got _ _ _ _ pz, j)
+    unfolding readText readingOf
+    through = rw (sym pr ∙ answer-read-got _ _ _ _ pz, j)
 
     pub read-refused : (n ≡ 0 → ⊥) → refusal n ≡ readText s
     unfolding judgement

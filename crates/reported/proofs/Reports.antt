@@ -20,7 +20,7 @@ use Rattle.finishing.specs.declared.Finished.{Finished}
 use Rattle.finishing.specs.Finishes.{playedOut, ended, finishCall}
 use Rattle.calls.specs.Calls.{Call, played}
 use Rattle.invariant.proofs.Standing.{Standing, loaded-standing, standing-playing}
-use Rattle.solving.specs.Player.{keeps}
+use Rattle.solving.specs.Player.{standingMoves}
 use Rattle.solving.proofs.Finish.{over, finish-result, finish-completes}
 use Rattle.solving.proofs.Stands.{none, stands-follows}
 use Rattle.solving.proofs.EveryList.{every-list, all-stand}
@@ -61,7 +61,7 @@ report-printed f taken there = pick-yes (eqb (f .answer) 0) _ _ (eq-eqb _ 0 take
 -- the board after any calls is one of play
 played-standing : (text : List ℕ) (cs : List Call) → loadText text .answer ≡ 0 → Standing (played (loadText text .board) cs)
 played-standing text cs loads =
-    rw (every-list text cs loads .board) (stands-follows text loads (keeps text [] cs) (all-stand text loads [] cs none) .standing)
+    rw (every-list text cs loads .board) (stands-follows text loads (standingMoves text [] cs) (all-stand text loads [] cs none) .standing)
 
 pub every-report : (text : List ℕ) (cs : List Call) → loadText text .answer ≡ 0 → Reported (played (loadText text .board) cs)
 every-report text cs loads =

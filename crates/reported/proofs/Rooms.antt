@@ -17,18 +17,18 @@ use Rattle.guard.specs.Parts.{head, place}
 use Rattle.routing.specs.Routes.{route}
 use Rattle.routing.specs.Tables.{routesFit}
 use Rattle.invariant.specs.Invariant.{Invariant}
-use Rattle.invariant.proofs.Potential.{level, first-rises}
-use Rattle.solving.specs.Complete.{passes}
+use Rattle.invariant.proofs.Potential.{level, acyclic-rises}
+use Rattle.solving.specs.Complete.{verticesAlong}
 use Rattle.solving.proofs.Ends.{rising-once}
 
 -- the vertices that edges lead over: one more than the edges, and all vertices of the board
-passes-length : (heads : List ℕ) (v : ℕ) (es : List ℕ) → length (passes heads v es) ≡ suc (length es)
-passes-length heads v [] = refl
-passes-length heads v (e ∷ es) = ap suc (passes-length heads (getD heads e 0) es)
+vertices-along-length : (heads : List ℕ) (v : ℕ) (es : List ℕ) → length (verticesAlong heads v es) ≡ suc (length es)
+vertices-along-length heads v [] = refl
+vertices-along-length heads v (e ∷ es) = ap suc (vertices-along-length heads (getD heads e 0) es)
 
-passes-below : (heads : List ℕ) (n v : ℕ) (es : List ℕ) → v < n → ((e : ℕ) → getD heads e 0 < n) → Below n (passes heads v es)
-passes-below heads n v [] h ends = (h, tt)
-passes-below heads n v (e ∷ es) h ends = (h, passes-below heads n (getD heads e 0) es (ends e) ends)
+vertices-along-below : (heads : List ℕ) (n v : ℕ) (es : List ℕ) → v < n → ((e : ℕ) → getD heads e 0 < n) → Below n (verticesAlong heads v es)
+vertices-along-below heads n v [] h ends = (h, tt)
+vertices-along-below heads n v (e ∷ es) h ends = (h, vertices-along-below heads n (getD heads e 0) es (ends e) ends)
 
 module _ (b : Board) (inv : Invariant b) where
   -- a place past the edges holds 0, which is a vertex
@@ -42,10 +42,10 @@ module _ (b : Board) (inv : Invariant b) where
   route-short : (i : ℕ) → i < b .network .terminals → length (route b i) ≤ maxVertices
   route-short i h =
       let once =
-      rising-once (b .network .tails) (b .network .heads) (level b) (route b i) (inv .routes i h) (λ e t. first-rises b inv e (inv .on-routes i e h t)) in
-      let below = passes-below (b .network .heads) (b .network .vertices) (place b i) (route b i) (inv .placed i h) head-below in
-      let few = pigeon (b .network .vertices) (passes (b .network .heads) (place b i) (route b i)) once below in
-      omega (arith, few, passes-length (b .network .heads) (place b i) (route b i), inv .lawful .vertices)
+      rising-once (b .network .tails) (b .network .heads) (level b) (route b i) (inv .routes i h) (λ e t. acyclic-rises b inv e (inv .on-routes i e h t)) in
+      let below = vertices-along-below (b .network .heads) (b .network .vertices) (place b i) (route b i) (inv .placed i h) head-below in
+      let few = pigeon (b .network .vertices) (verticesAlong (b .network .heads) (place b i) (route b i)) once below in
+      omega (arith, few, vertices-along-length (b .network .heads) (place b i) (route b i), inv .lawful .vertices)
 
   pub routes-fit : routesFit b ≡ true
   unfolding routesFit

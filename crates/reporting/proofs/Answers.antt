@@ -23,7 +23,7 @@ use Rattle.guard.proofs.Facts.{intact-edges, intact-terminals, intact-demand}
 use Rattle.printing.proofs.Writing.{Left, left-part, left-none}
 use Rattle.routing.specs.Tables.{routesFit}
 use Rattle.routing.proofs.Read.{fits-route}
-use Rattle.reporting.specs.Reports.{reportText, started, unreported, numberOf, sheetRefusal, sheetCall, sheeted, putRefusal, putCall, putIn}
+use Rattle.reporting.specs.Reports.{reportText, started, unreported, unreportedIn, sheetRefusal, sheetCall, sheeted, putRefusal, putCall, putIn}
 use Rattle.reporting.specs.Rows.{tableRouteRow, tableLoadRow, tableText, Printable}
 use Rattle.reporting.proofs.Rows.{countsBy, rowsBy, counts-small, route-lines, load-lines}
 
@@ -32,14 +32,14 @@ module _ (b : Board) where
   pub number-made : (last : Entry) (sound fit : Bool) (n : ℕ) → last ≡ lastEntry b
       → sound ≡ intactIn (b .network) (b .acyclic) (b .flows) (b .places) (b .moves) (last .step)
       → fit ≡ all (λ i. leb (getD (countsBy b) i 0) maxVertices) 0 (b .network .terminals)
-      → n ≡ numberOf (b .stage) sound fit → n ≡ unreported b
+      → n ≡ unreportedIn (b .stage) sound fit → n ≡ unreported b
   unfolding unreported started intact both
   number-made last sound fit n el es ef en = en ∙ go (known (intact b))
     where
       same : sound ≡ intact b
       same = rw (es, el)
 
-      go : Known (intact b) → numberOf (b .stage) sound fit ≡ unreported b
+      go : Known (intact b) → unreportedIn (b .stage) sound fit ≡ unreported b
       go (was-true t) = rw (same, ef, fits-route b (intact-terminals b t))
       go (was-false t) = rw (same, t)
 
@@ -102,15 +102,15 @@ long-buffer false n h w = let z : _≡_ {A = ℕ} 0 1 = cc in absurd (omega arit
 
 -- the answers: the number of a board without a report, 8 where a text that is to be whole has no room, and the text
 module _ (b : Board) (whole : Bool) (buf : List ℕ) (at : ℕ) where
-  abbrev Answered : ℕ → ℕ → List ℕ → Type 0
-  Answered answer used out = (record { answer = answer; used = used } ≡ putCall b whole (length buf)) × ((used ≤ 8280) × (out ≡ putIn b whole buf at))
+  abbrev PutAnswer : ℕ → ℕ → List ℕ → Type 0
+  PutAnswer answer used out = (record { answer = answer; used = used } ≡ putCall b whole (length buf)) × ((used ≤ 8280) × (out ≡ putIn b whole buf at))
 
-  refused-so : (n : ℕ) → n ≡ putRefusal b whole (length buf) → (n ≡ 0 → ⊥) → Answered n 0 buf
+  refused-so : (n : ℕ) → n ≡ putRefusal b whole (length buf) → (n ≡ 0 → ⊥) → PutAnswer n 0 buf
   refused-so n p some =
       let no : eqb (putRefusal b whole (length buf)) 0 ≡ false = ne-eqb _ _ (λ z. some (p ∙ z)) in
       (λ i. record { answer = p i; used = sym (pick-no _ (length (reportText b)) 0 no) i }, (omega arith, sym (pick-no _ _ _ no)))
 
-  pub put-refused : (n : ℕ) → n ≡ unreported b → (n ≡ 0 → ⊥) → Answered n 0 buf
+  pub put-refused : (n : ℕ) → n ≡ unreported b → (n ≡ 0 → ⊥) → PutAnswer n 0 buf
   unfolding pick sheetRefusal
   put-refused n e some = refused-so n (e ∙ go whole) some
     where
@@ -124,14 +124,14 @@ module _ (b : Board) (whole : Bool) (buf : List ℕ) (at : ℕ) where
   -- a board with a report
   module _ (reported : unreported b ≡ 0) where
     -- a text that is to be whole, in a buffer that is shorter than the longest of them
-    pub put-short : whole ≡ true → leb (length (reportText b)) (length buf) ≡ false → Answered 8 0 buf
+    pub put-short : whole ≡ true → leb (length (reportText b)) (length buf) ≡ false → PutAnswer 8 0 buf
     unfolding sheetRefusal
     put-short w less =
         let p : 8 ≡ putRefusal b whole (length buf) = sym (pick-yes _ _ _ w ∙ pick-yes _ _ _ (eq-eqb _ _ reported) ∙ pick-no _ _ _ less) in
         refused-so 8 p (λ z. omega (arith, z))
 
     pub put-done : (used : ℕ) (out : List ℕ) → (whole ≡ true → length (reportText b) ≤ length buf) → used ≡ length (reportText b) → used ≤ 8280
-        → out ≡ sets buf at (reportText b) → Answered 0 used out
+        → out ≡ sets buf at (reportText b) → PutAnswer 0 used out
     unfolding sheetRefusal
     put-done used out room len small stored = (λ i. record { answer = p i; used = (len ∙ sym (pick-yes _ (length (reportText b)) 0 none)) i }, (small, stored ∙ sym (pick-yes _ _ _ none)))
       where

@@ -37,8 +37,8 @@ unfoldable pub unreported : Board → ℕ
 unreported b = pick (started b) (pick (eqb (b .stage) finishedStage) 0 28) 29
 
 -- the same by the stage, whether the board is intact, and whether its routes have room
-abbrev pub numberOf : ℕ → Bool → Bool → ℕ
-numberOf stage sound fit =
+abbrev pub unreportedIn : ℕ → Bool → Bool → ℕ
+unreportedIn stage sound fit =
     pick (both (both (leb playStage stage) (leb stage finishedStage)) (both sound fit)) (pick (eqb stage finishedStage) 0 28) 29
 
 -- "Sheet: 29, 28, 8", for a buffer of n bytes

@@ -12,7 +12,7 @@ ghost use lib.Seq.{sets};
 ghost use Rattle.board.specs.Limits.{maxVertices, maxEdges, maxTerminals};
 ghost use Rattle.text.specs.Text.{lineText, linesText};
 ghost use Rattle.routing.specs.Tables.{Moderate};
-ghost use Rattle.reporting.specs.Reports.{numberOf, sheetCall, sheeted, putCall, putIn};
+ghost use Rattle.reporting.specs.Reports.{unreportedIn, sheetCall, sheeted, putCall, putIn};
 ghost use Rattle.reporting.specs.Rows.{tableRouteRow, tableLoadRow, tableText, Printable};
 
 // How many numbers the line of a route has at most: the terminal, how many edges, and the edges.
@@ -22,8 +22,8 @@ const ROUTE_NUMBERS: usize = Board::MAX_VERTICES as usize + 2;
 const REPORT_BYTES: usize = 8280;
 
 // 29 or 28, in this order; 0 where there is a report. `sound`: the board is intact; `fit`: its routes have room in their rows.
-fn number_of(stage: u32, sound: bool, fit: bool) -> u32
-    ensures { λ r. ⌜ r ≡ numberOf stage sound fit ⌝ }
+fn unreported_in(stage: u32, sound: bool, fit: bool) -> u32
+    ensures { λ r. ⌜ r ≡ unreportedIn stage sound fit ⌝ }
 {
     let staged = lists::and(Board::PLAY <= stage, stage <= Board::FINISHED);
     let whole = lists::and(sound, fit);
@@ -182,7 +182,7 @@ pub fn put_sheet(buf: &mut [u8], at: usize, whole: bool, board: Board) -> Writte
     let mut counts = [0u32; Board::MAX_TERMINALS];
     let rows = routing::fill(board.journal, board.moves, &mut counts);
     let fit = routing::routes_fit(counts, net.terminals);
-    let number = number_of(board.stage, sound, fit);
+    let number = unreported_in(board.stage, sound, fit);
     if number != 0 {
         return Written {
             answer: number,

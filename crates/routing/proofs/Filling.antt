@@ -19,8 +19,8 @@ use Rattle.board.specs.declared.Augmentation.{Augmentation}
 use Rattle.board.specs.declared.Move.{Move}
 use Rattle.board.specs.declared.Move.the-variants.{Carry, Turn}
 use Rattle.routing.specs.Routes.{carriedOver, routeBy}
-use Rattle.routing.specs.Tables.{listed, rowOf, countsOf, rowsOf}
-use Rattle.routing.proofs.Listing.{length-listed, listed-from, set-listed, sets-snoc}
+use Rattle.routing.specs.Tables.{tabulated, rowOf, countsOf, rowsOf}
+use Rattle.routing.proofs.Tabulated.{length-tabulated, tabulated-from, set-tabulated, sets-snoc}
 
 row-snoc : (es : List ℕ) (e : ℕ) → set (rowOf es) (length es) e ≡ rowOf (es ++ (e ∷ []))
 unfolding rowOf
@@ -44,11 +44,11 @@ route-short i (m ∷ ms) = omega (arith, length-append (routeBy i ms) (carriedOv
 -- what the counts and the rows hold
 pub counts-at : (ms : List Entry) (i : ℕ) → i < maxTerminals → getD (countsOf ms) i 0 ≡ length (routeBy i ms)
 unfolding countsOf
-counts-at ms i h = listed-from (λ j. length (routeBy j ms)) maxTerminals i 0 h
+counts-at ms i h = tabulated-from (λ j. length (routeBy j ms)) maxTerminals i 0 h
 
 pub rows-at : (ms : List Entry) (i : ℕ) (d : List ℕ) → i < maxTerminals → getD (rowsOf ms) i d ≡ rowOf (routeBy i ms)
 unfolding rowsOf
-rows-at ms i d h = listed-from (λ j. rowOf (routeBy j ms)) maxTerminals i d h
+rows-at ms i d h = tabulated-from (λ j. rowOf (routeBy j ms)) maxTerminals i d h
 
 counts-short : (ms : List Entry) (i : ℕ) → i < maxTerminals → getD (countsOf ms) i 0 ≤ length ms
 counts-short ms i h = omega (arith, counts-at ms i h, route-short i ms)
@@ -76,7 +76,7 @@ module _ (ms : List Entry) (r : Relocation) where
   counts-carried : r .terminal < maxTerminals → set (countsOf ms) (r .terminal) (getD (countsOf ms) (r .terminal) 0 + 1) ≡ countsOf (record { step = Carry r } ∷ ms)
   unfolding countsOf routeBy
   counts-carried h =
-      set-listed
+      set-tabulated
       (λ i. length (routeBy i ms))
       (λ i. length (routeBy i (record { step = Carry r } ∷ ms)))
       maxTerminals
@@ -90,7 +90,7 @@ module _ (ms : List Entry) (r : Relocation) where
       ≡ rowsOf (record { step = Carry r } ∷ ms)
   unfolding rowsOf routeBy
   rows-carried h =
-      set-listed
+      set-tabulated
       (λ i. rowOf (routeBy i ms))
       (λ i. rowOf (routeBy i (record { step = Carry r } ∷ ms)))
       maxTerminals
@@ -102,7 +102,7 @@ module _ (ms : List Entry) (r : Relocation) where
   -- no room in the row of the terminal
   rows-full : r .terminal < maxTerminals → maxVertices ≤ getD (countsOf ms) (r .terminal) 0 → rowsOf ms ≡ rowsOf (record { step = Carry r } ∷ ms)
   unfolding rowsOf routeBy
-  rows-full h full = λ t. listed (λ i. same i t) 0 maxTerminals
+  rows-full h full = λ t. tabulated (λ i. same i t) 0 maxTerminals
     where
       same : (i : ℕ) → rowOf (routeBy i ms) ≡ rowOf (routeBy i ms ++ carriedOver i (Carry r))
       same i = go (known (eqb i (r .terminal)))
@@ -113,10 +113,10 @@ module _ (ms : List Entry) (r : Relocation) where
           go (was-false t) = ap rowOf (route-other i (eqb-false _ _ t))
 
   -- no row for the terminal
-  past : (A : Type 0) (f g : ℕ → A) → maxTerminals ≤ r .terminal → ((m : ℕ) → m ≢ r .terminal → f m ≡ g m) → listed f 0 maxTerminals ≡ listed g 0 maxTerminals
+  past : (A : Type 0) (f g : ℕ → A) → maxTerminals ≤ r .terminal → ((m : ℕ) → m ≢ r .terminal → f m ≡ g m) → tabulated f 0 maxTerminals ≡ tabulated g 0 maxTerminals
   past A f g h e =
-      let long = length-listed f 0 maxTerminals in
-      sym (set-out (listed f 0 maxTerminals) (r .terminal) (g (r .terminal)) (omega (arith, long))) ∙ set-listed f g maxTerminals (r .terminal) (g (r .terminal)) e refl
+      let long = length-tabulated f 0 maxTerminals in
+      sym (set-out (tabulated f 0 maxTerminals) (r .terminal) (g (r .terminal)) (omega (arith, long))) ∙ set-tabulated f g maxTerminals (r .terminal) (g (r .terminal)) e refl
 
   counts-past : maxTerminals ≤ r .terminal → countsOf ms ≡ countsOf (record { step = Carry r } ∷ ms)
   unfolding countsOf routeBy
@@ -129,19 +129,19 @@ module _ (ms : List Entry) (r : Relocation) where
 -- a turn changes no route
 counts-turned : (ms : List Entry) (a : Augmentation) → countsOf ms ≡ countsOf (record { step = Turn a } ∷ ms)
 unfolding countsOf routeBy
-counts-turned ms a = sym (λ t. listed (λ i. length (append-nil (routeBy i ms) t)) 0 maxTerminals)
+counts-turned ms a = sym (λ t. tabulated (λ i. length (append-nil (routeBy i ms) t)) 0 maxTerminals)
 
 rows-turned : (ms : List Entry) (a : Augmentation) → rowsOf ms ≡ rowsOf (record { step = Turn a } ∷ ms)
 unfolding rowsOf routeBy
-rows-turned ms a = sym (λ t. listed (λ i. rowOf (append-nil (routeBy i ms) t)) 0 maxTerminals)
+rows-turned ms a = sym (λ t. tabulated (λ i. rowOf (append-nil (routeBy i ms) t)) 0 maxTerminals)
 
 -- no move stands
 rows-none : replicate maxTerminals (replicate maxVertices 0) ≡ rowsOf []
-unfolding rowsOf listed routeBy rowOf
+unfolding rowsOf tabulated routeBy rowOf
 rows-none = refl
 
 counts-none : replicate maxTerminals 0 ≡ countsOf []
-unfolding countsOf listed routeBy
+unfolding countsOf tabulated routeBy
 counts-none = refl
 
 -- A walk from the last standing move of a journal to the first that has passed k moves: the rows and the counts are those of the moves it has passed.

@@ -1,4 +1,4 @@
-pub mod Walks
-pub mod Listing
+pub mod Loops
+pub mod Tabulated
 pub mod Filling
 pub mod Read

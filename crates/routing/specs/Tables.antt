@@ -16,9 +16,9 @@ use Rattle.board.specs.declared.Entry.{Entry}
 use Rattle.routing.specs.Routes.{routeBy, route}
 
 -- f at i, i + 1, .., i + k - 1
-unfoldable pub listed : {A : Type 0} → (ℕ → A) → ℕ → ℕ → List A
-listed f i zero = []
-listed f i (suc k) = f i ∷ listed f (suc i) k
+unfoldable pub tabulated : {A : Type 0} → (ℕ → A) → ℕ → ℕ → List A
+tabulated f i zero = []
+tabulated f i (suc k) = f i ∷ tabulated f (suc i) k
 
 -- a row has room for the edges of a simple route; it holds as many as there is room for, and 0 behind them
 unfoldable pub rowOf : List ℕ → List ℕ
@@ -26,10 +26,10 @@ rowOf es = sets (replicate maxVertices 0) 0 es
 
 -- the routes by these moves: how many edges each has, and its row
 unfoldable pub countsOf : List Entry → List ℕ
-countsOf ms = listed (λ i. length (routeBy i ms)) 0 maxTerminals
+countsOf ms = tabulated (λ i. length (routeBy i ms)) 0 maxTerminals
 
 unfoldable pub rowsOf : List Entry → List (List ℕ)
-rowsOf ms = listed (λ i. rowOf (routeBy i ms)) 0 maxTerminals
+rowsOf ms = tabulated (λ i. rowOf (routeBy i ms)) 0 maxTerminals
 
 -- every route has room in its row
 unfoldable pub routesFit : Board → Bool

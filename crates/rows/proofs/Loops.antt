@@ -1,4 +1,4 @@
--- One turn of the loops over lines, and the first line, from what the code knows after it has read a line.
+-- One round of the loops over lines, and the first line, from what the code knows after it has read a line.
 use mathlib.Core.Path.{_≡_, refl, sym, ap, _∙_}
 use mathlib.Core.List.{List, [], _∷_}
 use Prim.Native.Nat.{ℕ, suc, _+_, _-_, _<_, _≤_}
@@ -15,7 +15,7 @@ use Rattle.board.specs.declared.Network.{Network}
 use Rattle.text.specs.Views.{lineRead, headerPart}
 use Rattle.text.specs.Text.{Read, refused, got, then, line, lines, headRanges, edgeRanges, terminalRanges, header, headed, withEdges, withTerminals, edgeLines, terminalLines}
 use Rattle.lists.proofs.Laws.{rest-part}
-use Rattle.lines.proofs.Turns.{answered-got, answered-refused, lines-turn, lines-stop}
+use Rattle.lines.proofs.Loops.{answer-read-got, answer-read-refused, lines-turn, lines-stop}
 
 -- a run of k lines of which i are read, and the line read next
 module _ (x n : ℕ) (rs : List Range) (k i at : ℕ) (s : List ℕ) (f : List (List ℕ) → List ℕ → Read Network) (total : Read Network)
@@ -28,13 +28,13 @@ module _ (x n : ℕ) (rs : List Range) (k i at : ℕ) (s : List ℕ) (f : List (
   next = rw (rest-part s at) at was-read
 
   pub lines-step-stop : (l .answer ≡ 0 → ⊥) → refused (l .answer) ≡ total
-  lines-step-stop z = sym (lines-stop x rs (k - suc i) (drop at s) f (l .answer) (sym next ∙ answered-refused _ _ _ _ _ refl z)) ∙ more
+  lines-step-stop z = sym (lines-stop x rs (k - suc i) (drop at s) f (l .answer) (sym next ∙ answer-read-refused _ _ _ _ _ refl z)) ∙ more
 
   pub lines-step : l .answer ≡ 0
       → then (lines x rs (k - (i + 1)) (drop (at + l .used) s)) (λ rows s1. f (take n (l .values) ∷ rows) s1) ≡ total
   lines-step z =
       rw (add-one i, ← drop-drop (l .used) at s)
-      (sym (lines-turn x rs (k - suc i) (drop at s) f (take n (l .values)) (drop (l .used) (drop at s)) (sym next ∙ answered-got _ _ _ _ z)) ∙ more)
+      (sym (lines-turn x rs (k - suc i) (drop at s) f (take n (l .values)) (drop (l .used) (drop at s)) (sym next ∙ answer-read-got _ _ _ _ z)) ∙ more)
 
 -- the same where the lines are stored: out is the network so far, next the one with the line just read
 module _ (x n : ℕ) (rangesOf : Network → List Range) (place : Network → ℕ → List (List ℕ) → Network)
@@ -99,11 +99,11 @@ terminal-end out k i s h = let e : k - i ≡ 0 = omega arith in rw e
 module _ (s : List ℕ) (l : Line) (was-read : lineRead 4 l s ≡ line 66 headRanges s) where
   pub head-stop : (l .answer ≡ 0 → ⊥) → refused (l .answer) ≡ headerPart s
   unfolding headerPart header then
-  head-stop z = rw (sym was-read ∙ answered-refused _ _ _ _ _ refl z)
+  head-stop z = rw (sym was-read ∙ answer-read-refused _ _ _ _ _ refl z)
 
   module _ (z : l .answer ≡ 0) (size : length (l .values) ≡ 4) where
     opened : line 66 headRanges s ≡ got (l .values) (drop (l .used) s)
-    opened = sym was-read ∙ answered-got _ _ _ _ z ∙ ap (λ (v : List ℕ). got v (drop (l .used) s)) (take-all 4 (l .values) (omega arith))
+    opened = sym was-read ∙ answer-read-got _ _ _ _ z ∙ ap (λ (v : List ℕ). got v (drop (l .used) s)) (take-all 4 (l .values) (omega arith))
 
     pub head-source : getD (l .values) 0 0 ≤ getD (l .values) 3 0 → refused 2 ≡ headerPart s
     unfolding headerPart header then pick

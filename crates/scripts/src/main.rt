@@ -84,9 +84,9 @@ fn skip(length: u32) -> bool {
 // What the call `sheet` answers on a board, with this room, and its text.
 fn report_into(board: Board, room: &mut [u8]) -> bool {
     let written = reporting::sheet(board, room);
-    let answered = framing::print_line(written.answer);
+    let answer_printed = framing::print_line(written.answer);
     let printed = serving::print_part(room, written.used);
-    answered && printed
+    answer_printed && printed
 }
 
 // The same with so many bytes of room.
@@ -142,9 +142,9 @@ fn text_script(letter: u8, length: u32) -> bool {
     if !came || space.len() < n {
         return false;
     }
-    let answered = answer(letter, &space[..n]);
+    let printed = answer(letter, &space[..n]);
     let skipped = skip(length - kept);
-    answered && skipped
+    printed && skipped
 }
 
 // One script: answers whether there was one, and it was read and answered whole.
@@ -166,11 +166,11 @@ fn next_script() -> bool {
     io::write_all(STDOUT_FILENO, b"-\n")
 }
 
-// A proved loop has to end, and nothing says that the input does. So the loop counts its turns down, from a number that no run
+// A proved loop has to end, and nothing says that the input does. So the loop counts its rounds down, from a number that no run
 // uses up.
 fn main() {
-    let mut turns = u64::MAX;
-    while 0 < turns && next_script() {
-        turns -= 1;
+    let mut rounds = u64::MAX;
+    while 0 < rounds && next_script() {
+        rounds -= 1;
     }
 }

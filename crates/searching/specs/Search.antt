@@ -9,7 +9,7 @@ use Rattle.lists.specs.Choice.{pick, both}
 use Rattle.lists.specs.Lists.{lowest}
 use Rattle.sets.specs.Sets.{setWidth, hasBit, common}
 use Rattle.board.specs.Limits.{maxVertices, maxEdges}
-use Rattle.incidence.specs.Incidence.{Incident, Positive}
+use Rattle.incidence.specs.Incidence.{Incident, PositiveSet}
 use Rattle.opening.specs.Opens.{flowFits, isOpenAt}
 
 module _ (heads demands : List ℕ) (edges : ℕ) (flows : List ℕ) (marks : ℕ) (places : List ℕ) where
@@ -38,7 +38,7 @@ chosenIn flows marks demand set =
 -- what the search leans on: the sets are those of the lists, each terminal is at a vertex and needs something, and the places past the edges hold no flow
 pub record Searched (heads entering demands : List ℕ) (terminals edges : ℕ) (flows : List ℕ) (positive : ℕ) (places : List ℕ) : Type 0 where
   pub enter : Incident heads entering
-  pub is-positive : Positive flows positive
+  pub is-positive : PositiveSet flows positive
   pub all : length flows ≡ maxEdges
   pub few : edges ≤ maxEdges
   pub past : (e : ℕ) → edges ≤ e → getD flows e 0 ≡ 0

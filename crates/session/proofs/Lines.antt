@@ -27,7 +27,7 @@ use Rattle.turning.specs.declared.StepRule.the-variants.{OnBoard}
 use Rattle.turning.specs.Turns.{meets, turnRefusal, turned, turnCall}
 use Rattle.orders.specs.declared.Form.{Form}
 use Rattle.orders.specs.Orders.{Order, carry, turn, hint, undo, finish, other}
-use Rattle.orders.specs.Scans.{finishForm, carryWhole, turnForm, greatestEdge, Keeps, Stands}
+use Rattle.orders.specs.Scans.{finishForm, carryWhole, turnForm, greatestEdge, KeepsSteps, Stands}
 use Rattle.session.specs.Replies.{replied, isFinish, replyText}
 use Rattle.session.specs.Machine.{unkept, turnReplied, formReplied, formText}
 
@@ -100,7 +100,7 @@ module _ (b : Board) where
   refused-turn : (w : List Step) (n : ℕ) → turnRefusal b w ≡ suc n → answered (turnRefusal b w) b (turned b w) ≡ record { answer = suc n; board = b }
   refused-turn w n e = rw e (answered-no (suc n) b (turned b w) (λ z. omega (arith, z)))
 
-  module _ (w : List Step) (f : Form) (k : Keeps w f) where
+  module _ (w : List Step) (f : Form) (k : KeepsSteps w f) where
     abbrev Answer : Played → Type 0
     Answer p = p ≡ answered (turnRefusal b w) b (turned b w)
 

@@ -185,7 +185,7 @@ module _ (p : ℕ → Bool) where
       go (inl g) = first (next-from m i c g)
       go (inr (l, g, t)) = inr (omega arith, omega arith, t)
 
-  -- for the code: one turn of a loop over the numbers below n, and its end
+  -- for the code: one round of a loop over the numbers below n, and its end
   pub collect-turn : (m i n total : ℕ) → i < n → collect p m i (n - i) ≡ total → collect p (pick (p i) (withBit m i) m) (i + 1) (n - (i + 1)) ≡ total
   unfolding collect
   collect-turn m i n total h inv =

@@ -13,7 +13,7 @@ use Rattle.lists.specs.Choice.{pick}
 use Rattle.lists.specs.Members.{has, Distinct}
 use Rattle.lists.proofs.Laws.{Known, was-true, was-false, known, eq-or-ne, pick-yes, pick-no}
 use Rattle.sets.specs.Sets.{hasBit}
-use Rattle.flows.specs.Trails.{Step, down, up, edgeOf, edgesOf, changed, Fits}
+use Rattle.flows.specs.Trails.{Step, down, up, edgeOf, edgesOf, changedAlong, Fits}
 use Rattle.flows.proofs.Change.{In, over, in-edges, after, changed-length, changed-other, changed-at}
 use Rattle.steps.specs.Steps.{gather}
 use Rattle.steps.proofs.Cycled.{gather-has, gather-from, gathered-apart}
@@ -144,8 +144,8 @@ shifted-step flows x w (up e) d i =
     lacks q (was-true p) = absurd (gathered-apart w e d p q)
     lacks q (was-false p) = p
 
-pub shifted-changed : (flows : List ℕ) (x : ℕ) (w : List Step) → Fits flows x w → shifted x (gather false 0 w) (gather true 0 w) flows ≡ changed flows x w
-shifted-changed flows x w f = ext-getD 0 (shifted x downs ups flows) (changed flows x w) len (λ e h. one e (known (has e (edgesOf w))) (rw (shifted-length x downs ups flows) at h))
+pub shifted-changed : (flows : List ℕ) (x : ℕ) (w : List Step) → Fits flows x w → shifted x (gather false 0 w) (gather true 0 w) flows ≡ changedAlong flows x w
+shifted-changed flows x w f = ext-getD 0 (shifted x downs ups flows) (changedAlong flows x w) len (λ e h. one e (known (has e (edgesOf w))) (rw (shifted-length x downs ups flows) at h))
   where
     downs : ℕ
     downs = gather false 0 w
@@ -153,10 +153,10 @@ shifted-changed flows x w f = ext-getD 0 (shifted x downs ups flows) (changed fl
     ups : ℕ
     ups = gather true 0 w
 
-    len : length (shifted x downs ups flows) ≡ length (changed flows x w)
+    len : length (shifted x downs ups flows) ≡ length (changedAlong flows x w)
     len = shifted-length x downs ups flows ∙ sym (changed-length flows x w)
 
-    one : (e : ℕ) → Known (has e (edgesOf w)) → e < length flows → getD (shifted x downs ups flows) e 0 ≡ getD (changed flows x w) e 0
+    one : (e : ℕ) → Known (has e (edgesOf w)) → e < length flows → getD (shifted x downs ups flows) e 0 ≡ getD (changedAlong flows x w) e 0
     one e (was-true t) h =
         let o = over w e t in
         let s = o .step in

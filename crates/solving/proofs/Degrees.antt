@@ -22,8 +22,8 @@ use Rattle.flows.proofs.Source.{fed}
 use Rattle.flows.proofs.Walk.{path-cases}
 use Rattle.loader.specs.Load.{acyclicOf}
 use Rattle.invariant.specs.Invariant.{Invariant, Marked, At}
-use Rattle.invariant.proofs.Network.{first-acyclic, source-unentered}
-use Rattle.invariant.proofs.Kept.{joined, tails-long, heads-long, positive-first}
+use Rattle.invariant.proofs.Network.{acyclic-of-acyclic, source-unentered}
+use Rattle.invariant.proofs.Kept.{joined, tails-long, heads-long, positive-acyclic}
 use Rattle.invariant.proofs.Single.{Leaves}
 use Rattle.invariant.proofs.Carriable.{facts-open, none-open}
 use Rattle.invariant.proofs.TurnedMarks.{positive-inside, not-equal}
@@ -101,11 +101,11 @@ module _ (b : Board) (inv : Invariant b) where
   path-was : {u v : ℕ} → Path (b .network .tails) (b .network .heads) (b .flows) u v
       → Path (b .network .tails) (b .network .heads) (acyclicOf (b .network)) u v
   path-was here = here
-  path-was (on {b = m} {c = v} p d) = on (path-was p) (positive-first b inv m v d)
+  path-was (on {b = m} {c = v} p d) = on (path-was p) (positive-acyclic b inv m v d)
 
   -- so the flow is acyclic
   no-cycle : Acyclic (b .network .tails) (b .network .heads) (b .flows)
-  no-cycle u v d p = first-acyclic (b .network) law u v (positive-first b inv u v d) (path-was p)
+  no-cycle u v d p = acyclic-of-acyclic (b .network) law u v (positive-acyclic b inv u v d) (path-was p)
 
   places-long : length (b .places) ≡ length (b .network .demands)
   places-long = inv .places-size ∙ law .homes-size ∙ sym (law .demands-size)
@@ -114,7 +114,7 @@ module _ (b : Board) (inv : Invariant b) where
   pub never-enters : (e : ℕ) → 0 < flow b e → head b e ≢ b .network .source
   never-enters e h q =
       source-unentered (b .network) law (tail b e)
-      (positive-first b inv (tail b e) (b .network .source)
+      (positive-acyclic b inv (tail b e) (b .network .source)
       (record { edge = e; inside = above-inside (b .flows) e h; start = refl; end = q; above = h }))
 
   -- an edge is within the flow at its ends

@@ -15,13 +15,13 @@ use Rattle.lists.proofs.Totals.{most-at}
 use Rattle.lists.proofs.Pigeon.{has-here, has-later, both-missed}
 use Rattle.board.specs.declared.Board.{Board}
 use Rattle.flows.specs.Trails.{Trail, go, downs}
-use Rattle.guard.specs.Parts.{flow, first, marked, demand, place}
+use Rattle.guard.specs.Parts.{flow, acyclicFlow, marked, demand, place}
 use Rattle.choosing.specs.Choosing.{isHome, allHome}
 use Rattle.finishing.specs.Finishes.{ended}
 use Rattle.routing.specs.Routes.{route, share, load, largest}
 use Rattle.invariant.specs.Invariant.{Invariant}
-use Rattle.invariant.proofs.Potential.{level, first-rises}
-use Rattle.solving.specs.Complete.{passes, Simple, InUse}
+use Rattle.invariant.proofs.Potential.{level, acyclic-rises}
+use Rattle.solving.specs.Complete.{verticesAlong, Simple, InUse}
 
 -- vertices along edges that all rise in level
 module _ (tails heads : List ℕ) (level : ℕ → ℕ) where
@@ -29,14 +29,14 @@ module _ (tails heads : List ℕ) (level : ℕ → ℕ) where
   Rising es = (e : ℕ) → has e es ≡ true → level (getD tails e 0) < level (getD heads e 0)
 
   -- a vertex below the first is not among them
-  below-missed : {v c : ℕ} (es : List ℕ) → Trail tails heads v (downs es) c → Rising es → (x : ℕ) → level x < level v → has x (passes heads v es) ≡ false
+  below-missed : {v c : ℕ} (es : List ℕ) → Trail tails heads v (downs es) c → Rising es → (x : ℕ) → level x < level v → has x (verticesAlong heads v es) ≡ false
   unfolding has
   below-missed {v} [] t rises x l = both-missed x v [] (λ q. omega (arith, l, ap level q)) refl
   below-missed {v} (e ∷ es) (go s p t) rises x l =
-      both-missed x v (passes heads (getD heads e 0) es) (λ q. omega (arith, l, ap level q))
+      both-missed x v (verticesAlong heads (getD heads e 0) es) (λ q. omega (arith, l, ap level q))
       (below-missed es t (λ g h. rises g (has-later g e es h)) x (omega (arith, l, ap level p, rises e (has-here e e es refl))))
 
-  pub rising-once : {v c : ℕ} (es : List ℕ) → Trail tails heads v (downs es) c → Rising es → Distinct (passes heads v es)
+  pub rising-once : {v c : ℕ} (es : List ℕ) → Trail tails heads v (downs es) c → Rising es → Distinct (verticesAlong heads v es)
   unfolding has
   rising-once [] t rises = (refl, tt)
   rising-once {v} (e ∷ es) (go s p t) rises =
@@ -55,7 +55,7 @@ module _ (b : Board) (inv : Invariant b) where
       rw (home-facts all i h) at (inv .routes i h) in
       record {
         trail = led;
-        once = rising-once (b .network .tails) (b .network .heads) (level b) (route b i) led (λ e t. first-rises b inv e (inv .on-routes i e h t));
+        once = rising-once (b .network .tails) (b .network .heads) (level b) (route b i) led (λ e t. acyclic-rises b inv e (inv .on-routes i e h t));
       }
 
   -- a user's demand is at most the largest
@@ -66,14 +66,14 @@ module _ (b : Board) (inv : Invariant b) where
       let most = most-at (share b e) 0 (b .network .terminals) (u .terminal) (omega arith) (omega (arith, u .on-board)) in
       omega (arith, whole, most, inv .lawful .demand (u .terminal) (u .on-board) .0)
 
-  pub strictly-below : (e : ℕ) → InUse b e → load b e < first b e + largest b e
+  pub strictly-below : (e : ℕ) → InUse b e → load b e < acyclicFlow b e + largest b e
   strictly-below e u = by-mark (known (marked b e))
     where
-      by-flow : marked b e ≡ true → (0 < flow b e) ⊎ (flow b e ≤ 0) → load b e < first b e + largest b e
+      by-flow : marked b e ≡ true → (0 < flow b e) ⊎ (flow b e ≤ 0) → load b e < acyclicFlow b e + largest b e
       by-flow m (inl l) = omega (arith, inv .load-positive e (record { mark = m; above = l }))
       by-flow m (inr l) = inv .load-zero e m (omega arith)
 
-      by-mark : Known (marked b e) → load b e < first b e + largest b e
+      by-mark : Known (marked b e) → load b e < acyclicFlow b e + largest b e
       by-mark (was-true m) = by-flow m (lt-or-ge 0 (flow b e))
       by-mark (was-false m) = omega (arith, inv .load-unmarked e m, used e u)
 
@@ -82,6 +82,6 @@ module _ (b : Board) (inv : Invariant b) where
   unfolding route
   ended-simple from all i h = let s = simple-routes all i h in record { trail = s .trail; once = s .once }
 
-  pub ended-below : (from e : ℕ) → InUse (ended from b) e → load (ended from b) e < first (ended from b) e + largest (ended from b) e
+  pub ended-below : (from e : ℕ) → InUse (ended from b) e → load (ended from b) e < acyclicFlow (ended from b) e + largest (ended from b) e
   unfolding route load largest
   ended-below from e u = strictly-below e (record { terminal = u .terminal; on-board = u .on-board; holds = u .holds })

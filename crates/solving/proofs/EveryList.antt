@@ -23,11 +23,11 @@ use Rattle.hinting.specs.declared.Suggestion.{Suggestion}
 use Rattle.hinting.specs.Hints.{hintRefusal}
 use Rattle.invariant.proofs.Standing.{Standing, standing-playing}
 use Rattle.calls.specs.Calls.{Call, carry, turn, undo, hint, made, played, answers, HintsKept}
-use Rattle.solving.specs.Player.{listedAll, afresh, saysTo, keepsAfter, keeps, says, HintsKeptBy}
+use Rattle.solving.specs.Player.{listedAll, afresh, saysTo, standingAfter, standingMoves, says, HintsKeptBy}
 use Rattle.solving.specs.Faithful.{Faithful}
 use Rattle.solving.proofs.Finish.{finish-completes, hint-taken}
 use Rattle.solving.proofs.Stands.{
-  Accepted,
+  AcceptedMove,
   carry-accepted,
   turn-accepted,
   without-last,
@@ -44,12 +44,12 @@ use Rattle.solving.proofs.Stands.{
 -- one call, on the engine's board and by the player
 record Same (text : List ℕ) (ms : List Call) (c : Call) : Type 0 where
   answer : made (afresh text ms) c .answer ≡ saysTo text ms c
-  board : made (afresh text ms) c .board ≡ afresh text (keepsAfter text ms c)
-  stands : Stands text (keepsAfter text ms c)
+  board : made (afresh text ms) c .board ≡ afresh text (standingAfter text ms c)
+  stands : Stands text (standingAfter text ms c)
 
 module _ (text : List ℕ) (ms : List Call) (s : Stands text ms) where
   -- a move that is accepted and joins the list
-  joins : (c : Call) → Accepted (afresh text ms) c → saysTo text ms c ≡ 0 → keepsAfter text ms c ≡ ms ++ (c ∷ []) → Same text ms c
+  joins : (c : Call) → AcceptedMove (afresh text ms) c → saysTo text ms c ≡ 0 → standingAfter text ms c ≡ ms ++ (c ∷ []) → Same text ms c
   joins c a said kept = record {
     answer = ap (λ (p : Played). p .answer) (a .called) ∙ sym said;
     board = rw kept (ap (λ (p : Played). p .board) (a .called) ∙ sym (afresh-more text ms c));
@@ -57,7 +57,7 @@ module _ (text : List ℕ) (ms : List Call) (s : Stands text ms) where
   }
 
   -- a call that leaves board and list
-  leaves : (c : Call) → made (afresh text ms) c ≡ record { answer = saysTo text ms c; board = afresh text ms } → keepsAfter text ms c ≡ ms → Same text ms c
+  leaves : (c : Call) → made (afresh text ms) c ≡ record { answer = saysTo text ms c; board = afresh text ms } → standingAfter text ms c ≡ ms → Same text ms c
   leaves c m kept = record {
     answer = ap (λ (p : Played). p .answer) m;
     board = rw kept (ap (λ (p : Played). p .board) m);
@@ -65,7 +65,7 @@ module _ (text : List ℕ) (ms : List Call) (s : Stands text ms) where
   }
 
   same-carry : (i e : ℕ) → Standing (afresh text ms) → Same text ms (carry i e)
-  unfolding saysTo keepsAfter carryCall
+  unfolding saysTo standingAfter carryCall
   same-carry i e st = go (eq-or-ne (carryRefusal (afresh text ms) i e) 0)
     where
       go : (carryRefusal (afresh text ms) i e ≡ 0) ⊎ (carryRefusal (afresh text ms) i e ≢ 0) → Same text ms (carry i e)
@@ -73,7 +73,7 @@ module _ (text : List ℕ) (ms : List Call) (s : Stands text ms) where
       go (inr n) = leaves (carry i e) (answered-no _ (afresh text ms) (carried (afresh text ms) i e) n) (pick-no _ _ _ (ne-eqb _ 0 n))
 
   same-turn : (w : List ℕ) → Standing (afresh text ms) → Same text ms (turn w)
-  unfolding saysTo keepsAfter turnCall
+  unfolding saysTo standingAfter turnCall
   same-turn w st = go (eq-or-ne (turnRefusal (afresh text ms) (stepsOf w)) 0)
     where
       go : (turnRefusal (afresh text ms) (stepsOf w) ≡ 0) ⊎ (turnRefusal (afresh text ms) (stepsOf w) ≢ 0) → Same text ms (turn w)
@@ -82,7 +82,7 @@ module _ (text : List ℕ) (ms : List Call) (s : Stands text ms) where
 
   -- a hint that is taken
   same-hint : hintRefusal (afresh text ms) ≡ 0 → Same text ms hint
-  unfolding saysTo keepsAfter
+  unfolding saysTo standingAfter
   same-hint h = leaves hint (λ j. record { answer = h j; board = afresh text ms }) refl
 
 -- undo on a board with no move: 27
@@ -94,12 +94,12 @@ undo-nothing b st none-made =
 
 module _ (text : List ℕ) where
   undo-none : Follows text [] → Same text [] undo
-  unfolding saysTo keepsAfter pick
+  unfolding saysTo standingAfter pick
   undo-none f = leaves text [] none undo (undo-nothing (afresh text []) (f .standing) (f .moves)) refl
 
   -- undo after the last move c
-  undo-last : (ms : List Call) (c : Call) → Stands text ms → Accepted (afresh text ms) c → Same text (ms ++ (c ∷ [])) undo
-  unfolding saysTo keepsAfter
+  undo-last : (ms : List Call) (c : Call) → Stands text ms → AcceptedMove (afresh text ms) c → Same text (ms ++ (c ∷ [])) undo
+  unfolding saysTo standingAfter
   undo-last ms c s a =
       let back : undoCall (afresh text (ms ++ (c ∷ []))) ≡ record { answer = 0; board = afresh text ms } = rw (afresh-more text ms c) (a .back) in
       record {
@@ -122,20 +122,20 @@ module _ (text : List ℕ) (loads : loadText text .answer ≡ 0) where
   same ms hint s = same-hint text ms s (hint-taken (afresh text ms) (stands-follows text loads ms s .standing))
 
   -- a list of calls, from standing moves on
-  pub all-stand : (ms cs : List Call) → Stands text ms → Stands text (keeps text ms cs)
-  unfolding keeps
+  pub all-stand : (ms cs : List Call) → Stands text ms → Stands text (standingMoves text ms cs)
+  unfolding standingMoves
   all-stand ms [] s = s
-  all-stand ms (c ∷ cs) s = all-stand (keepsAfter text ms c) cs (same ms c s .stands)
+  all-stand ms (c ∷ cs) s = all-stand (standingAfter text ms c) cs (same ms c s .stands)
 
-  same-board : (ms cs : List Call) → Stands text ms → played (afresh text ms) cs ≡ afresh text (keeps text ms cs)
-  unfolding played keeps
+  same-board : (ms cs : List Call) → Stands text ms → played (afresh text ms) cs ≡ afresh text (standingMoves text ms cs)
+  unfolding played standingMoves
   same-board ms [] s = refl
-  same-board ms (c ∷ cs) s = let q = same ms c s in rw (q .board) (same-board (keepsAfter text ms c) cs (q .stands))
+  same-board ms (c ∷ cs) s = let q = same ms c s in rw (q .board) (same-board (standingAfter text ms c) cs (q .stands))
 
   same-answers : (ms cs : List Call) → Stands text ms → answers (afresh text ms) cs ≡ says text ms cs
   unfolding answers says
   same-answers ms [] s = refl
-  same-answers ms (c ∷ cs) s = let q = same ms c s in rw (q .board, q .answer, same-answers (keepsAfter text ms c) cs (q .stands))
+  same-answers ms (c ∷ cs) s = let q = same ms c s in rw (q .board, q .answer, same-answers (standingAfter text ms c) cs (q .stands))
 
   same-hints : (ms cs : List Call) (hs : List Suggestion) → Stands text ms → HintsKept (afresh text ms) cs hs → HintsKeptBy text ms cs hs
   same-hints ms [] hs s k = k
@@ -145,29 +145,29 @@ module _ (text : List ℕ) (loads : loadText text .answer ≡ 0) where
       (record { number = taken; move = k .0 .move taken }, same-hints ms cs hs s (k .1))
   same-hints ms (carry i e ∷ cs) hs s k =
       let q = same ms (carry i e) s in
-      same-hints (keepsAfter text ms (carry i e)) cs hs (q .stands) (subst (λ (b : Board). HintsKept b cs hs) (q .board) k)
+      same-hints (standingAfter text ms (carry i e)) cs hs (q .stands) (subst (λ (b : Board). HintsKept b cs hs) (q .board) k)
   same-hints ms (turn w ∷ cs) hs s k =
       let q = same ms (turn w) s in
-      same-hints (keepsAfter text ms (turn w)) cs hs (q .stands) (subst (λ (b : Board). HintsKept b cs hs) (q .board) k)
+      same-hints (standingAfter text ms (turn w)) cs hs (q .stands) (subst (λ (b : Board). HintsKept b cs hs) (q .board) k)
   same-hints ms (undo ∷ cs) hs s k =
       let q = same ms undo s in
-      same-hints (keepsAfter text ms undo) cs hs (q .stands) (subst (λ (b : Board). HintsKept b cs hs) (q .board) k)
+      same-hints (standingAfter text ms undo) cs hs (q .stands) (subst (λ (b : Board). HintsKept b cs hs) (q .board) k)
 
   -- the player's board, after every list of calls
-  faithful : (cs : List Call) → Faithful text cs (afresh text (keeps text [] cs))
+  faithful : (cs : List Call) → Faithful text cs (afresh text (standingMoves text [] cs))
   unfolding afresh listedAll
   faithful cs =
-      let f = stands-follows text loads (keeps text [] cs) (all-stand [] cs none) in
+      let f = stands-follows text loads (standingMoves text [] cs) (all-stand [] cs none) in
       record {
-        network = afresh-network text (keeps text [] cs);
-        acyclic = afresh-acyclic text (keeps text [] cs);
+        network = afresh-network text (standingMoves text [] cs);
+        acyclic = afresh-acyclic text (standingMoves text [] cs);
         board = refl;
         routes = f .routes;
         again = sym (f .again);
         moves = f .moves;
-        answered = same-answers [] cs none;
+        same-answers = same-answers [] cs none;
         hinted = λ hs k. same-hints [] cs hs none k;
-        finish = finish-completes (afresh text (keeps text [] cs)) (f .standing);
+        finish = finish-completes (afresh text (standingMoves text [] cs)) (f .standing);
       }
 
   -- the board that the text gave is the player's before any call

@@ -29,7 +29,7 @@ use Rattle.calls.specs.Calls.{Call, carry, turn, undo, hint, made, played}
 use Rattle.solving.specs.Player.{listed, listedAll, afresh, goesOver, routeOf}
 
 -- ---- one accepted move c on board b
-pub record Accepted (b : Board) (c : Call) : Type 0 where
+pub record AcceptedMove (b : Board) (c : Call) : Type 0 where
   pub called : made b c ≡ record { answer = 0; board = listed b c }
   pub back : undoCall (listed b c) ≡ record { answer = 0; board = b }
   pub standing : Standing (listed b c)
@@ -54,7 +54,7 @@ module _ (b : Board) (i e : ℕ) (st : Standing b) (h : carryRefusal b i e ≡ 0
       go (inl q) = rw (pick-yes (eqb i k) (e ∷ []) [] (eq-eqb i k q), ← q) (route-moved b i e carry-fits)
       go (inr n) = rw (pick-no (eqb i k) (e ∷ []) [] (ne-eqb i k n)) (route-kept b i e carry-fits k (λ q. n (sym q)))
 
-  pub carry-accepted : Accepted b (carry i e)
+  pub carry-accepted : AcceptedMove b (carry i e)
   unfolding carryCall
   carry-accepted = record {
     called = answered-yes (carryRefusal b i e) b (carried b i e) h;
@@ -64,7 +64,7 @@ module _ (b : Board) (i e : ℕ) (st : Standing b) (h : carryRefusal b i e ≡ 0
     routes = carry-routes;
   }
 
-pub turn-accepted : (b : Board) (s : List ℕ) → Standing b → turnRefusal b (stepsOf s) ≡ 0 → Accepted b (turn s)
+pub turn-accepted : (b : Board) (s : List ℕ) → Standing b → turnRefusal b (stepsOf s) ≡ 0 → AcceptedMove b (turn s)
 unfolding turnCall turned
 turn-accepted b s st h = record {
   called = answered-yes (turnRefusal b (stepsOf s)) b (turned b (stepsOf s)) h;
@@ -131,7 +131,7 @@ route-more i (m ∷ ms) c = ap (λ (l : List ℕ). l ++ goesOver i m) (route-mor
 -- ---- each move of the list was accepted on the board of those before it
 pub data Stands (text : List ℕ) : List Call → Type 0 where
   none : Stands text []
-  more : {all : List Call} (ms : List Call) (c : Call) → Stands text ms → Accepted (afresh text ms) c → all ≡ ms ++ (c ∷ []) → Stands text all
+  more : {all : List Call} (ms : List Call) (c : Call) → Stands text ms → AcceptedMove (afresh text ms) c → all ≡ ms ++ (c ∷ []) → Stands text all
 
 -- what holds on the board of standing moves
 pub record Follows (text : List ℕ) (ms : List Call) : Type 0 where
@@ -150,7 +150,7 @@ module _ (text : List ℕ) (loads : loadText text .answer ≡ 0) where
     again = refl;
   }
 
-  follows-more : (ms : List Call) (c : Call) → Follows text ms → Accepted (afresh text ms) c → Follows text (ms ++ (c ∷ []))
+  follows-more : (ms : List Call) (c : Call) → Follows text ms → AcceptedMove (afresh text ms) c → Follows text (ms ++ (c ∷ []))
   follows-more ms c f a = record {
     standing = rw (afresh-more text ms c) (a .standing);
     moves = rw (afresh-more text ms c) (omega (arith, a .moves, f .moves, length-append ms (c ∷ [])));

@@ -7,21 +7,21 @@ use lib.ListN.{getD}
 use Rattle.lists.specs.Members.{has, Distinct}
 use Rattle.board.specs.Limits.{maxMoves}
 use Rattle.board.specs.declared.Board.{Board}
-use Rattle.guard.specs.Parts.{first, place}
+use Rattle.guard.specs.Parts.{acyclicFlow, place}
 use Rattle.flows.specs.Trails.{Trail, downs}
 use Rattle.finishing.specs.declared.Finished.{Finished}
 use Rattle.routing.specs.Routes.{route, load, largest}
 use Rattle.invariant.specs.Bound.{movesBound}
 
 -- the vertices that edges lead over, from v on
-abbrev pub passes : List ℕ → ℕ → List ℕ → List ℕ
-passes heads v [] = v ∷ []
-passes heads v (e ∷ es) = v ∷ passes heads (getD heads e 0) es
+abbrev pub verticesAlong : List ℕ → ℕ → List ℕ → List ℕ
+verticesAlong heads v [] = v ∷ []
+verticesAlong heads v (e ∷ es) = v ∷ verticesAlong heads (getD heads e 0) es
 
 -- "it starts at the spring, each next channel starts where the one before ended, it ends at the mill's pool in the text, and no pool comes twice"
 pub record Simple (b : Board) (i : ℕ) : Type 0 where
   pub trail : Trail (b .network .tails) (b .network .heads) (b .network .source) (downs (route b i)) (getD (b .network .homes) i 0)
-  pub once : Distinct (passes (b .network .heads) (b .network .source) (route b i))
+  pub once : Distinct (verticesAlong (b .network .heads) (b .network .source) (route b i))
 
 -- "A channel is in use when some route holds it"
 pub record InUse (b : Board) (e : ℕ) : Type 0 where
@@ -38,7 +38,7 @@ pub record Complete (b : Board) (f : Finished) : Type 0 where
   pub home : (i : ℕ) → i < b .network .terminals → place (f .board) i ≡ b .network .source
   pub simple : (i : ℕ) → i < b .network .terminals → Simple (f .board) i
   -- the load of an edge in use, less its largest demand, is strictly below its flow in the acyclic flow
-  pub below : (e : ℕ) → InUse (f .board) e → load (f .board) e < first (f .board) e + largest (f .board) e
+  pub below : (e : ℕ) → InUse (f .board) e → load (f .board) e < acyclicFlow (f .board) e + largest (f .board) e
   -- the moves that stood and those of finish are in the journal, within the bound, which the journal has room for
   pub moves : f .board .moves ≡ b .moves + f .count
   pub few : b .moves + f .count ≤ movesBound (b .network)

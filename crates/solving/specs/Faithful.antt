@@ -9,7 +9,7 @@ use Rattle.finishing.specs.Finishes.{finishCall}
 use Rattle.hinting.specs.declared.Suggestion.{Suggestion}
 use Rattle.routing.specs.Routes.{route}
 use Rattle.calls.specs.Calls.{Call, played, answers, HintsKept}
-use Rattle.solving.specs.Player.{afresh, keeps, says, HintsKeptBy, routeOf}
+use Rattle.solving.specs.Player.{afresh, standingMoves, says, HintsKeptBy, routeOf}
 use Rattle.solving.specs.Complete.{Complete}
 
 -- b, the board after the calls cs on the board that the text gave, is the reference player's, and so were the answers; and finish completes it
@@ -18,13 +18,13 @@ pub record Faithful (text : List ℕ) (cs : List Call) (b : Board) : Type 0 wher
   pub network : b .network ≡ loadText text .board .network
   pub acyclic : b .acyclic ≡ loadText text .board .acyclic
   -- "the board's flows, marks, places of mills and routes are those of this player's board": the whole record is; the routes by the player's list, too
-  pub board : b ≡ afresh text (keeps text [] cs)
-  pub routes : (i : ℕ) → route b i ≡ routeOf i (keeps text [] cs)
+  pub board : b ≡ afresh text (standingMoves text [] cs)
+  pub routes : (i : ℕ) → route b i ≡ routeOf i (standingMoves text [] cs)
   -- "equals the one that a fresh load of the same text gives once the standing moves alone are called in order"
-  pub again : b ≡ played (loadText text .board) (keeps text [] cs)
-  pub moves : b .moves ≡ length (keeps text [] cs)
+  pub again : b ≡ played (loadText text .board) (standingMoves text [] cs)
+  pub moves : b .moves ≡ length (standingMoves text [] cs)
   -- "Each carry, turn and undo answered this player's number; each hint kept the hint's rule on this player's board at that point"
-  pub answered : answers (loadText text .board) cs ≡ says text [] cs
+  pub same-answers : answers (loadText text .board) cs ≡ says text [] cs
   pub hinted : (hs : List Suggestion) → HintsKept (loadText text .board) cs hs → HintsKeptBy text [] cs hs
   -- finish completes the board
   pub finish : Complete b (finishCall b)

@@ -45,29 +45,29 @@ module _ (text : List ℕ) where
   saysTo ms hint = 0
 
   -- "if refused .. the list stays. Else .. the move joins the list's end"; undo: "the last move leaves the list"; "Hint: the list stays"
-  unfoldable pub keepsAfter : List Call → Call → List Call
-  keepsAfter ms (carry i e) = pick (eqb (saysTo ms (carry i e)) 0) (ms ++ (carry i e ∷ [])) ms
-  keepsAfter ms (turn s) = pick (eqb (saysTo ms (turn s)) 0) (ms ++ (turn s ∷ [])) ms
-  keepsAfter ms undo = take (length ms - 1) ms
-  keepsAfter ms hint = ms
+  unfoldable pub standingAfter : List Call → Call → List Call
+  standingAfter ms (carry i e) = pick (eqb (saysTo ms (carry i e)) 0) (ms ++ (carry i e ∷ [])) ms
+  standingAfter ms (turn s) = pick (eqb (saysTo ms (turn s)) 0) (ms ++ (turn s ∷ [])) ms
+  standingAfter ms undo = take (length ms - 1) ms
+  standingAfter ms hint = ms
 
   -- a list of calls: the standing moves after it, and the answers
-  unfoldable pub keeps : List Call → List Call → List Call
-  keeps ms [] = ms
-  keeps ms (c ∷ cs) = keeps (keepsAfter ms c) cs
+  unfoldable pub standingMoves : List Call → List Call → List Call
+  standingMoves ms [] = ms
+  standingMoves ms (c ∷ cs) = standingMoves (standingAfter ms c) cs
 
   unfoldable pub says : List Call → List Call → List ℕ
   says ms [] = []
-  says ms (c ∷ cs) = saysTo ms c ∷ says (keepsAfter ms c) cs
+  says ms (c ∷ cs) = saysTo ms c ∷ says (standingAfter ms c) cs
 
   -- each hint "kept the hint's rule on this player's board at that point"
   abbrev pub HintsKeptBy : List Call → List Call → List Suggestion → Type 0
   HintsKeptBy ms [] hs = hs ≡ []
   HintsKeptBy ms (hint ∷ cs) [] = ⊥
   HintsKeptBy ms (hint ∷ cs) (h ∷ hs) = Offered (afresh ms) h × HintsKeptBy ms cs hs
-  HintsKeptBy ms (carry i e ∷ cs) hs = HintsKeptBy (keepsAfter ms (carry i e)) cs hs
-  HintsKeptBy ms (turn s ∷ cs) hs = HintsKeptBy (keepsAfter ms (turn s)) cs hs
-  HintsKeptBy ms (undo ∷ cs) hs = HintsKeptBy (keepsAfter ms undo) cs hs
+  HintsKeptBy ms (carry i e ∷ cs) hs = HintsKeptBy (standingAfter ms (carry i e)) cs hs
+  HintsKeptBy ms (turn s ∷ cs) hs = HintsKeptBy (standingAfter ms (turn s)) cs hs
+  HintsKeptBy ms (undo ∷ cs) hs = HintsKeptBy (standingAfter ms undo) cs hs
 
 -- the edge that a call carries terminal i over; and the player's route of it, "last one first"
 abbrev pub goesOver : ℕ → Call → List ℕ

@@ -14,14 +14,14 @@ use Rattle.board.specs.declared.Network.{Network}
 use Rattle.text.specs.declared.Reading.{Reading}
 use Rattle.board.specs.Limits.{maxEdges, maxTerminals}
 use Rattle.text.specs.Text.{Read, refused, got, header, headed, headRanges, edgeRanges, terminalRanges, lines, withEdges}
-use Rattle.text.specs.Text.{withTerminals, ended, layout, lineText, linesText, headRow, edgeRow, terminalRow, textOf}
+use Rattle.text.specs.Text.{withTerminals, nothingFollows, layout, lineText, linesText, headRow, edgeRow, terminalRow, textOf}
 use Rattle.rules.specs.Rules.{judged, Lawful}
 use Rattle.rules.proofs.Meaning.{Kept, kept, judged-zero}
-use Rattle.text.specs.Results.{judgement, outcome, readText}
+use Rattle.text.specs.Results.{judgement, readingOf, readText}
 use Rattle.text.proofs.Fields.{Within, Rows, Heading, rowsText, parts, parts-in, after, after-in, header-of-text, header-only}
 use Rattle.text.proofs.Fields.{lines-of-text, lines-only, refused-above}
-use Rattle.text.proofs.Columns.{run, lines-run, lines-of, rows-length, row-spelled, row-within, rows-run, spelled, spelled-within}
-use Rattle.text.proofs.Columns.{stored, stored-length, stored-at, stored-past, stored-back}
+use Rattle.text.proofs.FieldColumns.{run, lines-run, lines-of, rows-length, row-spelled, row-within, rows-run, spelled, spelled-within}
+use Rattle.text.proofs.FieldColumns.{stored, stored-length, stored-at, stored-past, stored-back}
 
 abbrev pub acceptedAs : Network → Reading
 acceptedAs net = record { answer = 0; network = net }
@@ -57,14 +57,14 @@ layout-of-text ns rows homes laid =
     ∙ (after-in _ _ (lines-of-text 67 (rowsText 87 homes) (omega arith) (laid .edges))
     ∙ after-in _ _ (rw append-nil at (lines-of-text 87 [] (omega arith) (laid .terminals))))
 
-record Ended (whole net : Network) (s : List ℕ) : Type 0 where
+record EndsThere (whole net : Network) (s : List ℕ) : Type 0 where
   pub nothing : s ≡ []
   pub same : net ≡ whole
 
-ended-only : (whole net : Network) (s rest : List ℕ) → ended whole s ≡ got net rest → Ended whole net s
-unfolding ended
-ended-only whole net [] rest h = record { nothing = refl; same = cc }
-ended-only whole net (c ∷ s) rest h = let z : _≡_ {A = ℕ} 0 1 = cc in absurd (omega arith)
+nothing-follows-only : (whole net : Network) (s rest : List ℕ) → nothingFollows whole s ≡ got net rest → EndsThere whole net s
+unfolding nothingFollows
+nothing-follows-only whole net [] rest h = record { nothing = refl; same = cc }
+nothing-follows-only whole net (c ∷ s) rest h = let z : _≡_ {A = ℕ} 0 1 = cc in absurd (omega arith)
 
 layout-only : (s : List ℕ) (net : Network) (rest : List ℕ) → layout s ≡ got net rest → LaidText s net
 unfolding layout
@@ -75,7 +75,7 @@ layout-only s net rest h =
     let f1 = header-only ns s s1 e1 in
     let f2 = lines-only 67 _ _ rows s1 s2 e2 in
     let f3 = lines-only 87 _ _ homes s2 s3 e3 in
-    let f4 = ended-only (built ns rows homes) net s3 rest h3 in
+    let f4 = nothing-follows-only (built ns rows homes) net s3 rest h3 in
     record {
       head = ns;
       rows = rows;
@@ -203,14 +203,14 @@ through s net h = go (layout s) refl h
     judge n whole (was-true t) g = (eqb-true n 0 t, ap (λ (r : Reading). r .network) (sym (pick-yes _ _ _ t) ∙ g))
     judge n whole (was-false t) g = absurd (eqb-false n 0 t (ap (λ (r : Reading). r .answer) (sym (pick-no _ _ _ t) ∙ g)))
 
-    go : (o : Read Network) → layout s ≡ o → outcome o ≡ acceptedAs net → Through s net
+    go : (o : Read Network) → layout s ≡ o → readingOf o ≡ acceptedAs net → Through s net
     go (refused n) e g = let z : n ≡ 0 = ap (λ (r : Reading). r .answer) g in absurd (omega (arith, refused-above s n e))
     go (got whole rest) e g =
         let j = judge (judged whole) whole (known _) g in
         record { rest = rest; went = cc (e, j .1); fine = cc (j .0, j .1) }
 
-pub accepted : (s : List ℕ) (net : Network) → readText s ≡ acceptedAs net → (s ≡ textOf net) × Lawful net
-accepted s net h =
+pub accepted-text : (s : List ℕ) (net : Network) → readText s ≡ acceptedAs net → (s ≡ textOf net) × Lawful net
+accepted-text s net h =
     let t = through s net h in
     let l = layout-only s net (t .rest) (t .went) in
     rw (l .network) (l .text ∙ sym (text-built _ _ _ (l .laid)), lawful-built _ _ _ (l .laid) (kept _ (rw (l .network) at (t .fine))))
@@ -220,10 +220,10 @@ unfolding readText
 accepts net law =
     let went : layout (textOf net) ≡ got net [] =
     cc (text-of-rows net, layout-of-text _ _ _ (laid-of net law), built-of net law) in
-    ap outcome went ∙ pick-yes _ _ _ (eq-eqb (judged net) 0 (judged-zero net law))
+    ap readingOf went ∙ pick-yes _ _ _ (eq-eqb (judged net) 0 (judged-zero net law))
 
 pub accepted-iff : (s : List ℕ) (net : Network) → (readText s ≡ acceptedAs net) ↔ ((s ≡ textOf net) × Lawful net)
-accepted-iff s net = (accepted s net, λ h. ap readText (h .0) ∙ accepts net (h .1))
+accepted-iff s net = (accepted-text s net, λ h. ap readText (h .0) ∙ accepts net (h .1))
 
 pub written-back : (s : List ℕ) (net : Network) → readText s ≡ acceptedAs net → textOf net ≡ s
-written-back s net h = sym (accepted s net h .0)
+written-back s net h = sym (accepted-text s net h .0)

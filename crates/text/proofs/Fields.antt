@@ -18,8 +18,8 @@ use Rattle.decimal.specs.declared.Number.{Number}
 use Rattle.decimal.specs.declared.Number.the-variants.{Value, Malformed}
 use Rattle.decimal.specs.Decimal.{numberOf, decimal}
 use Rattle.text.specs.declared.Range.{Range}
-use Rattle.text.specs.Text.{Read, refused, got, then, letter, ranged, field, endOf, numbers, line, lines, headRanges}
-use Rattle.text.specs.Text.{edgeRanges, terminalRanges, header, headed, ended, layout, numbersText, lineText}
+use Rattle.text.specs.Text.{Read, refused, got, then, letter, ranged, field, endByte, numbers, line, lines, headRanges}
+use Rattle.text.specs.Text.{edgeRanges, terminalRanges, header, headed, nothingFollows, layout, numbersText, lineText}
 use Rattle.board.specs.declared.Network.{Network}
 use Rattle.decimal.proofs.Laws.{number-decimal, number-canonical, index-decimal}
 
@@ -157,13 +157,13 @@ abbrev pub Short : List Range → Type 0
 Short [] = Unit {0}
 Short (r ∷ rs) = (r .high < 10000000) × Short rs
 
-same-end : (rs : List Range) (ns : List ℕ) → Within rs ns → endOf rs ≡ endOf ns
+same-end : (rs : List Range) (ns : List ℕ) → Within rs ns → endByte rs ≡ endByte ns
 same-end [] [] w = refl
 same-end [] (n ∷ ns) w = absurd w
 same-end (r ∷ rs) [] w = absurd w
 same-end (r ∷ rs) (n ∷ ns) w = refl
 
-end-small : {A : Type 0} (xs : List A) → endOf xs < 48
+end-small : {A : Type 0} (xs : List A) → endByte xs < 48
 end-small [] = omega arith
 end-small (x ∷ xs) = omega arith
 
@@ -173,7 +173,7 @@ numbers-of-text [] [] rest short w = refl
 numbers-of-text [] (n ∷ ns) rest short w = absurd w
 numbers-of-text (r ∷ rs) [] rest short w = absurd w
 numbers-of-text (r ∷ rs) (n ∷ ns) rest short w =
-    let first = field-of-text r (endOf rs) n (numbersText ns ++ rest) (end-small rs) (w .0) (w .1) (omega arith) in
+    let first = field-of-text r (endByte rs) n (numbersText ns ++ rest) (end-small rs) (w .0) (w .1) (omega arith) in
     rw (append-assoc, ← same-end rs ns (w .2), after _ first) (after _ (numbers-of-text rs ns rest (short .1) (w .2)))
 
 pub numbers-only : (rs : List Range) (ns s rest : List ℕ) → numbers rs s ≡ got ns rest → Printed (numbersText ns) (Within rs ns) s rest
@@ -182,9 +182,9 @@ numbers-only [] ns s rest h =
     let same : [] ≡ ns = cc in
     rw (← same) (record { start = cc; facts = tt })
 numbers-only (r ∷ rs) ns s rest h =
-    parts (field r (endOf rs) s) _ h λ n s1 e1 h1.
+    parts (field r (endByte rs) s) _ h λ n s1 e1 h1.
     parts (numbers rs s1) _ h1 λ ns2 s2 e2 h2.
-    let f = field-only r (endOf rs) n s s1 e1 in
+    let f = field-only r (endByte rs) n s s1 e1 in
     let g = numbers-only rs ns2 s1 s2 e2 in
     let same : n ∷ ns2 ≡ ns = cc in
     let end : s2 ≡ rest = cc in
@@ -285,7 +285,7 @@ fair-field r e s = fair-pick _ _ 1 (go (numberOf (take (indexOf e s) s)) (drop (
 fair-numbers : (rs : List Range) (s : List ℕ) → Fair (numbers rs s)
 unfolding numbers
 fair-numbers [] s = through
-fair-numbers (r ∷ rs) s = fair-then _ (fair-field r (endOf rs) s) λ n s1. fair-then _ (fair-numbers rs s1) λ ns s2. through
+fair-numbers (r ∷ rs) s = fair-then _ (fair-field r (endByte rs) s) λ n s1. fair-then _ (fair-numbers rs s1) λ ns s2. through
 
 fair-line : (x : ℕ) (rs : List Range) (s : List ℕ) → Fair (line x rs s)
 unfolding line
@@ -296,10 +296,10 @@ unfolding lines
 fair-lines x rs zero s = through
 fair-lines x rs (suc k) s = fair-then _ (fair-line x rs s) λ ns s1. fair-then _ (fair-lines x rs k s1) λ rows s2. through
 
-fair-ended : (net : Network) (s : List ℕ) → Fair (ended net s)
-unfolding ended
-fair-ended net [] = through
-fair-ended net (c ∷ s) = not-zero 1 (omega arith)
+fair-nothing-follows : (net : Network) (s : List ℕ) → Fair (nothingFollows net s)
+unfolding nothingFollows
+fair-nothing-follows net [] = through
+fair-nothing-follows net (c ∷ s) = not-zero 1 (omega arith)
 
 fair-layout : (s : List ℕ) → Fair (layout s)
 unfolding layout
@@ -307,7 +307,7 @@ fair-layout s =
     fair-then _ (fair-then _ (fair-line 66 headRanges s) λ ns s1. fair-pick _ (got ns s1) 2 through (omega arith)) λ ns s1.
     fair-then _ (fair-then _ (fair-lines 67 (edgeRanges (headed ns .vertices)) (headed ns .edges) s1) λ rows s2. through) λ net s2.
     fair-then _ (fair-then _ (fair-lines 87 (terminalRanges (net .vertices)) (net .terminals) s2) λ rows s3. through) λ whole s3.
-    fair-ended whole s3
+    fair-nothing-follows whole s3
 
 pub refused-above : (s : List ℕ) (n : ℕ) → layout s ≡ refused n → 0 < n
 refused-above s n e = go (rw e at (fair-layout s))

@@ -1,4 +1,4 @@
 pub mod Ends
 pub mod Fields
-pub mod Columns
+pub mod FieldColumns
 pub mod Accepted

@@ -21,15 +21,15 @@ refusal n = record { answer = n; network = emptyNetwork }
 unfoldable pub judgement : ℕ → Network → Reading
 judgement n net = pick (eqb n 0) (record { answer = 0; network = net }) (refusal n)
 
-unfoldable pub outcome : Read Network → Reading
+unfoldable pub readingOf : Read Network → Reading
 unfolding judged judgement
-outcome (refused n) = refusal n
-outcome (got net s) = judgement (judged net) net
+readingOf (refused n) = refusal n
+readingOf (got net s) = judgement (judged net) net
 
 -- reading a board text: 1 or 2 by the layout, then 3, 4, 5
 unfoldable pub readText : List ℕ → Reading
-unfolding layout outcome
-readText s = outcome (layout s)
+unfolding layout readingOf
+readText s = readingOf (layout s)
 
 -- a board that a load gave: in play or finished, over a lawful network
 unfoldable pub loaded : ℕ → Network → Bool

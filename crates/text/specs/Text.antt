@@ -47,15 +47,15 @@ field r end s =
     (refused 1)
 
 -- what ends a field before these: a line feed where it is the last of its line, else a comma
-abbrev pub endOf : {A : Type 0} → List A → ℕ
-endOf [] = 10
-endOf (x ∷ xs) = 44
+abbrev pub endByte : {A : Type 0} → List A → ℕ
+endByte [] = 10
+endByte (x ∷ xs) = 44
 
 -- the numbers of a line, one for each range
 unfoldable pub numbers : List Range → List ℕ → Read (List ℕ)
 unfolding field then
 numbers [] s = got [] s
-numbers (r ∷ rs) s = then (field r (endOf rs) s) (λ n s1. then (numbers rs s1) (λ ns s2. got (n ∷ ns) s2))
+numbers (r ∷ rs) s = then (field r (endByte rs) s) (λ n s1. then (numbers rs s1) (λ ns s2. got (n ∷ ns) s2))
 
 -- a line: its letter, and its numbers
 unfoldable pub line : ℕ → List Range → List ℕ → Read (List ℕ)
@@ -104,9 +104,9 @@ headed ns = record {
 }
 
 -- the numbers at one place of each line
-abbrev pub column : ℕ → List (List ℕ) → List ℕ
-column j [] = []
-column j (ns ∷ rows) = getD ns j 0 ∷ column j rows
+abbrev pub fieldColumn : ℕ → List (List ℕ) → List ℕ
+fieldColumn j [] = []
+fieldColumn j (ns ∷ rows) = getD ns j 0 ∷ fieldColumn j rows
 
 -- the network with the edges of these lines stored from edge i on
 abbrev pub withEdges : Network → ℕ → List (List ℕ) → Network
@@ -115,9 +115,9 @@ withEdges net i rows = record {
   edges = net .edges;
   terminals = net .terminals;
   source = net .source;
-  tails = sets (net .tails) i (column 0 rows);
-  heads = sets (net .heads) i (column 1 rows);
-  flows = sets (net .flows) i (column 2 rows);
+  tails = sets (net .tails) i (fieldColumn 0 rows);
+  heads = sets (net .heads) i (fieldColumn 1 rows);
+  flows = sets (net .flows) i (fieldColumn 2 rows);
   homes = net .homes;
   demands = net .demands;
 }
@@ -132,8 +132,8 @@ withTerminals net i rows = record {
   tails = net .tails;
   heads = net .heads;
   flows = net .flows;
-  homes = sets (net .homes) i (column 0 rows);
-  demands = sets (net .demands) i (column 1 rows);
+  homes = sets (net .homes) i (fieldColumn 0 rows);
+  demands = sets (net .demands) i (fieldColumn 1 rows);
 }
 
 -- as many edge lines as the first line says
@@ -147,24 +147,24 @@ unfolding lines then
 terminalLines net i k s = then (lines 87 (terminalRanges (net .vertices)) k s) (λ rows s1. got (withTerminals net i rows) s1)
 
 -- nothing follows the last line: else 1
-unfoldable pub ended : Network → List ℕ → Read Network
-ended net [] = got net []
-ended net (c ∷ s) = refused 1
+unfoldable pub nothingFollows : Network → List ℕ → Read Network
+nothingFollows net [] = got net []
+nothingFollows net (c ∷ s) = refused 1
 
 -- the whole text
 unfoldable pub layout : List ℕ → Read Network
-unfolding header edgeLines terminalLines ended then
+unfolding header edgeLines terminalLines nothingFollows then
 layout s =
     then (header s) (λ ns s1.
     then (edgeLines (headed ns) 0 (headed ns .edges) s1) (λ net s2.
-    then (terminalLines net 0 (net .terminals) s2) (λ whole s3. ended whole s3)))
+    then (terminalLines net 0 (net .terminals) s2) (λ whole s3. nothingFollows whole s3)))
 
 -- ---- printing
 
 -- numbers in decimal, parted by commas and ended by a line feed
 unfoldable pub numbersText : List ℕ → List ℕ
 numbersText [] = []
-numbersText (n ∷ ns) = decimal n ++ (endOf ns ∷ numbersText ns)
+numbersText (n ∷ ns) = decimal n ++ (endByte ns ∷ numbersText ns)
 
 unfoldable pub lineText : ℕ → List ℕ → List ℕ
 lineText x ns = x ∷ 44 ∷ numbersText ns

@@ -11,18 +11,18 @@ use Rattle.text.specs.declared.Line.{Line}
 use Rattle.text.specs.declared.Part.{Part}
 
 -- answer 0 stands for the value and the text behind the bytes used
-unfoldable pub answered : {A : Type 0} → ℕ → A → ℕ → List ℕ → Read A
-answered n a used s = pick (eqb n 0) (got a (drop used s)) (refused n)
+unfoldable pub answerRead : {A : Type 0} → ℕ → A → ℕ → List ℕ → Read A
+answerRead n a used s = pick (eqb n 0) (got a (drop used s)) (refused n)
 
 abbrev pub fieldRead : Field → List ℕ → Read ℕ
-fieldRead f s = answered (f .answer) (f .value) (f .used) s
+fieldRead f s = answerRead (f .answer) (f .value) (f .used) s
 
 -- a line's first k values
 abbrev pub lineRead : ℕ → Line → List ℕ → Read (List ℕ)
-lineRead k l s = answered (l .answer) (take k (l .values)) (l .used) s
+lineRead k l s = answerRead (l .answer) (take k (l .values)) (l .used) s
 
 abbrev pub partRead : Part → List ℕ → Read Network
-partRead p s = answered (p .answer) (p .network) (p .used) s
+partRead p s = answerRead (p .answer) (p .network) (p .used) s
 
 -- the first line, as the network that it opens
 unfoldable pub headerPart : List ℕ → Read Network

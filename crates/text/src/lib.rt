@@ -91,7 +91,7 @@ impl Reading {
 }
 
 // What ends a field with `left` fields behind it on its line.
-pub fn end_of(left: usize) -> u8
+pub fn end_byte(left: usize) -> u8
     ensures { λ r. ⌜ r ≡ pick (ltb 0 left) 44 10 ⌝ }
 {
     if 0 < left { b',' } else { b'\n' }

@@ -145,10 +145,10 @@ fn print_journal(journal: [Entry; Board::JOURNAL], moves: u32) -> bool {
 fn print_finish(finish: Finished) -> bool {
     let last = finish.board;
     let moves = last.moves;
-    let answered = framing::print_line(finish.answer);
-    let counted = framing::print_line(finish.count);
-    let listed = framing::print_line(moves);
-    if !(answered && counted && listed) {
+    let answer_printed = framing::print_line(finish.answer);
+    let count_printed = framing::print_line(finish.count);
+    let moves_printed = framing::print_line(moves);
+    if !(answer_printed && count_printed && moves_printed) {
         return false;
     }
     let journal = last.journal;
@@ -164,9 +164,9 @@ fn run_trial(text: &[u8], codes: &[u32], steps: &[u8]) -> bool {
     if given.len() < count {
         return false;
     }
-    let loaded = framing::print_line(outcome.loading);
-    let answered = print_numbers(&given[..count]);
-    if !(loaded && answered) {
+    let loading_printed = framing::print_line(outcome.loading);
+    let answers_printed = print_numbers(&given[..count]);
+    if !(loading_printed && answers_printed) {
         return false;
     }
     let finish = outcome.finish;
@@ -193,12 +193,12 @@ fn next_trial() -> bool {
     run_trial(&text[..n], &codes[..size], &steps[..m])
 }
 
-// A proved loop has to end, and nothing says that the input does. So the loop counts its turns down, from a number that no run
+// A proved loop has to end, and nothing says that the input does. So the loop counts its rounds down, from a number that no run
 // uses up.
 fn all_trials() {
-    let mut turns = u64::MAX;
-    while turns > 0 && next_trial() {
-        turns -= 1;
+    let mut rounds = u64::MAX;
+    while rounds > 0 && next_trial() {
+        rounds -= 1;
     }
 }
 

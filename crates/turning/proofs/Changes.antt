@@ -18,7 +18,7 @@ use Rattle.board.specs.declared.Network.{Network}
 use Rattle.board.specs.declared.Entry.{Entry}
 use Rattle.board.specs.declared.Move.{Move}
 use Rattle.flows.specs.Trails.{Step}
-use Rattle.incidence.specs.Incidence.{Incident, Positive}
+use Rattle.incidence.specs.Incidence.{Incident, PositiveSet}
 use Rattle.guard.specs.Guard.{intactIn, intact, playing}
 use Rattle.guard.proofs.Facts.{playing-edges, playing-head, playing-flow, playing-demand}
 use Rattle.journal.specs.declared.Change.{Change}
@@ -29,7 +29,7 @@ use Rattle.journal.proofs.Stores as stores
 use Rattle.opening.specs.Opens.{someOpen, someOpenIn}
 use Rattle.opening.proofs.Same.{some-same}
 use Rattle.steps.specs.Steps.{stepsOf, InSets, every}
-use Rattle.marking.specs.Marking.{singular, isFresh, fresh, Charted}
+use Rattle.marking.specs.Marking.{singular, isFresh, fresh, ChartedOut}
 use Rattle.amounts.specs.Amounts.{amountFrom, amount}
 use Rattle.turning.proofs.Passing.{in-sets}
 use Rattle.turning.specs.declared.StepRule.the-variants.{OnBoard}
@@ -45,9 +45,9 @@ playing-sound b play = record {
 }
 
 -- the sets of a sound network chart it
-pub charted : (net : Network) (flows leaving : List ℕ) (positive : ℕ) → Sound net flows → length (net .heads) ≡ maxEdges → length flows ≡ maxEdges
-    → Incident (net .tails) leaving → Positive flows positive → Charted (net .tails) (net .heads) flows leaving positive
-charted net flows leaving positive sound wide long at is-positive = record { leave = at; is-positive = is-positive; all = long; headed = sound .headed wide }
+pub charted-out : (net : Network) (flows leaving : List ℕ) (positive : ℕ) → Sound net flows → length (net .heads) ≡ maxEdges → length flows ≡ maxEdges
+    → Incident (net .tails) leaving → PositiveSet flows positive → ChartedOut (net .tails) (net .heads) flows leaving positive
+charted-out net flows leaving positive sound wide long at is-positive = record { leave = at; is-positive = is-positive; all = long; headed = sound .headed wide }
 
 module _ (b : Board) (w : List Step) where
   pub refusal-same : turnRefusalIn (playing b) (someOpen b) (b .network) (b .flows) w ≡ turnRefusal b w

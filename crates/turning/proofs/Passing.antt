@@ -17,7 +17,7 @@ use Rattle.flows.specs.Trails.{Step, edgeOf}
 use Rattle.flows.proofs.Change.{In}
 use Rattle.steps.specs.Steps.{stepOf, stepsOf, InSets, every, isCycle}
 use Rattle.steps.proofs.Cycled.{every-in}
-use Rattle.marking.specs.Marking.{singularBy, Charted}
+use Rattle.marking.specs.Marking.{singularBy, ChartedOut}
 use Rattle.marking.proofs.Following.{singular-same}
 use Rattle.turning.specs.declared.StepRule.{StepRule}
 use Rattle.turning.specs.declared.StepRule.the-variants.{OnBoard, Positive, UpSingular}
@@ -79,12 +79,12 @@ module _ (anyOpen : Bool) (edges : ℕ) (tails heads flows : List ℕ) (vertices
         unfolding stepsRefusal pick
         refused-26 f u = rw (o, y, s, f, u)
 
-        pub accepted : meet Positive ≡ true → meet UpSingular ≡ true → 0 ≡ stepsRefusal anyOpen edges tails heads flows vertices w
+        pub steps-accepted : meet Positive ≡ true → meet UpSingular ≡ true → 0 ≡ stepsRefusal anyOpen edges tails heads flows vertices w
         unfolding stepsRefusal pick
-        accepted f u = rw (o, y, s, f, u)
+        steps-accepted f u = rw (o, y, s, f, u)
 
 -- the edges of up-steps are singular by the sets where they are by the lists
-pub ups-same : (tails heads flows leaving : List ℕ) (positive : ℕ) → Charted tails heads flows leaving positive → positive < 2 ^ setWidth → (edges vertices : ℕ) (w : List Step)
+pub ups-same : (tails heads flows leaving : List ℕ) (positive : ℕ) → ChartedOut tails heads flows leaving positive → positive < 2 ^ setWidth → (edges vertices : ℕ) (w : List Step)
     → every (meetsIn UpSingular edges flows (singularBy heads leaving positive vertices)) w ≡ every (meetsOn UpSingular edges tails heads flows vertices) w
 ups-same tails heads flows leaving positive chart fits edges vertices w =
     ap (λ (single : ℕ → Bool). every (meetsIn UpSingular edges flows single) w) (λ i e. singular-same tails heads flows leaving positive chart fits vertices e i)

@@ -16,8 +16,8 @@ ghost use Rattle.lists.specs.Choice.{pick};
 ghost use Rattle.flows.specs.Trails.{edgeOf};
 ghost use Rattle.board.specs.Limits.{maxEdges, maxMoves};
 ghost use Rattle.steps.specs.Steps.{stepOf, stepsOf, InSets, isUp, every};
-ghost use Rattle.incidence.specs.Incidence.{Incident, Positive};
-ghost use Rattle.marking.specs.Marking.{singularBy, Charted};
+ghost use Rattle.incidence.specs.Incidence.{Incident, PositiveSet};
+ghost use Rattle.marking.specs.Marking.{singularBy, ChartedOut};
 ghost use Rattle.turning.specs.Turns.{meetsIn, stepsRefusal, turnRefusalIn, turnRefusal, turnedIn, turnChange, turnCall, Sound};
 
 // The rules that each step of a turn keeps.
@@ -125,7 +125,7 @@ fn steps_refusal<'a>(
     steps: &'a [u8],
 ) -> u32
     requires { ⌜ edges ≤ maxEdges ⌝ }
-    requires { ⌜ Charted (now tails) (now heads) (now flows) (now leaving) positive ⌝ }
+    requires { ⌜ ChartedOut (now tails) (now heads) (now flows) (now leaving) positive ⌝ }
     ensures { λ r. ⌜ r ≡ stepsRefusal «any_open» edges (now (tails .entry)) (now (heads .entry)) (now (flows .entry)) vertices (stepsOf (now (steps .entry))) ⌝ }
 {
     if !all_meet(
@@ -185,7 +185,7 @@ fn refusal<'a>(
 ) -> u32
     requires { ⌜ («in_play» ≡ true → Sound net flows) ⌝ }
     requires { ⌜ Incident (net .tails) (now leaving) ⌝ }
-    requires { ⌜ Positive flows positive ⌝ }
+    requires { ⌜ PositiveSet flows positive ⌝ }
     ensures { λ r. ⌜ r ≡ turnRefusalIn «in_play» «any_open» net flows (stepsOf (now (steps .entry))) ⌝ }
 {
     if !in_play {
@@ -231,7 +231,7 @@ fn turned<'a>(
 ) -> Change
     requires { ⌜ Sound net flows ⌝ }
     requires { ⌜ Incident (net .tails) (now leaving) ⌝ }
-    requires { ⌜ Positive flows positive ⌝ }
+    requires { ⌜ PositiveSet flows positive ⌝ }
     requires { ⌜ InSets (now steps) ⌝ }
     ensures { λ r. ⌜ r ≡ turnedIn net flows marks places (stepsOf (now (steps .entry))) ⌝ }
 {
@@ -280,7 +280,7 @@ pub fn change_by<'a>(
 ) -> Change
     requires { ⌜ («in_play» ≡ true → Sound net flows) ⌝ }
     requires { ⌜ Incident (net .tails) (now leaving) ⌝ }
-    requires { ⌜ Positive flows positive ⌝ }
+    requires { ⌜ PositiveSet flows positive ⌝ }
     ensures { λ r. ⌜ r ≡ turnChange «in_play» «any_open» net flows marks places (stepsOf (now (steps .entry))) ⌝ }
 {
     let number = refusal(in_play, any_open, net, flows, leaving, positive, steps);

@@ -31,9 +31,9 @@ module _ (net : Network) (flows : List ℕ) (marks : ℕ) (places : List ℕ) (r
   makes-carry-back hf hd hh hfs hps he = rw (hfs, hps, hf, hd, hh, he)
 
 -- an accepted undo is of a board in play
-pub accepted : (p : Bool) (moves : ℕ) → undoRefusalIn p moves ≡ 0 → p ≡ true
+pub undo-plays : (p : Bool) (moves : ℕ) → undoRefusalIn p moves ≡ 0 → p ≡ true
 unfolding undoRefusalIn
-accepted p moves h = pick-passed p _ _ h .0
+undo-plays p moves h = pick-passed p _ _ h .0
 
 -- the number and the entry of the change
 module _ (p : Bool) (net : Network) (flows : List ℕ) (marks : ℕ) (places : List ℕ) (moves : ℕ) (last : Move) where
@@ -42,7 +42,7 @@ module _ (p : Bool) (net : Network) (flows : List ℕ) (marks : ℕ) (places : L
   change-in-play h = go (known (eqb (undoRefusalIn p moves) 0))
     where
       go : Known (eqb (undoRefusalIn p moves) 0) → p ≡ true
-      go (was-true t) = accepted p moves (eqb-true _ 0 t)
+      go (was-true t) = undo-plays p moves (eqb-true _ 0 t)
       go (was-false t) = absurd (eqb-false _ 0 t (sym (ap (λ (c : Change). c .answer) (pick-no _ _ _ t)) ∙ h))
 
   change-blank : undoChange p net flows marks places moves last .entry ≡ blank

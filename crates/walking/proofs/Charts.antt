@@ -14,7 +14,7 @@ use Rattle.lists.proofs.Laws.{Known, was-true, was-false, known, lt-or-ge, eq-o
 use Rattle.sets.specs.Sets.{setWidth, hasBit, withBit, dropped}
 use Rattle.sets.proofs.Bits.{has-none, has-with-same, has-with-other}
 use Rattle.board.specs.Limits.{maxVertices, maxEdges}
-use Rattle.incidence.specs.Incidence.{Incident, Positive, touchingAt}
+use Rattle.incidence.specs.Incidence.{Incident, PositiveSet, touchingAt}
 use Rattle.incidence.proofs.Leaving.{without-at, more-in}
 use Rattle.flows.specs.Trails.{Step, startOf}
 use Rattle.walking.specs.Walk.{touches, another, parts, startsOf, firstMet}
@@ -22,7 +22,7 @@ use Rattle.walking.proofs.Loops.{starts-length}
 use Rattle.walking.specs.Chart.{Charted, Seen, anotherIn, partsIn}
 
 -- one end of the edges
-module _ (ends flows edges : List ℕ) (positive v : ℕ) (at : Incident ends edges) (is-positive : Positive flows positive) (small : v < maxVertices)
+module _ (ends flows edges : List ℕ) (positive v : ℕ) (at : Incident ends edges) (is-positive : PositiveSet flows positive) (small : v < maxVertices)
     (fits : positive < 2 ^ setWidth) (long : length flows ≡ maxEdges) where
   others : (x e : ℕ) → hasBit (dropped (touchingAt edges positive v) x) e ≡ touches ends flows v x e
   unfolding touches

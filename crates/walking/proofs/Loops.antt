@@ -1,4 +1,4 @@
--- The loops over the bytes of a walk, in the code's shape: one turn of the search for a vertex and of the copy of the last steps, and what both end with.
+-- The loops over the bytes of a walk, in the code's shape: one round of the search for a vertex and of the copy of the last steps, and what both end with.
 use mathlib.Core.Path.{_≡_, refl, sym, ap, _∙_}
 use mathlib.Core.Bool.{Bool, true, false}
 use mathlib.Core.List.{List, [], _∷_, _++_}
@@ -114,9 +114,9 @@ module _ (bytes : List ℕ) (k m : ℕ) (fits : k + m ≤ length bytes) where
   last-bytes = rw (take-add k m bytes) (drop-at (take k bytes) last k (length-take-le k bytes (omega arith)))
 
 -- the copy is the record of the last steps
-pub since-made : (t : Walk) (k : ℕ) (buf : List ℕ) → buf ≡ sets (replicate maxEdges 0) 0 (lastOf (t .steps) k (t .count - k)) → k ≤ t .count
+pub walk-from-made : (t : Walk) (k : ℕ) (buf : List ℕ) → buf ≡ sets (replicate maxEdges 0) 0 (lastOf (t .steps) k (t .count - k)) → k ≤ t .count
     → t .count ≤ length (t .steps) → _≡_ {A = Walk} (record { count = t .count - k; steps = buf }) (packed (drop k (walked t)))
-since-made t k buf made h l = λ i. record { count = counts i; steps = fills i }
+walk-from-made t k buf made h l = λ i. record { count = counts i; steps = fills i }
   where
     first : List ℕ
     first = take (t .count) (t .steps)

@@ -8,7 +8,7 @@ use lib.ListN.{length, getD}
 use Rattle.lists.specs.Lists.{lowest}
 use Rattle.sets.specs.Sets.{setWidth, hasBit, dropped}
 use Rattle.board.specs.Limits.{maxVertices, maxEdges}
-use Rattle.incidence.specs.Incidence.{Incident, Positive, touchingAt}
+use Rattle.incidence.specs.Incidence.{Incident, PositiveSet, touchingAt}
 use Rattle.flows.specs.Trails.{Step}
 use Rattle.walking.specs.Walk.{firstMet}
 
@@ -16,7 +16,7 @@ use Rattle.walking.specs.Walk.{firstMet}
 pub record Charted (tails heads flows leaving entering : List ℕ) (positive : ℕ) : Type 0 where
   pub leave : Incident tails leaving
   pub enter : Incident heads entering
-  pub is-positive : Positive flows positive
+  pub is-positive : PositiveSet flows positive
   pub all : length flows ≡ maxEdges
   pub tailed : (e : ℕ) → getD tails e 0 < maxVertices
   pub headed : (e : ℕ) → getD heads e 0 < maxVertices

@@ -97,7 +97,7 @@ fn first_met<'a>(tails: &'a [u32], heads: &'a [u32], walk: Walk, v: u32) -> u32
 }
 
 // The steps from k on, from the first place on.
-fn since(walk: Walk, k: u32) -> Walk
+fn walk_from(walk: Walk, k: u32) -> Walk
     requires { ⌜ k ≤ walk .count ⌝ }
     requires { ⌜ walk .count ≤ maxEdges ⌝ }
     ensures { λ r. ⌜ r ≡ packed (drop k (walked walk)) ⌝ }
@@ -122,7 +122,7 @@ fn since_met<'a>(tails: &'a [u32], heads: &'a [u32], walk: Walk, v: u32) -> Walk
     ensures { λ r. ⌜ r ≡ packed (drop (firstMet (now (tails .entry)) (now (heads .entry)) (walked walk) v) (walked walk)) ⌝ }
 {
     let k = first_met(tails, heads, walk, v);
-    since(walk, k)
+    walk_from(walk, k)
 }
 
 // The walk came over edge x to v: down by the lowest edge; up where none leaves.

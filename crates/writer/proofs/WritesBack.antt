@@ -15,7 +15,7 @@ use Rattle.rules.specs.Rules.{lawful}
 use Rattle.rules.proofs.Meaning.{lawful-tested}
 use Rattle.text.specs.Text.{textOf}
 use Rattle.text.specs.Results.{readText, loaded, writeText, written}
-use Rattle.text.proofs.Accepted.{acceptedAs, accepted}
+use Rattle.text.proofs.Accepted.{acceptedAs, accepted-text}
 
 loaded-stage : (stage : ℕ) (net : Network) → (playStage ≤ stage) × (stage ≤ finishedStage) → lawful net ≡ true → loaded stage net ≡ true
 unfolding loaded
@@ -30,6 +30,6 @@ writes b buf l fits = let e = le-leb (length (textOf (b .network))) (length buf)
 pub writes-loaded : (s : List ℕ) (b : Board) (buf : List ℕ) → readText s ≡ acceptedAs (b .network) → (playStage ≤ b .stage) × (b .stage ≤ finishedStage) → length s ≤ length buf
     → (writeText b (length buf) ≡ record { answer = 0; used = length s }) × (written b buf ≡ s ++ drop (length s) buf)
 writes-loaded s b buf h stage fits =
-    let a = accepted s (b .network) h in
+    let a = accepted-text s (b .network) h in
     let l = loaded-stage (b .stage) (b .network) stage (lawful-tested (b .network) (a .1)) in
     rw (a .0) (writes b buf l (rw (a .0) at fits))

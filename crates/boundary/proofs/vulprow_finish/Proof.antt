@@ -1,6 +1,6 @@
 -- `boundary::vulprow_finish` meets its contract: what the whole play ensures, part by part.
 use mathlib.Core.Path.{ap, _∙_}
-use Rattle.calls.specs.Codes.{listed}
+use Rattle.calls.specs.Codes.{journalCoded}
 use Rattle.playthrough.specs.declared.Outcome.{Outcome}
 use borrow.Author.Needs.{needs}
 use Rattle.boundary.proofs.vulprow_finish.Statement.{statement}
@@ -26,7 +26,7 @@ returns c =
     let at-play = c .before .before .before .before .before .before .before .before .before .before .before .before .before in
     let args = at-play .before .before .before .before .before .before .before .before .before .args in
     let through = at-play .play-through .ensures .0 in
-    let journal = c .before .before .put-journal .ensures ∙ ap (λ (o : Outcome). listed (args .journal .now) 0 (o .finish .board .journal)) through in (
+    let journal = c .before .before .put-journal .ensures ∙ ap (λ (o : Outcome). journalCoded (args .journal .now) 0 (o .finish .board .journal)) through in (
       ap (λ (o : Outcome). o .finish .answer) through,
       (
         at-play .play-through .ensures .1 .0,

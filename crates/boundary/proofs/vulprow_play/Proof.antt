@@ -4,7 +4,7 @@ use lib.Seq.{sets}
 use Rattle.board.specs.declared.Board.{Board}
 use Rattle.loader.specs.declared.Loaded.{Loaded}
 use Rattle.calls.specs.Calls.{played, answers}
-use Rattle.calls.specs.Codes.{callsOf, listed}
+use Rattle.calls.specs.Codes.{callsOf, journalCoded}
 use Rattle.playthrough.proofs.Held.{told-loaded}
 use borrow.Author.Needs.{needs}
 use Rattle.boundary.proofs.vulprow_play.Statement.{statement}
@@ -37,7 +37,7 @@ returns c =
     let board = ap (λ (l : Loaded). l .board) loading in
     let calls = callsOf (args .steps .now) (args .codes .now) in
     let end = at-run .ensures .0 ∙ ap (λ (b : Board). played b calls) board in
-    let journal = c .before .before .put-journal .ensures ∙ ap (λ (b : Board). listed (args .journal .now) 0 (b .journal)) end in
+    let journal = c .before .before .put-journal .ensures ∙ ap (λ (b : Board). journalCoded (args .journal .now) 0 (b .journal)) end in
     let told = told-loaded (args .text .now) calls _ loading _ _ (at-run .ensures .1 .1) in (
       ap (λ (l : Loaded). l .answer) loading,
       (

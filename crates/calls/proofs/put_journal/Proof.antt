@@ -2,8 +2,8 @@
 use mathlib.Core.Path.{_≡_, refl, _∙_}
 use Prim.Native.Nat.{_-_, _*_, _≤_, _<_}
 use lib.ListN.{length, drop}
-use Rattle.calls.specs.Codes.{listed}
-use Rattle.calls.proofs.Coded.{listed-turn, listed-end}
+use Rattle.calls.specs.Codes.{journalCoded}
+use Rattle.calls.proofs.Coded.{journal-coded-turn, journal-coded-end}
 use borrow.Author.Needs.{needs}
 use native.Mathlib.Omega.{arith}
 use Rattle.calls.proofs.put_journal.Statement.{statement}
@@ -11,7 +11,7 @@ use Rattle.calls.proofs.put_journal.Tie as tie
 
 abbrev Inv-loop : tie.InvT-loop
 Inv-loop buf₀ journal i₀ k₀ buf i k =
-    (k ≡ 5 * i) × (length buf ≡ length buf₀) × (listed buf k (drop i journal) ≡ listed buf₀ 0 journal)
+    (k ≡ 5 * i) × (length buf ≡ length buf₀) × (journalCoded buf k (drop i journal) ≡ journalCoded buf₀ 0 journal)
 
 abbrev μ-loop : tie.MeasureT-loop
 μ-loop buf₀ journal i₀ k₀ buf i k = 1056 - i
@@ -49,7 +49,7 @@ loop-again c =
     let start = c .before .before .before .before .before .before .before .before .before in
     let long : length (start .args .t1) ≡ 1056 = search (needs, start .good) in
     let inside : at-loop .i < length (start .args .t1) = omega (arith, at-loop-test .taken) in
-    (omega arith, omega arith, listed-turn _ _ _ _ _ _ _ _ inside refl (at-move-code .ensures) (at-put-five .ensures) ∙ at-loop .inv .2)
+    (omega arith, omega arith, journal-coded-turn _ _ _ _ _ _ _ _ inside refl (at-move-code .ensures) (at-put-five .ensures) ∙ at-loop .inv .2)
 
 same-length : tie.Need-same-length Inv-loop μ-loop
 same-length c = c .before .loop .inv .1
@@ -59,7 +59,7 @@ returns c =
     let start = c .before .before .before in
     let long : length (start .args .t1) ≡ 1056 = search (needs, start .good) in
     let over : length (start .args .t1) ≤ c .before .loop .i = omega (arith, c .loop-test .left) in
-    listed-end _ _ _ _ over ∙ c .before .loop .inv .2
+    journal-coded-end _ _ _ _ over ∙ c .before .loop .inv .2
 
 pub put-journal-spec : {M : Type 1} → statement M
 put-journal-spec =

@@ -27,7 +27,7 @@ use Rattle.calls.proofs.run.Reads as reads
 use Rattle.calls.proofs.run.Lts as lts
 use Rattle.board.proofs.Entry.blank.Reads as blank-reads
 use Rattle.calls.proofs.after.Reads as after-reads
-use Rattle.calls.proofs.judged.Reads as judged-reads
+use Rattle.calls.proofs.move_change.Reads as move-change-reads
 use Rattle.calls.proofs.make.Reads as make-reads
 use Rattle.calls.proofs.note.Reads as note-reads
 use Rattle.calls.proofs.slot.Reads as slot-reads
@@ -44,7 +44,7 @@ abbrev μ-loop : tie.MeasureT-loop
 μ-loop codes steps buf₀ hints₀ b₀ left₀ k₀ j₀ buf hints b left k j = left
 
 -- what is known once the parts of the board are tested
-module _ (c : lts.After-and (or-reads.Asked, or-reads.Learnt, minus-reads.Asked, minus-reads.Learnt, blank-reads.Asked, blank-reads.Learnt, intact-in-reads.Asked, intact-in-reads.Learnt, and-reads.Asked, and-reads.Learnt, judged-reads.Asked, judged-reads.Learnt, slot-reads.Asked, slot-reads.Learnt, after-reads.Asked, after-reads.Learnt, put-word-reads.Asked, put-word-reads.Learnt, make-reads.Asked, make-reads.Learnt, note-reads.Asked, note-reads.Learnt) reads.Pre reads.Post Inv-loop μ-loop) where
+module _ (c : lts.After-and (or-reads.Asked, or-reads.Learnt, minus-reads.Asked, minus-reads.Learnt, blank-reads.Asked, blank-reads.Learnt, intact-in-reads.Asked, intact-in-reads.Learnt, and-reads.Asked, and-reads.Learnt, move-change-reads.Asked, move-change-reads.Learnt, slot-reads.Asked, slot-reads.Learnt, after-reads.Asked, after-reads.Learnt, put-word-reads.Asked, put-word-reads.Learnt, make-reads.Asked, make-reads.Learnt, note-reads.Asked, note-reads.Learnt) reads.Pre reads.Post Inv-loop μ-loop) where
   abbrev now-board : Board
   now-board = c .before .before .before .before .before .before .before .before .before .before .before .before .before .before .before .loop .b
 
@@ -141,8 +141,8 @@ intact-in-requires c κs = search needs
 and-requires : tie.Need-and-requires Inv-loop μ-loop
 and-requires c κs = search needs
 
-judged-requires : tie.Need-judged-requires Inv-loop μ-loop
-judged-requires c κs = undo-small (now-board c) _ _ (plays c) (last-one c) (now-sized c .flows) (now-sized c .demands)
+move-change-requires : tie.Need-move-change-requires Inv-loop μ-loop
+move-change-requires c κs = undo-small (now-board c) _ _ (plays c) (last-one c) (now-sized c .flows) (now-sized c .demands)
 
 slot-requires : tie.Need-slot-requires Inv-loop μ-loop
 slot-requires c κs = search needs
@@ -150,9 +150,9 @@ slot-requires c κs = search needs
 after-requires : tie.Need-after-requires Inv-loop μ-loop
 after-requires c κs =
     let at-and = c .before .before .before .before .before .before .before in
-    let at-judged = c .before .before .before .before .before .before .judged in
+    let at-move-change = c .before .before .before .before .before .before .move-change in
     let at-if3 = c .before .before .before .before .if3 in
-    move-room [] (now-board at-and) (kind at-and) (first at-and) (second at-and) _ _ (at-judged .result) (plays at-and) (last-one at-and) (moving at-and) (at-judged .ensures) (at-if3 .taken) _ (c .slot .ensures)
+    move-room [] (now-board at-and) (kind at-and) (first at-and) (second at-and) _ _ (at-move-change .result) (plays at-and) (last-one at-and) (moving at-and) (at-move-change .ensures) (at-if3 .taken) _ (c .slot .ensures)
 
 cast-m : tie.Need-cast-m Inv-loop μ-loop
 cast-m c = search needs
@@ -195,7 +195,7 @@ loop-again c =
     let some = at-test .loop-test .taken in
     ⊎-elim
     (λ w.
-    let at-and : lts.After-and (or-reads.Asked, or-reads.Learnt, minus-reads.Asked, minus-reads.Learnt, blank-reads.Asked, blank-reads.Learnt, intact-in-reads.Asked, intact-in-reads.Learnt, and-reads.Asked, and-reads.Learnt, judged-reads.Asked, judged-reads.Learnt, slot-reads.Asked, slot-reads.Learnt, after-reads.Asked, after-reads.Learnt, put-word-reads.Asked, put-word-reads.Learnt, make-reads.Asked, make-reads.Learnt, note-reads.Asked, note-reads.Learnt) reads.Pre reads.Post Inv-loop μ-loop = record {
+    let at-and : lts.After-and (or-reads.Asked, or-reads.Learnt, minus-reads.Asked, minus-reads.Learnt, blank-reads.Asked, blank-reads.Learnt, intact-in-reads.Asked, intact-in-reads.Learnt, and-reads.Asked, and-reads.Learnt, move-change-reads.Asked, move-change-reads.Learnt, slot-reads.Asked, slot-reads.Learnt, after-reads.Asked, after-reads.Learnt, put-word-reads.Asked, put-word-reads.Learnt, make-reads.Asked, make-reads.Learnt, note-reads.Asked, note-reads.Learnt) reads.Pre reads.Post Inv-loop μ-loop = record {
       before = record {
         before = record {
           before = record {
@@ -292,7 +292,7 @@ run-spec =
     element-copy-out-last
     intact-in-requires
     and-requires
-    judged-requires
+    move-change-requires
     slot-requires
     after-requires
     cast-m

@@ -11,12 +11,12 @@ use Rattle.cancelling.proofs.cancel.Statement.{statement}
 use Rattle.cancelling.proofs.cancel.Tie as tie
 
 abbrev Inv-loop : tie.InvT-loop
-Inv-loop tails heads flows₀ n seen₀ walk₀ rows₀ round₀ flows seen walk rows round =
-    (length flows ≡ length flows₀) × (length seen ≡ n) × (length walk ≡ n) × (length rows ≡ n)
+Inv-loop tails heads flows₀ n seen₀ walk₀ bitsets₀ round₀ flows seen walk bitsets round =
+    (length flows ≡ length flows₀) × (length seen ≡ n) × (length walk ≡ n) × (length bitsets ≡ n)
     × (cancelled tails heads n (length flows₀ - round) flows ≡ acyclicFlows tails heads n flows₀)
 
 abbrev μ-loop : tie.MeasureT-loop
-μ-loop tails heads flows₀ n seen₀ walk₀ rows₀ round₀ flows seen walk rows round = length flows₀ - round
+μ-loop tails heads flows₀ n seen₀ walk₀ bitsets₀ round₀ flows seen walk bitsets round = length flows₀ - round
 
 loop-holds : tie.Need-loop-holds Inv-loop μ-loop
 unfolding acyclicFlows

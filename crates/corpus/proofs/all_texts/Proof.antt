@@ -1,4 +1,4 @@
--- `corpus::all_texts` is safe and ends. The measure is the number of turns that are left; a turn keeps the length of the space.
+-- `corpus::all_texts` is safe and ends. The measure is the number of rounds that are left; a round keeps the length of the space.
 use mathlib.Core.Path.{_≡_}
 use borrow.Author.Needs.{needs}
 use lib.ListN.{length}
@@ -6,10 +6,10 @@ use Rattle.corpus.proofs.all_texts.Statement.{statement}
 use Rattle.corpus.proofs.all_texts.Tie as tie
 
 abbrev Inv-loop : tie.InvT-loop
-Inv-loop space₀ turns₀ space turns = length space ≡ length space₀
+Inv-loop space₀ rounds₀ space rounds = length space ≡ length space₀
 
 abbrev μ-loop : tie.MeasureT-loop
-μ-loop space₀ turns₀ space turns = turns
+μ-loop space₀ rounds₀ space rounds = rounds
 
 loop-holds : tie.Need-loop-holds Inv-loop μ-loop
 loop-holds c = search needs
@@ -17,8 +17,8 @@ loop-holds c = search needs
 next-text-requires : tie.Need-next-text-requires Inv-loop μ-loop
 next-text-requires c κs = search needs
 
-sub-turns : tie.Need-sub-turns Inv-loop μ-loop
-sub-turns c = search needs
+sub-rounds : tie.Need-sub-rounds Inv-loop μ-loop
+sub-rounds c = search needs
 
 loop-less : tie.Need-loop-less Inv-loop μ-loop
 loop-less c = search needs
@@ -46,7 +46,7 @@ all-texts-spec =
     μ-loop
     loop-holds
     next-text-requires
-    sub-turns
+    sub-rounds
     loop-less
     loop-again
     same-length

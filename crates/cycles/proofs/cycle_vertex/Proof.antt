@@ -1,5 +1,5 @@
--- The rows hold what each vertex reaches; the lowest vertex of the set on a cycle is the lowest that is on one.
-use Rattle.cycles.proofs.Rows.{counted, vertex-found, vertex-none}
+-- The bitsets hold what each vertex reaches; the lowest vertex of the set on a cycle is the lowest that is on one.
+use Rattle.cycles.proofs.Bitsets.{counted, vertex-found, vertex-none}
 use borrow.Author.Needs.{needs}
 use Rattle.cycles.proofs.cycle_vertex.Statement.{statement}
 use Rattle.cycles.proofs.cycle_vertex.Tie as tie
@@ -22,8 +22,8 @@ returns c =
     let at-on-cycles = c .before .before .on-cycles in
     let at-reach = c .before .before .before .before .before .before .reach in
     let at-pre = c .before .before .before .before .before .before .before .before .before .before .before .before .pre in
-    let rows = counted _ _ _ (at-reach .last .1 .1 .1 .0) _ _ (at-pre .0) (at-reach .ensures) in
-    (vertex-found _ _ _ (at-reach .last .1 .1 .1 .0) _ _ _ (at-pre .1) rows (at-on-cycles .ensures) (at-lowest .ensures) (c .if1 .taken), rows)
+    let bitsets = counted _ _ _ (at-reach .last .1 .1 .1 .0) _ _ (at-pre .0) (at-reach .ensures) in
+    (vertex-found _ _ _ (at-reach .last .1 .1 .1 .0) _ _ _ (at-pre .1) bitsets (at-on-cycles .ensures) (at-lowest .ensures) (c .if1 .taken), bitsets)
 
 same-length-2 : tie.Need-same-length-2
 same-length-2 c = search needs
@@ -34,8 +34,8 @@ returns-2 c =
     let at-on-cycles = c .before .before .on-cycles in
     let at-reach = c .before .before .before .before .before .before .reach in
     let at-pre = c .before .before .before .before .before .before .before .before .before .before .before .before .pre in
-    let rows = counted _ _ _ (at-reach .last .1 .1 .1 .0) _ _ (at-pre .0) (at-reach .ensures) in
-    (vertex-none _ _ _ (at-reach .last .1 .1 .1 .0) _ _ _ (at-pre .1) rows (at-on-cycles .ensures) (at-lowest .ensures) (c .if1 .left), rows)
+    let bitsets = counted _ _ _ (at-reach .last .1 .1 .1 .0) _ _ (at-pre .0) (at-reach .ensures) in
+    (vertex-none _ _ _ (at-reach .last .1 .1 .1 .0) _ _ _ (at-pre .1) bitsets (at-on-cycles .ensures) (at-lowest .ensures) (c .if1 .left), bitsets)
 
 pub cycle-vertex-spec : {M : Type 1} → statement M
 cycle-vertex-spec =

@@ -7,19 +7,19 @@ use lib.Seq.{drop-length}
 use Rattle.graph.specs.Graph.{onward}
 use Rattle.graph.proofs.Onwards.{onward-made, onward-inside}
 use Rattle.cycles.specs.Cycles.{follow}
-use Rattle.cycles.proofs.Walks.{follow-hit, follow-on, follow-over}
+use Rattle.cycles.proofs.Loops.{follow-hit, follow-on, follow-over}
 use borrow.Author.Needs.{needs}
 use native.Mathlib.Omega.{arith}
 use Rattle.cycles.proofs.follow.Statement.{statement}
 use Rattle.cycles.proofs.follow.Tie as tie
 
 abbrev Inv-loop : tie.InvT-loop
-Inv-loop tails heads flows seen start walk₀ rows v₀ at₀ walk v at =
+Inv-loop tails heads flows seen start walk₀ bitsets v₀ at₀ walk v at =
     (at ≤ length walk₀) × (length walk ≡ length walk₀)
     × (follow tails heads flows seen at (drop at walk) v ≡ follow tails heads flows seen (length walk₀) [] start) × (v < length seen)
 
 abbrev μ-loop : tie.MeasureT-loop
-μ-loop tails heads flows seen start walk₀ rows v₀ at₀ walk v at = at
+μ-loop tails heads flows seen start walk₀ bitsets v₀ at₀ walk v at = at
 
 leaving-requires : tie.Need-leaving-requires Inv-loop μ-loop
 leaving-requires c κs = search needs
@@ -27,11 +27,11 @@ leaving-requires c κs = search needs
 loop-holds : tie.Need-loop-holds Inv-loop μ-loop
 loop-holds c = (omega arith, refl, rw drop-length, omega arith)
 
-cast-row-at : tie.Need-cast-row-at Inv-loop μ-loop
-cast-row-at c = search needs
+cast-bitset-at : tie.Need-cast-bitset-at Inv-loop μ-loop
+cast-bitset-at c = search needs
 
-row-at-requires : tie.Need-row-at-requires Inv-loop μ-loop
-row-at-requires c κs = search needs
+bitset-at-requires : tie.Need-bitset-at-requires Inv-loop μ-loop
+bitset-at-requires c κs = search needs
 
 lowest-edge-requires : tie.Need-lowest-edge-requires Inv-loop μ-loop
 lowest-edge-requires c κs = search needs
@@ -78,7 +78,7 @@ returns c =
     let at-word-at = c .before .before .before .before .word-at in
     let at-put-index = c .before .before .before .before .before .before .before .put-index in
     let at-lowest-edge = c .before .before .before .before .before .before .before .before .before .lowest-edge in
-    let at-row-at = c .before .before .before .before .before .before .before .before .before .before .row-at in
+    let at-bitset-at = c .before .before .before .before .before .before .before .before .before .before .bitset-at in
     let at-loop-test = c .before .before .before .before .before .before .before .before .before .before .before .before .loop-test in
     let at-loop = c .before .before .before .before .before .before .before .before .before .before .before .before .before .loop in
     let at-leaving = c .before .before .before .before .before .before .before .before .before .before .before .before .before .before .before .before .leaving in
@@ -86,7 +86,7 @@ returns c =
     let at-pre = c .before .before .before .before .before .before .before .before .before .before .before .before .before .before .before .before .before .before .before .before .before .before .before .before .pre in
     let on = onward (at-args .tails .now) (at-args .heads .now) (at-args .flows .now) (at-args .seen .now) (at-loop .v) in
     let edge : at-lowest-edge .result ≡ on =
-    onward-made _ _ _ _ _ (at-row-at .result) _ (at-pre .0 .1) (at-row-at .ensures ∙ at-leaving .ensures (at-loop .v) (omega arith)) (at-lowest-edge .ensures) in
+    onward-made _ _ _ _ _ (at-bitset-at .result) _ (at-pre .0 .1) (at-bitset-at .ensures ∙ at-leaving .ensures (at-loop .v) (omega arith)) (at-lowest-edge .ensures) in
     let end : at-word-at .result ≡ getD (at-args .heads .now) on 0 = at-word-at .ensures ∙ ap (λ (k : ℕ). getD (at-args .heads .now) k 0) edge in
     let inside : at-loop .at ≤ length (at-loop .walk) = omega arith in
     (omega arith, follow-hit _ _ _ _ _ _ _ _ _ _ _ (at-loop-test .taken) inside (at-put-index .ensures ∙ rw edge) end (at-since .ensures .0) (at-loop .inv .2) (c .if1 .taken))
@@ -100,7 +100,7 @@ loop-again c =
     let at-word-at = c .before .before .before .before .word-at in
     let at-put-index = c .before .before .before .before .before .before .before .put-index in
     let at-lowest-edge = c .before .before .before .before .before .before .before .before .before .lowest-edge in
-    let at-row-at = c .before .before .before .before .before .before .before .before .before .before .row-at in
+    let at-bitset-at = c .before .before .before .before .before .before .before .before .before .before .bitset-at in
     let at-loop-test = c .before .before .before .before .before .before .before .before .before .before .before .before .loop-test in
     let at-loop = c .before .before .before .before .before .before .before .before .before .before .before .before .before .loop in
     let at-leaving = c .before .before .before .before .before .before .before .before .before .before .before .before .before .before .before .before .leaving in
@@ -108,7 +108,7 @@ loop-again c =
     let at-pre = c .before .before .before .before .before .before .before .before .before .before .before .before .before .before .before .before .before .before .before .before .before .before .before .before .pre in
     let on = onward (at-args .tails .now) (at-args .heads .now) (at-args .flows .now) (at-args .seen .now) (at-loop .v) in
     let edge : at-lowest-edge .result ≡ on =
-    onward-made _ _ _ _ _ (at-row-at .result) _ (at-pre .0 .1) (at-row-at .ensures ∙ at-leaving .ensures (at-loop .v) (omega arith)) (at-lowest-edge .ensures) in
+    onward-made _ _ _ _ _ (at-bitset-at .result) _ (at-pre .0 .1) (at-bitset-at .ensures ∙ at-leaving .ensures (at-loop .v) (omega arith)) (at-lowest-edge .ensures) in
     let end : at-word-at .result ≡ getD (at-args .heads .now) on 0 = at-word-at .ensures ∙ ap (λ (k : ℕ). getD (at-args .heads .now) k 0) edge in
     let inside : at-loop .at ≤ length (at-loop .walk) = omega arith in
     let some : 0 < length (at-args .seen .now) = omega (arith, at-loop .inv .3) in (
@@ -136,8 +136,8 @@ follow-spec =
     μ-loop
     leaving-requires
     loop-holds
-    cast-row-at
-    row-at-requires
+    cast-bitset-at
+    bitset-at-requires
     lowest-edge-requires
     sub-at
     put-index-requires

@@ -6,19 +6,19 @@ use lib.ListN.{length}
 use Rattle.lists.proofs.Laws.{both-right}
 use Rattle.sets.proofs.Scan.{has-inside}
 use Rattle.graph.specs.Graph.{onward}
-use Rattle.graph.specs.Rows.{column}
-use Rattle.cycles.proofs.Rows.{found, found-none, found-turn, found-end}
+use Rattle.graph.specs.Bitsets.{column}
+use Rattle.cycles.proofs.Bitsets.{found, found-none, found-turn, found-end}
 use borrow.Author.Needs.{needs}
 use native.Mathlib.Omega.{arith}
 use Rattle.cycles.proofs.on_cycles.Statement.{statement}
 use Rattle.cycles.proofs.on_cycles.Tie as tie
 
 abbrev Inv-loop : tie.InvT-loop
-Inv-loop tails heads flows rows m₀ e₀ m e =
-    (v : ℕ) → found tails heads flows rows m e v ≡ ltb (onward tails heads flows (column rows v) v) (length flows)
+Inv-loop tails heads flows bitsets m₀ e₀ m e =
+    (v : ℕ) → found tails heads flows bitsets m e v ≡ ltb (onward tails heads flows (column bitsets v) v) (length flows)
 
 abbrev μ-loop : tie.MeasureT-loop
-μ-loop tails heads flows rows m₀ e₀ m e = length flows - e
+μ-loop tails heads flows bitsets m₀ e₀ m e = length flows - e
 
 loop-holds : tie.Need-loop-holds Inv-loop μ-loop
 loop-holds c = λ v. found-none _ _ _ _ v
@@ -35,8 +35,8 @@ word-at-requires-2 c κs = search needs
 cast-head : tie.Need-cast-head Inv-loop μ-loop
 cast-head c = search needs
 
-row-at-requires : tie.Need-row-at-requires Inv-loop μ-loop
-row-at-requires c κs = search needs
+bitset-at-requires : tie.Need-bitset-at-requires Inv-loop μ-loop
+bitset-at-requires c κs = search needs
 
 mul-and : tie.Need-mul-and Inv-loop μ-loop
 mul-and c = search needs
@@ -54,8 +54,8 @@ with-vertex-requires : tie.Need-with-vertex-requires Inv-loop μ-loop
 with-vertex-requires c κs =
     let at-and = c .and in
     let at-has = c .before .has in
-    let at-row-at = c .before .before .before .row-at in
-    λ h. has-inside (at-row-at .result) _ (search needs) (sym (at-has .ensures) ∙ both-right _ _ (sym (at-and .ensures) ∙ h))
+    let at-bitset-at = c .before .before .before .bitset-at in
+    λ h. has-inside (at-bitset-at .result) _ (search needs) (sym (at-has .ensures) ∙ both-right _ _ (sym (at-and .ensures) ∙ h))
 
 add-e : tie.Need-add-e Inv-loop μ-loop
 add-e c = omega arith
@@ -68,14 +68,14 @@ loop-again c =
     let at-with-vertex = c .with-vertex in
     let at-and = c .before .and in
     let at-has = c .before .before .has in
-    let at-row-at = c .before .before .before .before .row-at in
+    let at-bitset-at = c .before .before .before .before .bitset-at in
     let at-word-at2 = c .before .before .before .before .before .word-at2 in
     let at-word-at = c .before .before .before .before .before .before .word-at in
     let at-loop-test = c .before .before .before .before .before .before .before .loop-test in
     let at-loop = c .before .before .before .before .before .before .before .before .loop in
     let at-args = c .before .before .before .before .before .before .before .before .before .before .before .before .before .args in
-    λ v. found-turn (at-args .tails .now) (at-args .heads .now) (at-args .flows .now) (at-args .rows .now) (at-loop .m) _ (at-loop .e) (at-loop-test .taken)
-    (at-with-vertex .ensures ∙ rw (at-and .ensures, at-has .ensures, at-row-at .ensures, at-word-at2 .ensures, at-word-at .ensures)) v
+    λ v. found-turn (at-args .tails .now) (at-args .heads .now) (at-args .flows .now) (at-args .bitsets .now) (at-loop .m) _ (at-loop .e) (at-loop-test .taken)
+    (at-with-vertex .ensures ∙ rw (at-and .ensures, at-has .ensures, at-bitset-at .ensures, at-word-at2 .ensures, at-word-at .ensures)) v
     ∙ at-loop .inv v
 
 returns : tie.Need-returns Inv-loop μ-loop
@@ -92,7 +92,7 @@ on-cycles-spec =
     cast-tail
     word-at-requires-2
     cast-head
-    row-at-requires
+    bitset-at-requires
     mul-and
     shared-slice-read-and
     has-requires

@@ -6,7 +6,7 @@ use Prim.Native.Nat.{_+_, _-_, _≤_}
 use native.Mathlib.Nat.{zero-add}
 use lib.ListN.{length, drop}
 use Rattle.cycles.specs.Cycles.{since}
-use Rattle.cycles.proofs.Walks.{since-hit, since-miss, since-end}
+use Rattle.cycles.proofs.Loops.{since-hit, since-miss, since-end}
 use borrow.Author.Needs.{needs}
 use native.Mathlib.Omega.{arith}
 use Rattle.cycles.proofs.since.Statement.{statement}

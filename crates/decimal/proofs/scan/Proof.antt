@@ -4,7 +4,7 @@ use Prim.Native.Nat.{_-_, _<_, _≤_, _^_}
 use native.Mathlib.Omega.{arith}
 use lib.ListN.{length, drop}
 use Rattle.decimal.specs.Decimal.{valueFrom}
-use Rattle.decimal.proofs.Turns.{scan-end, scan-low, scan-high, scan-digit, ten-more, ten-bound}
+use Rattle.decimal.proofs.Loops.{scan-end, scan-low, scan-high, scan-digit, ten-more, ten-bound}
 use Rattle.decimal.proofs.scan.Statement.{statement}
 use Rattle.decimal.proofs.scan.Tie as tie
 

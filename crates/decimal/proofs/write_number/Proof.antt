@@ -7,7 +7,7 @@ use lib.ListN.{length}
 use lib.Seq.{sets, length-sets}
 use Rattle.decimal.specs.Decimal.{decimal}
 use Rattle.decimal.proofs.Laws.{decimal-length}
-use Rattle.decimal.proofs.Turns.{Left, write-begin, write-turn, write-end}
+use Rattle.decimal.proofs.Loops.{Left, write-begin, write-turn, write-end}
 use Rattle.decimal.proofs.write_number.Statement.{statement}
 use Rattle.decimal.proofs.write_number.Tie as tie
 

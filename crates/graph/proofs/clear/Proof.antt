@@ -1,4 +1,4 @@
--- The vertices passed are alone in their rows.
+-- The vertices passed are alone in their bitsets.
 use mathlib.Core.Path.{_≡_, refl, _∙_}
 use Prim.Native.Nat.{ℕ, _-_, _≤_, _<_}
 use lib.ListN.{length, getD, length-set}
@@ -11,11 +11,11 @@ use Rattle.graph.proofs.clear.Statement.{statement}
 use Rattle.graph.proofs.clear.Tie as tie
 
 abbrev Inv-loop : tie.InvT-loop
-Inv-loop rows₀ v₀ rows v =
-    (v ≤ length rows₀) × (length rows ≡ length rows₀) × ((k : ℕ) → k < v → getD rows k 0 ≡ withBit 0 k)
+Inv-loop bitsets₀ v₀ bitsets v =
+    (v ≤ length bitsets₀) × (length bitsets ≡ length bitsets₀) × ((k : ℕ) → k < v → getD bitsets k 0 ≡ withBit 0 k)
 
 abbrev μ-loop : tie.MeasureT-loop
-μ-loop rows₀ v₀ rows v = length rows₀ - v
+μ-loop bitsets₀ v₀ bitsets v = length bitsets₀ - v
 
 loop-holds : tie.Need-loop-holds Inv-loop μ-loop
 loop-holds c = (omega arith, refl, λ k h. absurd (omega arith))
@@ -23,11 +23,11 @@ loop-holds c = (omega arith, refl, λ k h. absurd (omega arith))
 with-requires : tie.Need-with-requires Inv-loop μ-loop
 with-requires c κs = search needs
 
-mul-rows : tie.Need-mul-rows Inv-loop μ-loop
-mul-rows c = search needs
+mul-bitsets : tie.Need-mul-bitsets Inv-loop μ-loop
+mul-bitsets c = search needs
 
-slice-write-rows : tie.Need-slice-write-rows Inv-loop μ-loop
-slice-write-rows c = omega arith
+slice-write-bitsets : tie.Need-slice-write-bitsets Inv-loop μ-loop
+slice-write-bitsets c = omega arith
 
 add-v : tie.Need-add-v Inv-loop μ-loop
 add-v c = omega arith
@@ -39,10 +39,10 @@ loop-again : tie.Need-loop-again Inv-loop μ-loop
 loop-again c =
     let at-with = c .with in
     let at-loop = c .before .before .loop in
-    let inside : at-loop .v < length (at-loop .rows) = omega arith in (
+    let inside : at-loop .v < length (at-loop .bitsets) = omega arith in (
       omega arith,
-      length-set (at-loop .rows) (at-loop .v) _ ∙ at-loop .inv .1,
-      stored-more (withBit 0) (at-loop .rows) (at-loop .v) _ 0 inside (at-loop .inv .2) (at-with .ensures ∙ pick-yes _ _ _ refl),
+      length-set (at-loop .bitsets) (at-loop .v) _ ∙ at-loop .inv .1,
+      stored-more (withBit 0) (at-loop .bitsets) (at-loop .v) _ 0 inside (at-loop .inv .2) (at-with .ensures ∙ pick-yes _ _ _ refl),
     )
 
 same-length : tie.Need-same-length Inv-loop μ-loop
@@ -61,8 +61,8 @@ clear-spec =
     μ-loop
     loop-holds
     with-requires
-    mul-rows
-    slice-write-rows
+    mul-bitsets
+    slice-write-bitsets
     add-v
     loop-less
     loop-again

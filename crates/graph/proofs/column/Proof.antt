@@ -3,7 +3,7 @@ use mathlib.Core.Path.{_≡_, refl, sym, _∙_}
 use mathlib.Core.Bool.{false}
 use Prim.Native.Nat.{ℕ, _-_, _≤_, _<_}
 use lib.ListN.{length, getD, length-set}
-use Rattle.graph.specs.Rows.{column}
+use Rattle.graph.specs.Bitsets.{column}
 use Rattle.graph.proofs.Columns.{stored-more, column-at, column-made}
 use borrow.Author.Needs.{needs}
 use native.Mathlib.Omega.{arith}
@@ -11,11 +11,11 @@ use Rattle.graph.proofs.column.Statement.{statement}
 use Rattle.graph.proofs.column.Tie as tie
 
 abbrev Inv-loop : tie.InvT-loop
-Inv-loop rows v seen₀ u₀ seen u =
-    (u ≤ length rows) × (length seen ≡ length seen₀) × ((k : ℕ) → k < u → getD seen k false ≡ getD (column rows v) k false)
+Inv-loop bitsets v seen₀ u₀ seen u =
+    (u ≤ length bitsets) × (length seen ≡ length seen₀) × ((k : ℕ) → k < u → getD seen k false ≡ getD (column bitsets v) k false)
 
 abbrev μ-loop : tie.MeasureT-loop
-μ-loop rows v seen₀ u₀ seen u = length rows - u
+μ-loop bitsets v seen₀ u₀ seen u = length bitsets - u
 
 loop-holds : tie.Need-loop-holds Inv-loop μ-loop
 loop-holds c = (omega arith, refl, λ k h. absurd (omega arith))
@@ -46,8 +46,8 @@ loop-again c =
     let inside : at-loop .u < length (at-loop .seen) = omega arith in (
       omega arith,
       length-set (at-loop .seen) (at-loop .u) _ ∙ at-loop .inv .1,
-      stored-more (λ (k : ℕ). getD (column (at-args .rows .now) (at-args .v)) k false) (at-loop .seen) (at-loop .u) _ false inside (at-loop .inv .2)
-          (at-has .ensures ∙ sym (column-at (at-args .rows .now) (at-args .v) (at-loop .u))),
+      stored-more (λ (k : ℕ). getD (column (at-args .bitsets .now) (at-args .v)) k false) (at-loop .seen) (at-loop .u) _ false inside (at-loop .inv .2)
+          (at-has .ensures ∙ sym (column-at (at-args .bitsets .now) (at-args .v) (at-loop .u))),
     )
 
 same-length : tie.Need-same-length Inv-loop μ-loop

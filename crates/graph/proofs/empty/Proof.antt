@@ -1,4 +1,4 @@
--- The rows passed are empty.
+-- The bitsets passed are empty.
 use mathlib.Core.Path.{_≡_, refl, _∙_}
 use Prim.Native.Nat.{ℕ, _-_, _≤_, _<_}
 use lib.ListN.{length, getD, length-set}
@@ -9,20 +9,20 @@ use Rattle.graph.proofs.empty.Statement.{statement}
 use Rattle.graph.proofs.empty.Tie as tie
 
 abbrev Inv-loop : tie.InvT-loop
-Inv-loop rows₀ v₀ rows v =
-    (v ≤ length rows₀) × (length rows ≡ length rows₀) × ((k : ℕ) → k < v → getD rows k 0 ≡ 0)
+Inv-loop bitsets₀ v₀ bitsets v =
+    (v ≤ length bitsets₀) × (length bitsets ≡ length bitsets₀) × ((k : ℕ) → k < v → getD bitsets k 0 ≡ 0)
 
 abbrev μ-loop : tie.MeasureT-loop
-μ-loop rows₀ v₀ rows v = length rows₀ - v
+μ-loop bitsets₀ v₀ bitsets v = length bitsets₀ - v
 
 loop-holds : tie.Need-loop-holds Inv-loop μ-loop
 loop-holds c = (omega arith, refl, λ k h. absurd (omega arith))
 
-mul-rows : tie.Need-mul-rows Inv-loop μ-loop
-mul-rows c = search needs
+mul-bitsets : tie.Need-mul-bitsets Inv-loop μ-loop
+mul-bitsets c = search needs
 
-slice-write-rows : tie.Need-slice-write-rows Inv-loop μ-loop
-slice-write-rows c = omega arith
+slice-write-bitsets : tie.Need-slice-write-bitsets Inv-loop μ-loop
+slice-write-bitsets c = omega arith
 
 add-v : tie.Need-add-v Inv-loop μ-loop
 add-v c = omega arith
@@ -33,10 +33,10 @@ loop-less c = omega arith
 loop-again : tie.Need-loop-again Inv-loop μ-loop
 loop-again c =
     let at-loop = c .before .loop in
-    let inside : at-loop .v < length (at-loop .rows) = omega arith in (
+    let inside : at-loop .v < length (at-loop .bitsets) = omega arith in (
       omega arith,
-      length-set (at-loop .rows) (at-loop .v) 0 ∙ at-loop .inv .1,
-      stored-more (λ (k : ℕ). 0) (at-loop .rows) (at-loop .v) 0 0 inside (at-loop .inv .2) refl,
+      length-set (at-loop .bitsets) (at-loop .v) 0 ∙ at-loop .inv .1,
+      stored-more (λ (k : ℕ). 0) (at-loop .bitsets) (at-loop .v) 0 0 inside (at-loop .inv .2) refl,
     )
 
 same-length : tie.Need-same-length Inv-loop μ-loop
@@ -52,8 +52,8 @@ empty-spec =
     Inv-loop
     μ-loop
     loop-holds
-    mul-rows
-    slice-write-rows
+    mul-bitsets
+    slice-write-bitsets
     add-v
     loop-less
     loop-again

@@ -14,7 +14,7 @@ word-at-requires : tie.Need-word-at-requires
 word-at-requires c κs = search needs
 
 returns : tie.Need-returns
-returns c = λ v h. left-zero _ _ _ _ _ (c .before .before .before .before .before .before .before .args .rows .now) (sym (c .before .word-at .ensures) ∙ c .if1 .taken) v
+returns c = λ v h. left-zero _ _ _ _ _ (c .before .before .before .before .before .before .before .args .bitsets .now) (sym (c .before .word-at .ensures) ∙ c .if1 .taken) v
 
 word-at-requires-2 : tie.Need-word-at-requires-2
 word-at-requires-2 c κs = search needs
@@ -30,7 +30,7 @@ returns-2 c =
     let at-bool-at = c .before .bool-at in
     let at-word-at2 = c .before .before .word-at2 in
     let at-args = c .before .before .before .before .before .before .before .before .before .before .args in
-    λ v h. left-outside (at-args .from .now) (at-args .to .now) (at-args .flows .now) (at-args .seen .now) (at-args .e) (at-args .rows .now)
+    λ v h. left-outside (at-args .from .now) (at-args .to .now) (at-args .flows .now) (at-args .seen .now) (at-args .e) (at-args .bitsets .now)
     (ap (λ (u : ℕ). getD (at-args .seen .now) u false) (sym (at-word-at2 .ensures)) ∙ sym (at-bool-at .ensures) ∙ not-true _ (c .if2 .taken)) v
 
 word-at-requires-3 : tie.Need-word-at-requires-3
@@ -39,23 +39,23 @@ word-at-requires-3 c κs = search needs
 cast-tail : tie.Need-cast-tail
 cast-tail c = search needs
 
-row-at-requires : tie.Need-row-at-requires
-row-at-requires c κs = search needs
+bitset-at-requires : tie.Need-bitset-at-requires
+bitset-at-requires c κs = search needs
 
 with-requires : tie.Need-with-requires
 with-requires c κs = search needs
 
-put-row-requires : tie.Need-put-row-requires
-put-row-requires c κs = search needs
+put-bitset-requires : tie.Need-put-bitset-requires
+put-bitset-requires c κs = search needs
 
 same-length : tie.Need-same-length
 same-length c = search needs
 
 returns-3 : tie.Need-returns-3
 returns-3 c =
-    let at-put-row = c .before .before .put-row in
+    let at-put-bitset = c .before .before .put-bitset in
     let at-with = c .before .before .before .before .with in
-    let at-row-at = c .before .before .before .before .before .row-at in
+    let at-bitset-at = c .before .before .before .before .before .bitset-at in
     let at-word-at3 = c .before .before .before .before .before .before .before .word-at3 in
     let at-if2 = c .before .before .before .before .before .before .before .before .if2 in
     let at-bool-at = c .before .before .before .before .before .before .before .before .before .bool-at in
@@ -63,10 +63,10 @@ returns-3 c =
     let at-if1 = c .before .before .before .before .before .before .before .before .before .before .before .if1 in
     let at-word-at = c .before .before .before .before .before .before .before .before .before .before .before .before .word-at in
     let at-args = c .before .before .before .before .before .before .before .before .before .before .before .before .before .before .before .before .before .before .args in
-    left (at-args .from .now) (at-args .to .now) (at-args .flows .now) (at-args .seen .now) (at-args .e) (at-args .rows .now) _
+    left (at-args .from .now) (at-args .to .now) (at-args .flows .now) (at-args .seen .now) (at-args .e) (at-args .bitsets .now) _
     (λ z. at-if1 .left (at-word-at .ensures ∙ z))
     (ap (λ (u : ℕ). getD (at-args .seen .now) u false) (sym (at-word-at2 .ensures)) ∙ sym (at-bool-at .ensures) ∙ not-false _ (at-if2 .left))
-    (at-put-row .ensures ∙ rw (at-with .ensures ∙ pick-yes _ _ _ refl, at-row-at .ensures, at-word-at3 .ensures))
+    (at-put-bitset .ensures ∙ rw (at-with .ensures ∙ pick-yes _ _ _ refl, at-bitset-at .ensures, at-word-at3 .ensures))
 
 pub leave-spec : {M : Type 1} → statement M
 leave-spec =
@@ -80,8 +80,8 @@ leave-spec =
     returns-2
     word-at-requires-3
     cast-tail
-    row-at-requires
+    bitset-at-requires
     with-requires
-    put-row-requires
+    put-bitset-requires
     same-length
     returns-3)

@@ -1,4 +1,4 @@
--- In each column, the rest of the pass over the rows as they are gives the whole pass over the first rows; rows that have not changed are the first.
+-- In each column, the rest of the pass over the bitsets as they are gives the whole pass over the first bitsets; bitsets that have not changed are the first.
 use mathlib.Core.Path.{_≡_, refl, sym, _∙_}
 use mathlib.Core.Bool.{false}
 use Prim.Native.Nat.{ℕ, _-_}
@@ -6,8 +6,8 @@ use native.Mathlib.Nat.{sub-zero}
 use lib.ListN.{length}
 use Rattle.lists.proofs.Laws.{either-left, either-right}
 use Rattle.graph.specs.Graph.{pass}
-use Rattle.graph.specs.Rows.{column}
-use Rattle.graph.proofs.Turns.{pass-turn, pass-end}
+use Rattle.graph.specs.Bitsets.{column}
+use Rattle.graph.proofs.Loops.{pass-turn, pass-end}
 use Rattle.graph.proofs.Columns.{column-turn}
 use borrow.Author.Needs.{needs}
 use native.Mathlib.Omega.{arith}
@@ -15,13 +15,13 @@ use Rattle.graph.proofs.pass.Statement.{statement}
 use Rattle.graph.proofs.pass.Tie as tie
 
 abbrev Inv-loop : tie.InvT-loop
-Inv-loop from to flows rows₀ changed₀ e₀ rows changed e =
-    (length rows ≡ length rows₀)
-    × ((v : ℕ) → pass from to flows e (length flows - e) (column rows v) ≡ pass from to flows 0 (length flows) (column rows₀ v))
-    × (changed ≡ false → rows ≡ rows₀)
+Inv-loop from to flows bitsets₀ any_changed₀ e₀ bitsets any_changed e =
+    (length bitsets ≡ length bitsets₀)
+    × ((v : ℕ) → pass from to flows e (length flows - e) (column bitsets v) ≡ pass from to flows 0 (length flows) (column bitsets₀ v))
+    × (any_changed ≡ false → bitsets ≡ bitsets₀)
 
 abbrev μ-loop : tie.MeasureT-loop
-μ-loop from to flows rows₀ changed₀ e₀ rows changed e = length flows - e
+μ-loop from to flows bitsets₀ any_changed₀ e₀ bitsets any_changed e = length flows - e
 
 loop-holds : tie.Need-loop-holds Inv-loop μ-loop
 loop-holds c = (refl, λ v. rw sub-zero, λ h. refl)
@@ -48,7 +48,7 @@ loop-again c =
     let inv = at-loop .inv in (
       omega arith,
       λ v. pass-turn _ _ _ _ _ _ _ (at-loop-test .taken)
-          (column-turn (at-args .from .now) (at-args .to .now) (at-args .flows .now) (at-loop .rows) _ (at-loop .e) v (at-cross .ensures .0)) ∙ inv .1 v,
+          (column-turn (at-args .from .now) (at-args .to .now) (at-args .flows .now) (at-loop .bitsets) _ (at-loop .e) v (at-cross .ensures .0)) ∙ inv .1 v,
       λ h. at-cross .ensures .1 (either-right _ _ (sym (at-or .ensures) ∙ h)) ∙ inv .2 (either-left _ _ (sym (at-or .ensures) ∙ h)),
     )
 

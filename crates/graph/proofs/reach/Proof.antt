@@ -1,6 +1,6 @@
 -- Column v starts as v alone and then goes through as many passes as there are rows, and so does `reached`.
 use native.Mathlib.Omega.{arith}
-use Rattle.graph.proofs.Turns.{reach-made}
+use Rattle.graph.proofs.Loops.{reach-made}
 use borrow.Author.Needs.{needs}
 use Rattle.graph.proofs.reach.Statement.{statement}
 use Rattle.graph.proofs.reach.Tie as tie

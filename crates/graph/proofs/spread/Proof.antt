@@ -1,4 +1,4 @@
--- In each column, the passes left over the rows as they are give all passes over the first rows; after a pass that changed nothing, none of them matters.
+-- In each column, the passes left over the bitsets as they are give all passes over the first bitsets; after a pass that changed nothing, none of them matters.
 use mathlib.Core.Path.{_≡_, refl, sym, ap, _∙_}
 use mathlib.Core.List.{List}
 use Prim.Native.Nat.{ℕ, _-_, _≤_, _<_}
@@ -6,19 +6,19 @@ use native.Mathlib.Nat.{sub-zero}
 use lib.ListN.{length}
 use borrow.Author.Tests.{not-true}
 use Rattle.graph.specs.Graph.{passes}
-use Rattle.graph.specs.Rows.{column}
-use Rattle.graph.proofs.Turns.{passes-turn, passes-end, passes-still}
+use Rattle.graph.specs.Bitsets.{column}
+use Rattle.graph.proofs.Loops.{passes-turn, passes-end, passes-still}
 use borrow.Author.Needs.{needs}
 use native.Mathlib.Omega.{arith}
 use Rattle.graph.proofs.spread.Statement.{statement}
 use Rattle.graph.proofs.spread.Tie as tie
 
 abbrev Inv-loop : tie.InvT-loop
-Inv-loop from to flows rows₀ k₀ rows k =
-    (length rows ≡ length rows₀) × ((v : ℕ) → passes from to flows (length rows₀ - k) (column rows v) ≡ passes from to flows (length rows₀) (column rows₀ v))
+Inv-loop from to flows bitsets₀ k₀ bitsets k =
+    (length bitsets ≡ length bitsets₀) × ((v : ℕ) → passes from to flows (length bitsets₀ - k) (column bitsets v) ≡ passes from to flows (length bitsets₀) (column bitsets₀ v))
 
 abbrev μ-loop : tie.MeasureT-loop
-μ-loop from to flows rows₀ k₀ rows k = length rows₀ - k
+μ-loop from to flows bitsets₀ k₀ bitsets k = length bitsets₀ - k
 
 loop-holds : tie.Need-loop-holds Inv-loop μ-loop
 loop-holds c = (refl, λ v. rw sub-zero)
@@ -46,7 +46,7 @@ loop-again c =
     let at-pass = c .before .before .before .pass in
     let at-loop = c .before .before .before .before .before .before .loop in
     let passed = c .before .before .before .before .before .before .before .before .before .before .before .args in
-    let inside : at-loop .k < length (passed .rows .now) = omega arith in
+    let inside : at-loop .k < length (passed .bitsets .now) = omega arith in
     (omega arith, λ v. ap (passes _ _ _ _) (at-pass .ensures .0 v) ∙ passes-turn _ _ _ _ _ _ inside ∙ at-loop .inv .1 v)
 
 same-length-2 : tie.Need-same-length-2 Inv-loop μ-loop
@@ -54,7 +54,7 @@ same-length-2 c = c .before .loop .inv .0
 
 returns-2 : tie.Need-returns-2 Inv-loop μ-loop
 returns-2 c =
-    let over : length (c .before .before .before .before .before .before .args .rows .now) ≤ c .before .loop .k = omega arith in
+    let over : length (c .before .before .before .before .before .before .args .bitsets .now) ≤ c .before .loop .k = omega arith in
     λ v. sym (passes-end _ _ _ _ _ _ over) ∙ c .before .loop .inv .1 v
 
 pub spread-spec : {M : Type 1} → statement M

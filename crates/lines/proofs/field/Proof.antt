@@ -4,8 +4,8 @@ use mathlib.Core.Path.{sym, _∙_}
 use native.Mathlib.Omega.{arith}
 use lib.Seq.{length-take-le}
 use Rattle.lists.specs.Choice.{pick}
-use Rattle.text.specs.Views.{answered}
-use Rattle.lines.proofs.Turns.{field-none, field-malformed, field-in, field-out}
+use Rattle.text.specs.Views.{answerRead}
+use Rattle.lines.proofs.Loops.{field-none, field-malformed, field-in, field-out}
 use borrow.Author.Needs.{needs}
 use Rattle.lines.proofs.field.Statement.{statement}
 use Rattle.lines.proofs.field.Tie as tie
@@ -14,7 +14,7 @@ index-of-requires : tie.Need-index-of-requires
 index-of-requires c κs = search needs
 
 returns : tie.Need-returns
-unfolding answered pick
+unfolding answerRead pick
 returns c = (field-none _ _ _ _ (c .before .index-of .ensures) (c .if1 .taken), omega arith)
 
 slice-aggregate-read-number : tie.Need-slice-aggregate-read-number
@@ -36,7 +36,7 @@ enum-told : tie.Need-enum-told
 enum-told c = search needs
 
 returns-2 : tie.Need-returns-2
-unfolding answered pick
+unfolding answerRead pick
 returns-2 c =
     let at-holds = c .before .holds in
     let at-found = c .before .before .before .found in
@@ -49,7 +49,7 @@ returns-2 c =
     )
 
 returns-3 : tie.Need-returns-3
-unfolding answered pick
+unfolding answerRead pick
 returns-3 c =
     let at-holds = c .before .holds in
     let at-found = c .before .before .before .found in
@@ -62,7 +62,7 @@ returns-3 c =
     )
 
 returns-4 : tie.Need-returns-4
-unfolding answered pick
+unfolding answerRead pick
 returns-4 c =
     let at-read-number = c .before .before .read-number in
     let at-if1 = c .before .before .before .before .if1 in

@@ -6,7 +6,7 @@ use native.Mathlib.Omega.{arith}
 use borrow.Author.Needs.{needs}
 use lib.ListN.{length, take, length-set, length-take}
 use Rattle.text.specs.Text.{line}
-use Rattle.lines.proofs.Turns.{lineRest, line-end, line-step, line-step-stop, rest-used, then-got, answered-got, answered-refused, line-letter, line-comma, line-opened, two-bytes}
+use Rattle.lines.proofs.Loops.{lineRest, line-end, line-step, line-step-stop, rest-used, then-got, answer-read-got, answer-read-refused, line-letter, line-comma, line-opened, two-bytes}
 use Rattle.lines.proofs.line.Statement.{statement}
 use Rattle.lines.proofs.line.Tie as tie
 
@@ -27,7 +27,7 @@ returns : tie.Need-returns Inv-loop μ-loop
 returns c =
     let at-if1 = c .before .if1 in
     let at-byte-at = c .before .before .byte-at in (
-      answered-refused _ _ _ _ 1 (c .refused-line .ensures .0) (λ e. omega arith)
+      answer-read-refused _ _ _ _ 1 (c .refused-line .ensures .0) (λ e. omega arith)
           ∙ sym (line-letter _ _ _ (λ e. at-if1 .taken (at-byte-at .ensures ∙ e))),
       omega arith,
     )
@@ -44,7 +44,7 @@ returns-2 c =
     let at-byte-at2 = c .before .before .byte-at2 in
     let at-if1 = c .before .before .before .if1 in
     let at-byte-at = c .before .before .before .before .byte-at in (
-      answered-refused _ _ _ _ 1 (c .refused-line2 .ensures .0) (λ e. omega arith)
+      answer-read-refused _ _ _ _ 1 (c .refused-line2 .ensures .0) (λ e. omega arith)
           ∙ sym (line-comma _ _ _ (sym (at-byte-at .ensures) ∙ at-if1 .left) (λ e. at-if2 .taken (at-byte-at2 .ensures ∙ e))),
       omega arith,
     )
@@ -78,14 +78,14 @@ mul-field c = omega arith
 array-copy-out-field : tie.Need-array-copy-out-field Inv-loop μ-loop
 array-copy-out-field c = omega arith
 
-sub-end-of : tie.Need-sub-end-of Inv-loop μ-loop
-sub-end-of c = omega arith
+sub-end-byte : tie.Need-sub-end-byte Inv-loop μ-loop
+sub-end-byte c = omega arith
 
-sub-end-of-2 : tie.Need-sub-end-of-2 Inv-loop μ-loop
-sub-end-of-2 c = omega arith
+sub-end-byte-2 : tie.Need-sub-end-byte-2 Inv-loop μ-loop
+sub-end-byte-2 c = omega arith
 
-end-of-requires : tie.Need-end-of-requires Inv-loop μ-loop
-end-of-requires c κs = tt
+end-byte-requires : tie.Need-end-byte-requires Inv-loop μ-loop
+end-byte-requires c κs = tt
 
 field-requires : tie.Need-field-requires Inv-loop μ-loop
 field-requires c κs = tt
@@ -98,13 +98,13 @@ returns-3 c =
     let size : c .before .before .before .before .before .before .before .before .before .before .before .before .before .before .args .count ≤ length (c .before .before .before .before .before .before .before .before .before .before .before .before .before .before .args .t3) = search needs in
     let at-if3 = c .before .if3 in
     let at-field = c .before .before .before .field in
-    let at-end-of = c .before .before .before .before .end-of in
+    let at-end-byte = c .before .before .before .before .end-byte in
     let at-loop-test = c .before .before .before .before .before .before .before .loop-test in
     let at-loop = c .before .before .before .before .before .before .before .before .loop in
     let at-args = c .before .before .before .before .before .before .before .before .before .before .before .before .before .before .args in (
-      answered-refused _ _ _ _ _ (c .refused-line3 .ensures .0) (at-if3 .taken)
+      answer-read-refused _ _ _ _ _ (c .refused-line3 .ensures .0) (at-if3 .taken)
           ∙ line-step-stop _ _ (at-args .s .now) (at-loop .values) (at-loop .at) (at-loop .i) _ (at-loop .inv .4) (at-loop-test .taken) size
-          (at-field .result) _ (at-end-of .ensures) (at-field .ensures .0) (at-if3 .taken),
+          (at-field .result) _ (at-end-byte .ensures) (at-field .ensures .0) (at-if3 .taken),
       omega arith,
     )
 
@@ -133,7 +133,7 @@ loop-again c =
     let size : c .before .before .before .before .before .before .before .before .before .before .before .before .before .before .args .count ≤ length (c .before .before .before .before .before .before .before .before .before .before .before .before .before .before .args .t3) = search needs in
     let at-if3 = c .before .if3 in
     let at-field = c .before .before .before .field in
-    let at-end-of = c .before .before .before .before .end-of in
+    let at-end-byte = c .before .before .before .before .end-byte in
     let at-loop-test = c .before .before .before .before .before .before .before .loop-test in
     let at-loop = c .before .before .before .before .before .before .before .before .loop in
     let at-args = c .before .before .before .before .before .before .before .before .before .before .before .before .before .before .args in (
@@ -142,7 +142,7 @@ loop-again c =
       rest-used (at-args .s .now) _ _ (at-loop .inv .2) (at-field .ensures .1),
       simp length-set (omega arith),
       line-step _ _ (at-args .s .now) (at-loop .values) (at-loop .at) (at-loop .i) _ (at-loop .inv .4) (at-loop-test .taken) size
-          (at-field .result) _ (at-end-of .ensures) (at-field .ensures .0) (at-if3 .left) (omega arith),
+          (at-field .result) _ (at-end-byte .ensures) (at-field .ensures .0) (at-if3 .left) (omega arith),
     )
 
 returns-4 : tie.Need-returns-4 Inv-loop μ-loop
@@ -151,7 +151,7 @@ returns-4 c =
     let at-args = c .before .before .before .before .before .before .before .args in
     let n = at-args .count in
     let e : at-loop .i ≡ n = omega arith in (
-      answered-got _ _ _ _ refl
+      answer-read-got _ _ _ _ refl
           ∙
           (rw e at (line-end (take n (at-args .t3)) (at-args .s .now) (at-loop .values) (at-loop .at) (at-loop .i) _ (at-loop .inv .4) (let z = length-take n (at-args .t3) in omega arith))),
       omega arith,
@@ -175,9 +175,9 @@ line-spec =
     part-field-end
     mul-field
     array-copy-out-field
-    sub-end-of
-    sub-end-of-2
-    end-of-requires
+    sub-end-byte
+    sub-end-byte-2
+    end-byte-requires
     field-requires
     refused-line-requires-3
     returns-3

@@ -33,8 +33,8 @@ array-borrow-prefix-walk c = search needs
 slice-aggregate-cancel-5 : tie.Need-slice-aggregate-cancel-5
 slice-aggregate-cancel-5 c = sym (length-take-le _ _ (c .before .before .before .before .before .before .before .before .before .pre))
 
-array-borrow-prefix-rows : tie.Need-array-borrow-prefix-rows
-array-borrow-prefix-rows c = search needs
+array-borrow-prefix-bitsets : tie.Need-array-borrow-prefix-bitsets
+array-borrow-prefix-bitsets c = search needs
 
 slice-aggregate-cancel-6 : tie.Need-slice-aggregate-cancel-6
 slice-aggregate-cancel-6 c = sym (length-take-le _ _ (c .before .before .before .before .before .before .before .before .before .before .pre))
@@ -62,7 +62,7 @@ acyclic-flows-spec =
     slice-aggregate-cancel-4
     array-borrow-prefix-walk
     slice-aggregate-cancel-5
-    array-borrow-prefix-rows
+    array-borrow-prefix-bitsets
     slice-aggregate-cancel-6
     cancel-requires
     returns)

@@ -1,5 +1,5 @@
 -- The named tests are those of the definition, and so are the arms.
-use Rattle.orders.proofs.Turns.{number-padded, number-value, number-none}
+use Rattle.orders.proofs.Loops.{number-padded, number-value, number-none}
 use borrow.Author.Needs.{needs}
 use Rattle.orders.proofs.piece_number.Statement.{statement}
 use Rattle.orders.proofs.piece_number.Tie as tie

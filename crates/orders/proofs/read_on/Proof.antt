@@ -4,7 +4,7 @@ use Prim.Native.Nat.{_-_}
 use native.Mathlib.Omega.{arith}
 use lib.ListN.{length, drop}
 use Rattle.orders.specs.Scans.{scanAll}
-use Rattle.orders.proofs.Turns.{scan-turn, scan-end}
+use Rattle.orders.proofs.Loops.{scan-turn, scan-end}
 use borrow.Author.Needs.{needs}
 use Rattle.orders.proofs.read_on.Statement.{statement}
 use Rattle.orders.proofs.read_on.Tie as tie

@@ -2,7 +2,7 @@
 use mathlib.Core.Path.{sym, _∙_}
 use native.Mathlib.Omega.{arith}
 use Rattle.lists.proofs.Laws.{pick-yes, pick-no}
-use Rattle.orders.proofs.Turns.{digit}
+use Rattle.orders.proofs.Loops.{digit}
 use borrow.Author.Needs.{needs}
 use Rattle.orders.proofs.Tests.{told}
 use Rattle.orders.proofs.value_taken.Statement.{statement}

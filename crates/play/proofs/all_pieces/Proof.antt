@@ -1,14 +1,14 @@
--- `play::all_pieces` is safe and ends. The measure is the number of turns that are left.
+-- `play::all_pieces` is safe and ends. The measure is the number of rounds that are left.
 use Prim.Native.Nat.{_≤_}
 use borrow.Author.Needs.{needs}
 use Rattle.play.proofs.all_pieces.Statement.{statement}
 use Rattle.play.proofs.all_pieces.Tie as tie
 
 abbrev Inv-loop : tie.InvT-loop
-Inv-loop current₀ turns₀ current turns = turns ≤ turns₀
+Inv-loop current₀ rounds₀ current rounds = rounds ≤ rounds₀
 
 abbrev μ-loop : tie.MeasureT-loop
-μ-loop current₀ turns₀ current turns = turns
+μ-loop current₀ rounds₀ current rounds = rounds
 
 loop-holds : tie.Need-loop-holds Inv-loop μ-loop
 loop-holds c = search needs
@@ -19,8 +19,8 @@ next-piece-requires c κs = search needs
 returns : tie.Need-returns Inv-loop μ-loop
 returns c = search needs
 
-sub-turns : tie.Need-sub-turns Inv-loop μ-loop
-sub-turns c = search needs
+sub-rounds : tie.Need-sub-rounds Inv-loop μ-loop
+sub-rounds c = search needs
 
 loop-less : tie.Need-loop-less Inv-loop μ-loop
 loop-less c = search needs
@@ -40,7 +40,7 @@ all-pieces-spec =
     loop-holds
     next-piece-requires
     returns
-    sub-turns
+    sub-rounds
     loop-less
     loop-again
     returns-2)

@@ -41,14 +41,14 @@ shared-slice-read-write-number c = omega arith
 write-number-requires : tie.Need-write-number-requires Inv-loop μ-loop
 write-number-requires c κs = omega arith
 
-sub-end-of : tie.Need-sub-end-of Inv-loop μ-loop
-sub-end-of c = omega arith
+sub-end-byte : tie.Need-sub-end-byte Inv-loop μ-loop
+sub-end-byte c = omega arith
 
-sub-end-of-2 : tie.Need-sub-end-of-2 Inv-loop μ-loop
-sub-end-of-2 c = omega arith
+sub-end-byte-2 : tie.Need-sub-end-byte-2 Inv-loop μ-loop
+sub-end-byte-2 c = omega arith
 
-end-of-requires : tie.Need-end-of-requires Inv-loop μ-loop
-end-of-requires c κs = tt
+end-byte-requires : tie.Need-end-byte-requires Inv-loop μ-loop
+end-byte-requires c κs = tt
 
 put-byte-requires-3 : tie.Need-put-byte-requires-3 Inv-loop μ-loop
 put-byte-requires-3 c κs = tt
@@ -65,14 +65,14 @@ loop-less c = omega arith
 loop-again : tie.Need-loop-again Inv-loop μ-loop
 loop-again c =
     let at-put-byte3 = c .before .before .put-byte3 in
-    let at-end-of = c .before .before .before .end-of in
+    let at-end-byte = c .before .before .before .end-byte in
     let at-write-number = c .before .before .before .before .before .before .before .write-number in
     let at-loop-test = c .before .before .before .before .before .before .before .before .before .before .loop-test in
     let at-loop = c .before .before .before .before .before .before .before .before .before .before .before .loop in (
       omega arith,
       omega arith,
       line-turned _ _ (at-loop-test .taken) (at-loop .inv .2) _ _ _ _ (at-write-number .ensures .1 .0) (at-write-number .ensures .0)
-          (at-end-of .ensures) (at-put-byte3 .ensures),
+          (at-end-byte .ensures) (at-put-byte3 .ensures),
     )
 
 same-length : tie.Need-same-length Inv-loop μ-loop
@@ -114,9 +114,9 @@ put-line-spec =
     mul-write-number
     shared-slice-read-write-number
     write-number-requires
-    sub-end-of
-    sub-end-of-2
-    end-of-requires
+    sub-end-byte
+    sub-end-byte-2
+    end-byte-requires
     put-byte-requires-3
     add-to-2
     add-i

@@ -7,7 +7,7 @@ use lib.ListN.{take, drop}
 use Rattle.text.specs.declared.Range.{Range}
 use Rattle.board.specs.declared.Network.{Network}
 use Rattle.text.specs.Text.{got, line, headed}
-use Rattle.lines.proofs.Turns.{answered-got, answered-refused}
+use Rattle.lines.proofs.Loops.{answer-read-got, answer-read-refused}
 use Rattle.rows.proofs.Loops.{head-stop, head-source, head-got}
 use borrow.Author.Needs.{needs}
 use Rattle.reader.proofs.header.Statement.{statement}
@@ -28,7 +28,7 @@ returns c =
     let at-line = c .before .before .before .line in
     let at-head-ranges = c .before .before .before .before .head-ranges in
     let at-args = c .before .before .before .before .before .before .args in (
-      answered-refused _ _ _ _ _ (c .refused .ensures .0) (at-if1 .taken)
+      answer-read-refused _ _ _ _ _ (c .refused .ensures .0) (at-if1 .taken)
           ∙ head-stop _ (at-line .result)
           (at-line .ensures .0 ∙ ap (λ (rs : List Range). line 66 (take 4 rs) (at-args .s .now)) (at-head-ranges .ensures)) (at-if1 .taken),
       omega arith,
@@ -50,7 +50,7 @@ returns-2 c =
     let at-line = c .before .before .before .before .before .line in
     let at-head-ranges = c .before .before .before .before .before .before .head-ranges in
     let at-args = c .before .before .before .before .before .before .before .before .args in (
-      answered-refused _ _ _ _ 2 (c .refused2 .ensures .0) (λ e. omega arith)
+      answer-read-refused _ _ _ _ 2 (c .refused2 .ensures .0) (λ e. omega arith)
           ∙ head-source _ (at-line .result)
           (at-line .ensures .0 ∙ ap (λ (rs : List Range). line 66 (take 4 rs) (at-args .s .now)) (at-head-ranges .ensures)) (at-if1 .left) (search needs)
           (at-if2 .taken),
@@ -67,7 +67,7 @@ returns-3 c =
     let at-line = c .before .before .before .before .before .line in
     let at-head-ranges = c .before .before .before .before .before .before .head-ranges in
     let at-args = c .before .before .before .before .before .before .before .before .args in (
-      answered-got _ _ _ _ refl
+      answer-read-got _ _ _ _ refl
           ∙ ap (λ (net : Network). got net (drop (at-line .result .used) (at-args .s .now))) (c .headed .ensures)
           ∙ head-got _ (at-line .result) (at-line .ensures .0 ∙ ap (λ (rs : List Range). line 66 (take 4 rs) (at-args .s .now)) (at-head-ranges .ensures))
           (at-if1 .left) (search needs) (at-if2 .left),

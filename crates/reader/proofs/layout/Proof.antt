@@ -2,7 +2,7 @@
 -- The counts of the first line are within their ranges, which is what reading the lines behind it asks for.
 use mathlib.Core.Path.{_∙_}
 use native.Mathlib.Omega.{arith}
-use Rattle.lines.proofs.Turns.{answered-refused}
+use Rattle.lines.proofs.Loops.{answer-read-refused}
 use Rattle.reader.proofs.Whole.{first-counts, second-counts, whole-head-stop, whole-edge-stop, whole-terminal-stop, whole-surplus, whole-end}
 use borrow.Author.Needs.{needs}
 use Rattle.reader.proofs.layout.Statement.{statement}
@@ -63,7 +63,7 @@ returns-4 c =
     let at-edge-lines = c .before .before .before .before .before .before .before .before .before .edge-lines in
     let at-if1 = c .before .before .before .before .before .before .before .before .before .before .before .if1 in
     let at-header = c .before .before .before .before .before .before .before .before .before .before .before .before .before .header in (
-      answered-refused _ _ _ _ 1 (c .refused .ensures .0) (λ e. omega arith)
+      answer-read-refused _ _ _ _ 1 (c .refused .ensures .0) (λ e. omega arith)
           ∙ whole-surplus _ (at-header .result) (at-header .ensures .0) (at-if1 .left) (at-edge-lines .result) (at-edge-lines .ensures .0) (at-if2 .left)
           (at-terminal-lines .result) (at-terminal-lines .ensures .0) (at-if3 .left) (at-if4 .taken),
       omega arith,

@@ -20,7 +20,7 @@ use Rattle.guard.proofs.intact_in.Reads as intact-in-reads
 use Rattle.lists.proofs.and.Reads as and-reads
 use Rattle.lists.proofs.minus.Reads as minus-reads
 use Rattle.reporting.proofs.has_room.Reads as has-room-reads
-use Rattle.reporting.proofs.number_of.Reads as number-of-reads
+use Rattle.reporting.proofs.unreported_in.Reads as unreported-in-reads
 use Rattle.reporting.proofs.put_tables.Reads as put-tables-reads
 use Rattle.routing.proofs.fill.Reads as fill-reads
 use Rattle.routing.proofs.routes_fit.Reads as routes-fit-reads
@@ -32,9 +32,9 @@ use Rattle.reporting.proofs.Answers.{number-made, report-printable, rep
 
 -- where the number is known
 abbrev Numbered : Type 0
-Numbered = lts.After-number-of (minus-reads.Asked, minus-reads.Learnt, blank-reads.Asked, blank-reads.Learnt, intact-in-reads.Asked, intact-in-reads.Learnt, fill-reads.Asked, fill-reads.Learnt, routes-fit-reads.Asked, routes-fit-reads.Learnt, number-of-reads.Asked, number-of-reads.Learnt, and-reads.Asked, and-reads.Learnt, has-room-reads.Asked, has-room-reads.Learnt, put-tables-reads.Asked, put-tables-reads.Learnt) reads.Pre reads.Post
+Numbered = lts.After-unreported-in (minus-reads.Asked, minus-reads.Learnt, blank-reads.Asked, blank-reads.Learnt, intact-in-reads.Asked, intact-in-reads.Learnt, fill-reads.Asked, fill-reads.Learnt, routes-fit-reads.Asked, routes-fit-reads.Learnt, unreported-in-reads.Asked, unreported-in-reads.Learnt, and-reads.Asked, and-reads.Learnt, has-room-reads.Asked, has-room-reads.Learnt, put-tables-reads.Asked, put-tables-reads.Learnt) reads.Pre reads.Post
 
-numbered : (n : Numbered) → n .number-of .result ≡ unreported (n .before .before .before .before .before .before .before .before .before .before .before .before .before .before .args .t4)
+numbered : (n : Numbered) → n .unreported-in .result ≡ unreported (n .before .before .before .before .before .before .before .before .before .before .before .before .before .before .args .t4)
 numbered n =
     let start = n .before .before .before .before .before .before .before .before .before .before .before .before .before .before in
     let at-blank = n .before .before .before .before .before .before .before in
@@ -45,7 +45,7 @@ numbered n =
     let long : length (board .journal) ≡ maxMoves = simp length-map at (journal .1 .0 .1) in
     let last = last-read board _ (joined .last) _ long (at-blank .before .minus .ensures)
     (⊎-elim (λ w. inl (w .0 .taken, w .2)) (λ w. inr (w .0 .left, w .1 ∙ at-blank .blank .ensures)) (joined .came)) in
-    number-made board (joined .last) _ _ _ last (n .before .before .before .before .before .intact-in .ensures) (rw (n .before .before .fill .ensures .1) at (n .before .routes-fit .ensures)) (n .number-of .ensures)
+    number-made board (joined .last) _ _ _ last (n .before .before .before .before .before .intact-in .ensures) (rw (n .before .before .fill .ensures .1) at (n .before .routes-fit .ensures)) (n .unreported-in .ensures)
 
 demands-long : (n : Numbered) → length (n .before .before .before .before .before .before .before .before .before .before .before .before .before .before .args .t4 .network .demands) ≡ maxTerminals
 demands-long n =
@@ -79,8 +79,8 @@ fill-requires c κs = search needs
 routes-fit-requires : tie.Need-routes-fit-requires
 routes-fit-requires c κs = search needs
 
-number-of-requires : tie.Need-number-of-requires
-number-of-requires c κs = search needs
+unreported-in-requires : tie.Need-unreported-in-requires
+unreported-in-requires c κs = search needs
 
 returns : tie.Need-returns
 returns c = put-refused (c .before .before .before .before .before .before .before .before .before .before .before .before .before .before .before .args .t4) _ _ _ _ (numbered (c .before)) (c .if2 .taken)
@@ -149,7 +149,7 @@ put-sheet-spec =
     intact-in-requires
     fill-requires
     routes-fit-requires
-    number-of-requires
+    unreported-in-requires
     returns
     and-requires
     has-room-requires

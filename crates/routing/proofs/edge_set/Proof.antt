@@ -6,7 +6,7 @@ use native.Mathlib.Omega.{arith}
 use lib.ListN.{length}
 use borrow.Author.Needs.{needs}
 use Rattle.lists.proofs.Laws.{pick-yes}
-use Rattle.routing.proofs.Walks.{Passed, set-start, set-turn, set-end}
+use Rattle.routing.proofs.Loops.{Passed, set-start, set-turn, set-end}
 use Rattle.routing.proofs.edge_set.Statement.{statement}
 use Rattle.routing.proofs.edge_set.Tie as tie
 

@@ -6,7 +6,7 @@ use lib.ListN.{length, length-set}
 use borrow.Author.Needs.{needs}
 use Rattle.board.specs.Limits.{maxTerminals}
 use Rattle.routing.specs.Tables.{AreRouteSets}
-use Rattle.routing.proofs.Walks.{routes-turn}
+use Rattle.routing.proofs.Loops.{routes-turn}
 use Rattle.routing.proofs.edge_sets.Statement.{statement}
 use Rattle.routing.proofs.edge_sets.Tie as tie
 

@@ -7,7 +7,7 @@ use borrow.Author.Needs.{needs}
 use Rattle.lists.specs.Lists.{total}
 use Rattle.board.specs.Limits.{maxTerminals, maxFlow}
 use Rattle.routing.specs.Tables.{setLoad}
-use Rattle.routing.proofs.Walks.{part, load-start, load-turn, total-end}
+use Rattle.routing.proofs.Loops.{part, load-start, load-turn, total-end}
 use Rattle.routing.proofs.load.Statement.{statement}
 use Rattle.routing.proofs.load.Tie as tie
 

@@ -7,7 +7,7 @@ use native.Mathlib.Omega.{arith}
 use borrow.Author.Needs.{needs}
 use lib.ListN.{length, take, drop}
 use Rattle.text.specs.Text.{edgeRanges, edgeLines}
-use Rattle.lines.proofs.Turns.{answered-got, answered-refused, rest-used}
+use Rattle.lines.proofs.Loops.{answer-read-got, answer-read-refused, rest-used}
 use Rattle.rows.proofs.Loops.{edge-stop, edge-step, edge-end}
 use Rattle.rows.proofs.edge_lines.Statement.{statement}
 use Rattle.rows.proofs.edge_lines.Tie as tie
@@ -52,7 +52,7 @@ returns c =
     let at-loop = c .before .before .before .before .before .before .loop in
     let at-edge-ranges = c .before .before .before .before .before .before .before .before .edge-ranges in
     let at-args = c .before .before .before .before .before .before .before .before .before .before .args in (
-      answered-refused _ _ _ _ _ (c .refused .ensures .0) (at-if1 .taken)
+      answer-read-refused _ _ _ _ _ (c .refused .ensures .0) (at-if1 .taken)
           ∙ edge-stop (at-loop .out) (at-loop .out) (at-edge-ranges .result) _ _ (at-loop .at) (at-args .s .now) _ (at-loop-test .taken) (at-line .result)
           (at-loop .inv .3) (ap (take 3) (at-edge-ranges .ensures) ∙ ap edgeRanges (sym (at-loop .inv .2))) (at-line .ensures .0) (at-if1 .taken),
       omega arith,
@@ -115,7 +115,7 @@ loop-again c =
     )
 
 returns-2 : tie.Need-returns-2 Inv-loop μ-loop
-returns-2 c = (answered-got _ _ _ _ refl ∙ sym (edge-end _ _ _ _ (c .loop-test .left)) ∙ c .before .loop .inv .3, omega arith)
+returns-2 c = (answer-read-got _ _ _ _ refl ∙ sym (edge-end _ _ _ _ (c .loop-test .left)) ∙ c .before .loop .inv .3, omega arith)
 
 pub edge-lines-spec : {M : Type 1} → statement M
 edge-lines-spec =

@@ -7,7 +7,7 @@ use native.Mathlib.Omega.{arith}
 use borrow.Author.Needs.{needs}
 use lib.ListN.{length, take, drop}
 use Rattle.text.specs.Text.{terminalRanges, terminalLines}
-use Rattle.lines.proofs.Turns.{answered-got, answered-refused, rest-used}
+use Rattle.lines.proofs.Loops.{answer-read-got, answer-read-refused, rest-used}
 use Rattle.rows.proofs.Loops.{terminal-stop, terminal-step, terminal-end}
 use Rattle.rows.proofs.terminal_lines.Statement.{statement}
 use Rattle.rows.proofs.terminal_lines.Tie as tie
@@ -52,7 +52,7 @@ returns c =
     let at-loop = c .before .before .before .before .before .before .loop in
     let at-terminal-ranges = c .before .before .before .before .before .before .before .before .terminal-ranges in
     let at-args = c .before .before .before .before .before .before .before .before .before .before .args in (
-      answered-refused _ _ _ _ _ (c .refused .ensures .0) (at-if1 .taken)
+      answer-read-refused _ _ _ _ _ (c .refused .ensures .0) (at-if1 .taken)
           ∙ terminal-stop (at-loop .out) (at-loop .out) (at-terminal-ranges .result) _ _ (at-loop .at) (at-args .s .now) _ (at-loop-test .taken)
           (at-line .result) (at-loop .inv .3) (ap (take 2) (at-terminal-ranges .ensures) ∙ ap terminalRanges (sym (at-loop .inv .2)))
           (at-line .ensures .0) (at-if1 .taken),
@@ -107,7 +107,7 @@ loop-again c =
     )
 
 returns-2 : tie.Need-returns-2 Inv-loop μ-loop
-returns-2 c = (answered-got _ _ _ _ refl ∙ sym (terminal-end _ _ _ _ (c .loop-test .left)) ∙ c .before .loop .inv .3, omega arith)
+returns-2 c = (answer-read-got _ _ _ _ refl ∙ sym (terminal-end _ _ _ _ (c .loop-test .left)) ∙ c .before .loop .inv .3, omega arith)
 
 pub terminal-lines-spec : {M : Type 1} → statement M
 terminal-lines-spec =

@@ -1,14 +1,14 @@
--- `scripts::main` is safe and ends. The measure is the number of turns that are left.
+-- `scripts::main` is safe and ends. The measure is the number of rounds that are left.
 use Prim.Native.Nat.{_≤_}
 use borrow.Author.Needs.{needs}
 use Rattle.scripts.proofs.main.Statement.{statement}
 use Rattle.scripts.proofs.main.Tie as tie
 
 abbrev Inv-loop : tie.InvT-loop
-Inv-loop turns₀ turns = turns ≤ turns₀
+Inv-loop rounds₀ rounds = rounds ≤ rounds₀
 
 abbrev μ-loop : tie.MeasureT-loop
-μ-loop turns₀ turns = turns
+μ-loop rounds₀ rounds = rounds
 
 loop-holds : tie.Need-loop-holds Inv-loop μ-loop
 loop-holds c = search needs
@@ -16,8 +16,8 @@ loop-holds c = search needs
 next-script-requires : tie.Need-next-script-requires Inv-loop μ-loop
 next-script-requires c κs = search needs
 
-sub-turns : tie.Need-sub-turns Inv-loop μ-loop
-sub-turns c = search needs
+sub-rounds : tie.Need-sub-rounds Inv-loop μ-loop
+sub-rounds c = search needs
 
 loop-less : tie.Need-loop-less Inv-loop μ-loop
 loop-less c = search needs
@@ -39,7 +39,7 @@ main-spec =
     μ-loop
     loop-holds
     next-script-requires
-    sub-turns
+    sub-rounds
     loop-less
     loop-again
     returns

@@ -1,14 +1,14 @@
--- `trials::all_trials` is safe and ends. The measure is the number of turns that are left.
+-- `trials::all_trials` is safe and ends. The measure is the number of rounds that are left.
 use Prim.Native.Nat.{_≤_}
 use borrow.Author.Needs.{needs}
 use Rattle.trials.proofs.all_trials.Statement.{statement}
 use Rattle.trials.proofs.all_trials.Tie as tie
 
 abbrev Inv-loop : tie.InvT-loop
-Inv-loop turns₀ turns = turns ≤ turns₀
+Inv-loop rounds₀ rounds = rounds ≤ rounds₀
 
 abbrev μ-loop : tie.MeasureT-loop
-μ-loop turns₀ turns = turns
+μ-loop rounds₀ rounds = rounds
 
 loop-holds : tie.Need-loop-holds Inv-loop μ-loop
 loop-holds c = search needs
@@ -16,8 +16,8 @@ loop-holds c = search needs
 next-trial-requires : tie.Need-next-trial-requires Inv-loop μ-loop
 next-trial-requires c κs = search needs
 
-sub-turns : tie.Need-sub-turns Inv-loop μ-loop
-sub-turns c = search needs
+sub-rounds : tie.Need-sub-rounds Inv-loop μ-loop
+sub-rounds c = search needs
 
 loop-less : tie.Need-loop-less Inv-loop μ-loop
 loop-less c = search needs
@@ -39,7 +39,7 @@ all-trials-spec =
     μ-loop
     loop-holds
     next-trial-requires
-    sub-turns
+    sub-rounds
     loop-less
     loop-again
     returns

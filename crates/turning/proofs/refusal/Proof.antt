@@ -5,7 +5,7 @@ use borrow.Author.Tests.{not-true, not-false}
 use Rattle.lists.specs.Choice.{pick}
 use Rattle.board.specs.Limits.{maxEdges}
 use Rattle.turning.specs.Turns.{turnRefusalIn}
-use Rattle.turning.proofs.Changes.{charted}
+use Rattle.turning.proofs.Changes.{charted-out}
 use borrow.Author.Needs.{needs}
 use Rattle.turning.proofs.refusal.Statement.{statement}
 use Rattle.turning.proofs.refusal.Tie as tie
@@ -23,7 +23,7 @@ steps-refusal-requires c κs =
     let sound = start .pre .0 (not-false (start .args .in-play) (c .before .before .before .before .before .before .if1 .left)) in
     let wide : length (start .args .t3 .heads) ≡ maxEdges = search needs in
     let long : length (start .args .t4) ≡ maxEdges = search needs in
-    (sound .room, charted _ _ _ _ sound wide long (start .pre .1 .0) (start .pre .1 .1))
+    (sound .room, charted-out _ _ _ _ sound wide long (start .pre .1 .0) (start .pre .1 .1))
 
 returns-2 : tie.Need-returns-2
 unfolding turnRefusalIn pick

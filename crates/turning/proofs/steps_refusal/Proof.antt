@@ -5,7 +5,7 @@ use denote.Ref.{now}
 use borrow.Author.Tests.{not-true, not-false}
 use Rattle.sets.specs.Sets.{setWidth}
 use Rattle.steps.specs.Steps.{stepsOf}
-use Rattle.turning.proofs.Passing.{in-sets, refused-6, refused-7, refused-24, refused-25, refused-26, accepted, ups-same}
+use Rattle.turning.proofs.Passing.{in-sets, refused-6, refused-7, refused-24, refused-25, refused-26, steps-accepted, ups-same}
 use borrow.Author.Needs.{needs}
 use Rattle.turning.proofs.steps_refusal.Statement.{statement}
 use Rattle.turning.proofs.steps_refusal.Tie as tie
@@ -63,7 +63,7 @@ returns-6 c =
     let start = c .before .before .before .before .before .before .before .before .before .before .before .before .before .before in
     let fits : start .args .positive < 2 ^ setWidth = search (needs, start .fits .positive) in
     let same = sym (ups-same _ _ _ _ _ (start .pre .1) fits (start .args .edges) (start .args .vertices) (stepsOf (now (start .args .steps)))) in
-    accepted _ _ _ _ _ _ _ on cycle (c .before .before .before .before .if3 .left) above (same ∙ rw (c .before .all-meet3 .ensures) at (not-false (c .before .all-meet3 .result) (c .if5 .left)))
+    steps-accepted _ _ _ _ _ _ _ on cycle (c .before .before .before .before .if3 .left) above (same ∙ rw (c .before .all-meet3 .ensures) at (not-false (c .before .all-meet3 .result) (c .if5 .left)))
 
 pub steps-refusal-spec : {M : Type 1} → statement M
 steps-refusal-spec =

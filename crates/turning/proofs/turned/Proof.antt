@@ -7,7 +7,7 @@ use Rattle.board.specs.Limits.{maxEdges, maxTerminals, maxTotal}
 use Rattle.marking.proofs.Following.{fresh-same}
 use Rattle.amounts.proofs.Raising.{least-small}
 use Rattle.turning.specs.Turns.{turnedIn}
-use Rattle.turning.proofs.Changes.{charted}
+use Rattle.turning.proofs.Changes.{charted-out}
 use borrow.Author.Needs.{needs}
 use Rattle.turning.proofs.turned.Statement.{statement}
 use Rattle.turning.proofs.turned.Tie as tie
@@ -49,7 +49,7 @@ returns c =
     let long : length (start .args .t2) ≡ maxEdges = search needs in
     let wide : length (start .args .t1 .heads) ≡ maxEdges = search needs in
     let fits : start .args .positive < 2 ^ setWidth = search (needs, start .fits .positive) in
-    let chart = charted _ _ _ _ (start .pre .0) wide long (start .pre .1 .0) (start .pre .1 .1 .0) in
+    let chart = charted-out _ _ _ _ (start .pre .0) wide long (start .pre .1 .0) (start .pre .1 .1 .0) in
     let new = c .before .before .fresh-by .ensures ∙ fresh-same _ _ _ _ _ chart fits (start .args .t1 .vertices) (start .args .marks) in
     rw (c .joined .ensures, c .before .shifted .ensures, new, c .before .before .before .before .before .before .gather2 .ensures, c .before .before .before .before .before .before .before .gather .ensures, c .before .before .before .before .before .before .before .before .least-allowed .ensures)
 

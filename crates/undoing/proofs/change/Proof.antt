@@ -3,7 +3,7 @@ use mathlib.Core.Path.{sym, _∙_}
 use borrow.Author.Tests.{eq-eqb, ne-eqb}
 use Rattle.lists.specs.Choice.{pick}
 use Rattle.undoing.specs.Undone.{undoChange}
-use Rattle.undoing.proofs.Makes.{accepted}
+use Rattle.undoing.proofs.Makes.{undo-plays}
 use borrow.Author.Needs.{needs}
 use Rattle.undoing.proofs.change.Statement.{statement}
 use Rattle.undoing.proofs.change.Tie as tie
@@ -19,7 +19,7 @@ unfolding undoChange pick
 returns c = rw (sym (c .before .before .refusal .ensures), ne-eqb _ _ (c .before .if1 .taken), c .blank .ensures)
 
 move-back-requires : tie.Need-move-back-requires
-move-back-requires c κs = c .before .before .pre (accepted _ _ (sym (c .before .refusal .ensures) ∙ c .if1 .left))
+move-back-requires c κs = c .before .before .pre (undo-plays _ _ (sym (c .before .refusal .ensures) ∙ c .if1 .left))
 
 returns-2 : tie.Need-returns-2
 unfolding undoChange pick

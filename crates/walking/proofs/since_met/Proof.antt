@@ -7,14 +7,14 @@ use Rattle.walking.proofs.since_met.Tie as tie
 first-met-requires : tie.Need-first-met-requires
 first-met-requires c κs = search needs
 
-since-requires : tie.Need-since-requires
-since-requires c κs =
+walk-from-requires : tie.Need-walk-from-requires
+walk-from-requires c κs =
     let s = c .before .before .before in
     let most = met-most (s .args .tails .now) (s .args .heads .now) (s .args .walk) (s .args .v) (search needs) (s .pre) in
     (rw (c .first-met .ensures) most, s .pre)
 
 returns : tie.Need-returns
-returns c = rw (c .before .first-met .ensures) at (c .since .ensures)
+returns c = rw (c .before .first-met .ensures) at (c .walk-from .ensures)
 
 pub since-met-spec : {M : Type 1} → statement M
-since-met-spec = tie.close (tie.spec first-met-requires since-requires returns)
+since-met-spec = tie.close (tie.spec first-met-requires walk-from-requires returns)

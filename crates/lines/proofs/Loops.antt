@@ -18,8 +18,8 @@ use Rattle.decimal.specs.declared.Number.the-variants.{Value, Malformed}
 use Rattle.decimal.specs.Decimal.{numberOf}
 use Rattle.text.specs.declared.Range.{Range}
 use Rattle.text.specs.declared.Field.{Field}
-use Rattle.text.specs.Views.{answered, fieldRead}
-use Rattle.text.specs.Text.{Read, refused, got, then, letter, ranged, field, endOf, between, numbers, line, lines}
+use Rattle.text.specs.Views.{answerRead, fieldRead}
+use Rattle.text.specs.Text.{Read, refused, got, then, letter, ranged, field, endByte, between, numbers, line, lines}
 
 -- a field whose first end stands behind n bytes, or nowhere
 module _ (r : Range) (e n : ℕ) (s : List ℕ) (p : n ≡ indexOf e s) where
@@ -56,11 +56,11 @@ then-then (refused n) f g = refl
 then-then (got a s) f g = refl
 
 module _ {A : Type 0} (r : Range) (rs : List Range) (s : List ℕ) (f : List ℕ → List ℕ → Read A) where
-  pub numbers-turn : (v : ℕ) (s1 : List ℕ) → field r (endOf rs) s ≡ got v s1 → then (numbers (r ∷ rs) s) f ≡ then (numbers rs s1) (λ ns s2. f (v ∷ ns) s2)
+  pub numbers-turn : (v : ℕ) (s1 : List ℕ) → field r (endByte rs) s ≡ got v s1 → then (numbers (r ∷ rs) s) f ≡ then (numbers rs s1) (λ ns s2. f (v ∷ ns) s2)
   unfolding numbers then
   numbers-turn v s1 e = rw (e, then) (then-then (numbers rs s1) (λ ns s2. got (v ∷ ns) s2) f)
 
-  pub numbers-stop : (n : ℕ) → field r (endOf rs) s ≡ refused n → then (numbers (r ∷ rs) s) f ≡ refused n
+  pub numbers-stop : (n : ℕ) → field r (endByte rs) s ≡ refused n → then (numbers (r ∷ rs) s) f ≡ refused n
   unfolding numbers then
   numbers-stop n e = rw (e, then)
 
@@ -84,10 +84,10 @@ module _ (rs : List Range) (s values : List ℕ) (at i : ℕ) where
     line-end h = sym (ap (λ (v : List ℕ). got v (drop at s)) (append-nil (take i values))) ∙ rw (drop-of-length-le rs h) at inv
 
     module _ (r : Range) (cut : drop i rs ≡ r ∷ drop (suc i) rs) where
-      pub line-stop : (n : ℕ) → refused n ≡ field r (endOf (drop (suc i) rs)) (drop at s) → refused n ≡ total
+      pub line-stop : (n : ℕ) → refused n ≡ field r (endByte (drop (suc i) rs)) (drop at s) → refused n ≡ total
       line-stop n e = sym (numbers-stop r (drop (suc i) rs) (drop at s) _ n (sym e)) ∙ rw cut at inv
 
-      pub line-turn : (v used : ℕ) → i < length values → got v (drop used (drop at s)) ≡ field r (endOf (drop (suc i) rs)) (drop at s)
+      pub line-turn : (v used : ℕ) → i < length values → got v (drop used (drop at s)) ≡ field r (endByte (drop (suc i) rs)) (drop at s)
           → then (numbers (drop (i + 1) rs) (drop (at + used) s)) (λ ns s1. got (take (i + 1) (set values i v) ++ ns) s1) ≡ total
       line-turn v used h e =
           simp (add-one i, take-suc-set values i v h, append-assoc, ← drop-drop used at s)
@@ -95,13 +95,13 @@ module _ (rs : List Range) (s values : List ℕ) (at i : ℕ) where
 
 -- the reader's structs, where the answer is known
 module _ {A : Type 0} (n : ℕ) (a : A) (u : ℕ) (s : List ℕ) where
-  pub answered-got : n ≡ 0 → answered n a u s ≡ got a (drop u s)
-  unfolding answered pick
-  answered-got e = rw e
+  pub answer-read-got : n ≡ 0 → answerRead n a u s ≡ got a (drop u s)
+  unfolding answerRead pick
+  answer-read-got e = rw e
 
-  pub answered-refused : (m : ℕ) → n ≡ m → (m ≡ 0 → ⊥) → answered n a u s ≡ refused m
-  unfolding answered
-  answered-refused m e z = rw e (pick-no _ _ _ (ne-eqb m 0 z))
+  pub answer-read-refused : (m : ℕ) → n ≡ m → (m ≡ 0 → ⊥) → answerRead n a u s ≡ refused m
+  unfolding answerRead
+  answer-read-refused m e z = rw e (pick-no _ _ _ (ne-eqb m 0 z))
 
 -- the letter of a line and its comma
 module _ (x : ℕ) (rs : List Range) (s : List ℕ) where
@@ -125,7 +125,7 @@ two-bytes (a ∷ b ∷ s) h = omega arith
 pub rest-used : (s : List ℕ) (at used : ℕ) → at ≤ length s → used ≤ length (take (length s - at) (drop at s)) → at + used ≤ length s
 rest-used s at used h u = let e = ap length (rest-part s at) in let d = length-drop at s in omega arith
 
--- one turn of the line's loop, from what the code knows
+-- one round of the line's loop, from what the code knows
 module _ (ranges : List Range) (count : ℕ) (s values : List ℕ) (at i : ℕ) (total : Read (List ℕ))
     (inv : lineRest (take count ranges) s values at i ≡ total) (hi : i < count) (hc : count ≤ length ranges) (f : Field) (e : ℕ)
     (end : e ≡ pick (ltb 0 (count - i - 1)) 44 10)
@@ -136,11 +136,11 @@ module _ (ranges : List Range) (count : ℕ) (s values : List ℕ) (at i : ℕ) 
   cut : drop i (take count ranges) ≡ getD ranges i (between 0 0) ∷ drop (suc i) (take count ranges)
   cut = drop-cons (take count ranges) i (between 0 0) (let z = size in omega arith) ∙ rw (getD-take count ranges i (between 0 0) hi)
 
-  next : fieldRead f (drop at s) ≡ field (getD ranges i (between 0 0)) (endOf (drop (suc i) (take count ranges))) (drop at s)
+  next : fieldRead f (drop at s) ≡ field (getD ranges i (between 0 0)) (endByte (drop (suc i) (take count ranges))) (drop at s)
   next = rw (rest-part s at, end ∙ end-after (take count ranges) count i size hi) at was-read
 
   pub line-step-stop : (f .answer ≡ 0 → ⊥) → refused (f .answer) ≡ total
-  line-step-stop z = line-stop (take count ranges) s values at i total inv _ cut (f .answer) (sym (answered-refused _ _ _ _ _ refl z) ∙ next)
+  line-step-stop z = line-stop (take count ranges) s values at i total inv _ cut (f .answer) (sym (answer-read-refused _ _ _ _ _ refl z) ∙ next)
 
   pub line-step : f .answer ≡ 0 → i < length values → lineRest (take count ranges) s (set values i (f .value)) (at + f .used) (i + 1) ≡ total
-  line-step z h = line-turn (take count ranges) s values at i total inv _ cut (f .value) (f .used) h (sym (answered-got _ _ _ _ z) ∙ next)
+  line-step z h = line-turn (take count ranges) s values at i total inv _ cut (f .value) (f .used) h (sym (answer-read-got _ _ _ _ z) ∙ next)

@@ -11,7 +11,7 @@ use lib.Seq.{sets, sets-eq, length-sets, getD-drop, ext-getD}
 use borrow.Author.Tests.{ltb-true, ltb-false}
 use Rattle.lists.proofs.Laws.{Known, was-true, was-false, known}
 use Rattle.text.specs.declared.Range.{Range}
-use Rattle.text.specs.Text.{column, linesText, lineText}
+use Rattle.text.specs.Text.{fieldColumn, linesText, lineText}
 use Rattle.text.proofs.Fields.{Within, Rows, no-row, row, rowsText}
 
 -- ---- runs
@@ -91,24 +91,24 @@ module _ {rs : List Range} where
 
 -- ---- columns
 
-pub column-length : (j : ℕ) (rows : List (List ℕ)) → length (column j rows) ≡ length rows
-column-length j [] = refl
-column-length j (ns ∷ rows) = ap suc (column-length j rows)
+pub field-column-length : (j : ℕ) (rows : List (List ℕ)) → length (fieldColumn j rows) ≡ length rows
+field-column-length j [] = refl
+field-column-length j (ns ∷ rows) = ap suc (field-column-length j rows)
 
-column-at : (j : ℕ) (rows : List (List ℕ)) (i : ℕ) → getD (column j rows) i 0 ≡ getD (getD rows i []) j 0
-column-at j [] i = refl
-column-at j (ns ∷ rows) zero = refl
-column-at j (ns ∷ rows) (suc i) = column-at j rows i
+field-column-at : (j : ℕ) (rows : List (List ℕ)) (i : ℕ) → getD (fieldColumn j rows) i 0 ≡ getD (getD rows i []) j 0
+field-column-at j [] i = refl
+field-column-at j (ns ∷ rows) zero = refl
+field-column-at j (ns ∷ rows) (suc i) = field-column-at j rows i
 
 abbrev pub zeros : ℕ → List ℕ
 zeros size = replicate size 0
 
 -- a column stored over zeros
 abbrev pub stored : ℕ → ℕ → List (List ℕ) → List ℕ
-stored size j rows = sets (zeros size) 0 (column j rows)
+stored size j rows = sets (zeros size) 0 (fieldColumn j rows)
 
 pub stored-length : (size j : ℕ) (rows : List (List ℕ)) → length (stored size j rows) ≡ size
-stored-length size j rows = length-sets (zeros size) 0 (column j rows) ∙ length-replicate size 0
+stored-length size j rows = length-sets (zeros size) 0 (fieldColumn j rows) ∙ length-replicate size 0
 
 zeros-at : (size i : ℕ) → getD (zeros size) i 0 ≡ 0
 zeros-at zero i = refl
@@ -125,10 +125,10 @@ zeros-behind (v ∷ vs) t (suc i) z = zeros-behind vs t i z
 pub stored-at : (size j : ℕ) {k : ℕ} (rows : List (List ℕ)) (i : ℕ) → length rows ≡ k → k ≤ size
     → getD (stored size j rows) i 0 ≡ getD (getD rows i []) j 0
 stored-at size j rows i e h =
-    let vs : List ℕ = column j rows in
-    let fits : 0 + length vs ≤ length (zeros size) = omega (arith, column-length j rows, length-replicate {A = ℕ} size 0) in
+    let vs : List ℕ = fieldColumn j rows in
+    let fits : 0 + length vs ≤ length (zeros size) = omega (arith, field-column-length j rows, length-replicate {A = ℕ} size 0) in
     rw (sets-eq vs (zeros size) 0 fits)
-    (zeros-behind vs _ i (λ m. getD-drop (0 + length vs) (zeros size) m 0 ∙ zeros-at size _) ∙ column-at j rows i)
+    (zeros-behind vs _ i (λ m. getD-drop (0 + length vs) (zeros size) m 0 ∙ zeros-at size _) ∙ field-column-at j rows i)
 
 pub stored-past : (size j : ℕ) {k : ℕ} (rows : List (List ℕ)) (i : ℕ) → length rows ≡ k → k ≤ size → k ≤ i → getD (stored size j rows) i 0 ≡ 0
 stored-past size j rows i e h past =

@@ -6,9 +6,9 @@ use lib.ListN.{length, drop, replicate}
 use borrow.Author.Needs.{needs}
 use Rattle.board.specs.Limits.{maxEdges}
 use lib.Seq.{sets}
-use Rattle.walking.proofs.Loops.{lastOf, held, last-held, copy-turn, copy-end, since-made}
-use Rattle.walking.proofs.since.Statement.{statement}
-use Rattle.walking.proofs.since.Tie as tie
+use Rattle.walking.proofs.Loops.{lastOf, held, last-held, copy-turn, copy-end, walk-from-made}
+use Rattle.walking.proofs.walk_from.Statement.{statement}
+use Rattle.walking.proofs.walk_from.Tie as tie
 
 abbrev Inv-loop : tie.InvT-loop
 Inv-loop k bytes rest steps₀ i₀ steps i =
@@ -57,10 +57,10 @@ returns c =
     let size : length (at-start .args .walk .steps) ≡ 64 = search needs in
     let fits = last-held (at-start .args .walk .steps) (at-start .args .walk .count) (at-start .args .k) size (at-start .pre .0) (at-start .pre .1) in
     let made = sym (copy-end _ _ _ fits _ _ (c .loop-test .left)) ∙ c .before .loop .inv .1 in
-    since-made (at-start .args .walk) _ _ made (at-start .pre .0) (held (at-start .args .walk .steps) _ size (at-start .pre .1))
+    walk-from-made (at-start .args .walk) _ _ made (at-start .pre .0) (held (at-start .args .walk .steps) _ size (at-start .pre .1))
 
-pub since-spec : {M : Type 1} → statement M
-since-spec =
+pub walk-from-spec : {M : Type 1} → statement M
+walk-from-spec =
     tie.close
     (tie.spec
     Inv-loop

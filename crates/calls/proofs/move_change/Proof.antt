@@ -3,8 +3,8 @@ use mathlib.Core.Path.{sym, _∙_}
 use Rattle.lists.proofs.Laws.{pick-yes, pick-no}
 use borrow.Author.Tests.{eq-eqb, ne-eqb}
 use borrow.Author.Needs.{needs}
-use Rattle.calls.proofs.judged.Statement.{statement}
-use Rattle.calls.proofs.judged.Tie as tie
+use Rattle.calls.proofs.move_change.Statement.{statement}
+use Rattle.calls.proofs.move_change.Tie as tie
 
 change-requires : tie.Need-change-requires
 change-requires c κs = search needs
@@ -18,5 +18,5 @@ change-requires-2 c κs = search needs
 returns-2 : tie.Need-returns-2
 returns-2 c = c .change2 .ensures ∙ sym (pick-no _ _ _ (ne-eqb _ _ (c .before .if1 .left)))
 
-pub judged-spec : {M : Type 1} → statement M
-judged-spec = tie.close (tie.spec change-requires returns change-requires-2 returns-2)
+pub move-change-spec : {M : Type 1} → statement M
+move-change-spec = tie.close (tie.spec change-requires returns change-requires-2 returns-2)

@@ -7,8 +7,8 @@ use borrow.Author.Needs.{needs}
 use Rattle.lists.specs.Choice.{both}
 use Rattle.lists.proofs.Laws.{pick-yes, pick-no}
 use Rattle.board.specs.Record.{playStage, finishedStage}
-use Rattle.reporting.proofs.number_of.Statement.{statement}
-use Rattle.reporting.proofs.number_of.Tie as tie
+use Rattle.reporting.proofs.unreported_in.Statement.{statement}
+use Rattle.reporting.proofs.unreported_in.Tie as tie
 
 and-requires : tie.Need-and-requires
 and-requires c κs = search needs
@@ -40,6 +40,6 @@ returns-3 c =
     let t : both (both (leb playStage (args .stage)) (leb (args .stage) finishedStage)) (both (args .sound) (args .fit)) ≡ true = cc in
     sym (pick-yes _ _ _ t ∙ pick-no _ _ _ (ne-eqb _ _ (c .if2 .left)))
 
-pub number-of-spec : {M : Type 1} → statement M
-number-of-spec =
+pub unreported-in-spec : {M : Type 1} → statement M
+unreported-in-spec =
     tie.close (tie.spec and-requires and-requires-2 and-requires-3 returns returns-2 returns-3)

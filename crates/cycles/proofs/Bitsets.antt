@@ -1,4 +1,4 @@
--- The vertices on a cycle as one set. Edge e gives its tail t to the set where it is positive and t is in the row of its head. For a vertex v that is
+-- The vertices on a cycle as one set. Edge e gives its tail t to the set where it is positive and t is in the bitset of its head. For a vertex v that is
 -- what `leads` asks of e in column v: e leaves v, so t is v. So v is in the set where some edge leads, and that is where the lowest such edge is one.
 use mathlib.Core.Path.{_≡_, refl, sym, ap, _∙_}
 use mathlib.Core.Bool.{Bool, true, false, true≢false}
@@ -16,25 +16,25 @@ use Rattle.lists.proofs.Laws.{Known, was-true, was-false, known, eq-or-ne, pick
 use Rattle.sets.specs.Sets.{setWidth, hasBit, withBit}
 use Rattle.sets.proofs.Bits.{has-none, has-with-same, has-with-other}
 use Rattle.graph.specs.Graph.{reached, leads, onward}
-use Rattle.graph.specs.Rows.{column}
+use Rattle.graph.specs.Bitsets.{column}
 use Rattle.graph.proofs.Columns.{column-at, either-true, either-false}
 use Rattle.graph.proofs.Onwards.{cut-found, cut-none}
 use Rattle.cycles.specs.Cycles.{onCycle, cycleVertex}
 
-module _ (tails heads flows rows : List ℕ) where
-  -- edge e is positive, and its tail is in the row of its head
+module _ (tails heads flows bitsets : List ℕ) where
+  -- edge e is positive, and its tail is in the bitset of its head
   abbrev pub closes : ℕ → Bool
-  closes e = both (ltb 0 (getD flows e 0)) (hasBit (getD rows (getD heads e 0) 0) (getD tails e 0))
+  closes e = both (ltb 0 (getD flows e 0)) (hasBit (getD bitsets (getD heads e 0) 0) (getD tails e 0))
 
   -- v leads over an edge into its own column
   abbrev pub leadsOf : ℕ → ℕ → Bool
-  leadsOf v = leads tails heads flows (column rows v) v
+  leadsOf v = leads tails heads flows (column bitsets v) v
 
   leads-tail : (e v : ℕ) → getD tails e 0 ≡ v → leadsOf v e ≡ closes e
   unfolding leads both
   leads-tail e v h =
       rw (← h, eq-eqb (getD tails e 0) (getD tails e 0) refl)
-      (ap (both (ltb 0 (getD flows e 0))) (column-at rows (getD tails e 0) (getD heads e 0)))
+      (ap (both (ltb 0 (getD flows e 0))) (column-at bitsets (getD tails e 0) (getD heads e 0)))
 
   leads-other : (e v : ℕ) → getD tails e 0 ≢ v → leadsOf v e ≡ false
   unfolding leads both
@@ -48,7 +48,7 @@ module _ (tails heads flows rows : List ℕ) where
   abbrev pub found : ℕ → ℕ → ℕ → Bool
   found m e v = either (hasBit m v) (ltb (lowest (leadsOf v) e (length flows - e)) (length flows))
 
-  pub found-none : (v : ℕ) → found 0 0 v ≡ ltb (onward tails heads flows (column rows v) v) (length flows)
+  pub found-none : (v : ℕ) → found 0 0 v ≡ ltb (onward tails heads flows (column bitsets v) v) (length flows)
   unfolding onward either
   found-none v = rw (has-none v, sub-zero)
 
@@ -81,9 +81,9 @@ module _ (tails heads flows rows : List ℕ) where
         go (was-false t) = rw (stays v t, lowest-miss (leadsOf v) (length flows) e h t)
 
 -- the lowest vertex on a cycle is the lowest of the set, where that is one of the n
-module _ (tails heads flows rows : List ℕ) (n m v : ℕ) (fits : n ≤ setWidth)
-    (rest : (u : ℕ) → u < n → column rows u ≡ reached heads tails flows n u)
-    (on : (u : ℕ) → hasBit m u ≡ ltb (onward tails heads flows (column rows u) u) (length flows)) (low : v ≡ lowest (hasBit m) 0 setWidth) where
+module _ (tails heads flows bitsets : List ℕ) (n m v : ℕ) (fits : n ≤ setWidth)
+    (rest : (u : ℕ) → u < n → column bitsets u ≡ reached heads tails flows n u)
+    (on : (u : ℕ) → hasBit m u ≡ ltb (onward tails heads flows (column bitsets u) u) (length flows)) (low : v ≡ lowest (hasBit m) 0 setWidth) where
   same : (u : ℕ) → u < n → hasBit m u ≡ onCycle tails heads n flows u
   unfolding onCycle
   same u h = on u ∙ rw (rest u h)
@@ -96,7 +96,7 @@ module _ (tails heads flows rows : List ℕ) (n m v : ℕ) (fits : n ≤ setWidt
   unfolding cycleVertex
   vertex-none h = cut-none (onCycle tails heads n flows) (hasBit m) n setWidth v fits same low h
 
--- the rows of as many vertices as there are rows
-pub counted : (from to flows rows : List ℕ) (n k : ℕ) → n ≡ k → ((v : ℕ) → v < k → column rows v ≡ reached from to flows k v) → (v : ℕ) → v < n
-    → column rows v ≡ reached from to flows n v
-counted from to flows rows n k e f = rw e f
+-- the bitsets of as many vertices as there are bitsets
+pub counted : (from to flows bitsets : List ℕ) (n k : ℕ) → n ≡ k → ((v : ℕ) → v < k → column bitsets v ≡ reached from to flows k v) → (v : ℕ) → v < n
+    → column bitsets v ≡ reached from to flows n v
+counted from to flows bitsets n k e f = rw e f
