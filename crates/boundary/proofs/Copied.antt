@@ -6,9 +6,9 @@ use native.Mathlib.Omega.{arith}
 use lib.ListN.{length, drop}
 use Rattle.board.specs.Record.{playStage, finishedStage}
 use Rattle.text.specs.Results.{writeText, written}
-use Rattle.loader.specs.Load.{loadText}
-use Rattle.loader.proofs.Loads.{load-accepted, loaded-reading}
-use Rattle.writer.proofs.WritesBack.{writes-loaded}
+use Rattle.load.specs.Load.{loadText}
+use Rattle.load.proofs.Loads.{load-accepted, loaded-reading}
+use Rattle.text_writer.proofs.WritesBack.{writes-loaded}
 
 pub copied : (s buf : List ℕ) → loadText s .answer ≡ 0 → length s ≤ length buf
     → (writeText (loadText s .board) (length buf) ≡ record { answer = 0; used = length s }) × (written (loadText s .board) buf ≡ s ++ drop (length s) buf)

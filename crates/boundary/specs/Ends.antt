@@ -4,11 +4,11 @@ use Prim.Native.Nat.{ℕ}
 use lib.Dec.{eqb}
 use Rattle.lists.specs.Choice.{pick}
 use Rattle.board.specs.declared.Board.{Board}
-use Rattle.loader.specs.Load.{loadText}
-use Rattle.finishing.specs.declared.Finished.{Finished}
-use Rattle.finishing.specs.Finishes.{finishCall}
-use Rattle.calls.specs.Calls.{played}
-use Rattle.calls.specs.Codes.{callsOf}
+use Rattle.load.specs.Load.{loadText}
+use Rattle.solve_finish.specs.declared.Finished.{Finished}
+use Rattle.solve_finish.specs.Finishes.{finishCall}
+use Rattle.move_list.specs.Calls.{played}
+use Rattle.move_list.specs.Codes.{callsOf}
 
 abbrev pub after : List ℕ → List ℕ → List ℕ → Board
 after text steps codes = played (loadText text .board) (callsOf steps codes)

@@ -3,12 +3,12 @@ use board::Board;
 ghost use mathlib.Core.Path.{_≡_};
 ghost use lib.ListN.{length};
 ghost use Rattle.text.specs.Results.{writeText, written};
-ghost use Rattle.loader.specs.Load.{loadText};
-ghost use Rattle.finishing.specs.Finishes.{finishCall};
-ghost use Rattle.calls.specs.Calls.{answers, Told};
-ghost use Rattle.calls.specs.Codes.{callsOf, journalCoded};
+ghost use Rattle.load.specs.Load.{loadText};
+ghost use Rattle.solve_finish.specs.Finishes.{finishCall};
+ghost use Rattle.move_list.specs.Calls.{answers, Told};
+ghost use Rattle.move_list.specs.Codes.{callsOf, journalCoded};
 ghost use lib.Seq.{sets};
-ghost use Rattle.reporting.specs.Reports.{sheetCall, sheeted};
+ghost use Rattle.report.specs.Reports.{sheetCall, sheeted};
 ghost use Rattle.catalog.specs.Catalog.{catalogCall, catalogued};
 ghost use Rattle.boundary.specs.Ends.{after, finished, lastBoard};
 
@@ -26,9 +26,9 @@ pub extern "C" fn vulprow_copy(
     ensures { λ _. ⌜ now (used .exit) ≡ writeText (loadText (now (text .entry)) .board) (length (now (buf .entry))) .used ⌝ }
     ensures { λ _. ⌜ now (buf .exit) ≡ written (loadText (now (text .entry)) .board) (now (buf .entry)) ⌝ }
 {
-    let loaded = loader::load(text);
+    let loaded = load::load(text);
     let board = loaded.board;
-    let w = writer::write(board, buf);
+    let w = text_writer::write(board, buf);
     *writing = w.answer;
     *used = w.used;
     loaded.answer
@@ -40,7 +40,7 @@ pub extern "C" fn vulprow_acyclic(text: &[u8], flows: &mut [u32; Board::MAX_EDGE
     ensures { λ r. ⌜ r ≡ loadText (now (text .entry)) .answer ⌝ }
     ensures { λ _. ⌜ now (flows .exit) ≡ loadText (now (text .entry)) .board .acyclic ⌝ }
 {
-    let loaded = loader::load(text);
+    let loaded = load::load(text);
     let board = loaded.board;
     let acyclic = board.acyclic;
     let answer = loaded.answer;
@@ -73,10 +73,10 @@ pub extern "C" fn vulprow_play(
     ensures { λ _. ⌜ now (moves .exit) ≡ after (now (text .entry)) (now (steps .entry)) (now (codes .entry)) .moves ⌝ }
     ensures { λ _. ⌜ now (journal .exit) ≡ journalCoded (now (journal .entry)) 0 (after (now (text .entry)) (now (steps .entry)) (now (codes .entry)) .journal) ⌝ }
 {
-    let loaded = loader::load(text);
+    let loaded = load::load(text);
     let board = loaded.board;
     let loading = loaded.answer;
-    let end = calls::run(board, codes, steps, given, hints);
+    let end = move_list::run(board, codes, steps, given, hints);
     let end_flows = end.flows;
     let end_places = end.places;
     let end_journal = end.journal;
@@ -84,7 +84,7 @@ pub extern "C" fn vulprow_play(
     *places = end_places;
     *marks = end.marks;
     *moves = end.moves;
-    calls::put_journal(end_journal, journal);
+    move_list::put_journal(end_journal, journal);
     loading
 }
 
@@ -126,7 +126,7 @@ pub extern "C" fn vulprow_finish(
     *places = last_places;
     *marks = last.marks;
     *moves = last.moves;
-    calls::put_journal(last_journal, journal);
+    move_list::put_journal(last_journal, journal);
     answer
 }
 
@@ -136,9 +136,9 @@ pub extern "C" fn vulprow_solve(text: &[u8], count: &mut u32) -> u32
     ensures { λ r. ⌜ r ≡ finishCall (loadText (now (text .entry)) .board) .answer ⌝ }
     ensures { λ _. ⌜ now (count .exit) ≡ finishCall (loadText (now (text .entry)) .board) .count ⌝ }
 {
-    let loaded = loader::load(text);
+    let loaded = load::load(text);
     let board = loaded.board;
-    let solved = finishing::finish(board);
+    let solved = solve_finish::finish(board);
     *count = solved.count;
     solved.answer
 }
@@ -150,7 +150,7 @@ fn last_board(board: Board, finishes: u32) -> Board
     if finishes == 0 {
         return board;
     }
-    let finish = finishing::finish(board);
+    let finish = solve_finish::finish(board);
     finish.board
 }
 
@@ -169,13 +169,13 @@ pub extern "C" fn vulprow_sheet(
     ensures { λ _. ⌜ now (used .exit) ≡ sheetCall (lastBoard finishes (after (now (text .entry)) (now (steps .entry)) (now (codes .entry)))) (length (now (buf .entry))) .used ⌝ }
     ensures { λ _. ⌜ now (buf .exit) ≡ sheeted (lastBoard finishes (after (now (text .entry)) (now (steps .entry)) (now (codes .entry)))) (now (buf .entry)) ⌝ }
 {
-    let loaded = loader::load(text);
+    let loaded = load::load(text);
     let start = loaded.board;
     let mut given = [0u32; 1];
     let mut hints = [0u32; 1];
-    let board = calls::run(start, codes, steps, &mut given, &mut hints);
+    let board = move_list::run(start, codes, steps, &mut given, &mut hints);
     let last = last_board(board, finishes);
-    let written = reporting::sheet(last, buf);
+    let written = report::sheet(last, buf);
     *used = written.used;
     written.answer
 }

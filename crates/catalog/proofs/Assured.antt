@@ -3,13 +3,13 @@ use mathlib.Core.Path.{_≡_, _∙_}
 use mathlib.Core.List.{List}
 use Prim.Native.Nat.{ℕ, _<_}
 use lib.ListN.{length, take}
-use Rattle.loader.specs.Load.{loadText}
-use Rattle.loader.proofs.Loads.{load-answer}
-use Rattle.calls.specs.Calls.{Call, played}
-use Rattle.solving.specs.Faithful.{Faithful}
-use Rattle.solving.proofs.EveryList.{every-list}
-use Rattle.reported.specs.Reported.{Printed}
-use Rattle.reported.proofs.Reports.{sheet-printed}
+use Rattle.load.specs.Load.{loadText}
+use Rattle.load.proofs.Loads.{load-answer}
+use Rattle.move_list.specs.Calls.{Call, played}
+use Rattle.theorem_list.specs.Faithful.{Faithful}
+use Rattle.theorem_list.proofs.EveryList.{every-list}
+use Rattle.theorem_list.specs.Reported.{Printed}
+use Rattle.theorem_list.proofs.Reports.{sheet-printed}
 use Rattle.catalog.specs.Catalog.{boards, catalogText, catalogCall, catalogued}
 use Rattle.catalog.proofs.Rule.{board-accepted, written-accepted}
 

@@ -11,7 +11,7 @@ use borrow.Author.Tests.{le-leb, lt-leb}
 use Rattle.lists.specs.Choice.{pick}
 use Rattle.text.specs.Text.{lineText, linesText}
 use Rattle.lists.proofs.Laws.{rest-part}
-use Rattle.printing.proofs.Writing.{Left, left-part, left-none}
+use Rattle.text_writer.proofs.Writing.{Left, left-part, left-none}
 use Rattle.catalog.specs.Catalog.{boards, span, boardsFrom, tableRow, boardText, catalogText, catalogCall, catalogued}
 
 -- one turn of the walk to a board's start, which stops at the end of the list

@@ -49,7 +49,7 @@ fn put_rows(buf: &mut [u8], at: usize, letter: u8, t: &[u32], width: usize, coun
     let mut i: usize = 0;
     while i < count {
         let from = width * i;
-        to = printing::put_line(buf, to, letter, &t[from..from + width]);
+        to = text_writer::put_line(buf, to, letter, &t[from..from + width]);
         i += 1;
     }
     to
@@ -63,7 +63,7 @@ fn put_board(buf: &mut [u8], t: &[u32]) -> usize
 {
     let edges = lists::word_at(t, 1) as usize;
     let terminals = lists::word_at(t, 2) as usize;
-    let head = printing::put_line(buf, 0, b'B', &t[..4]);
+    let head = text_writer::put_line(buf, 0, b'B', &t[..4]);
     let to = put_rows(buf, head, b'C', &t[4..], 3, edges);
     put_rows(buf, to, b'W', &t[4 + 3 * edges..], 2, terminals)
 }

@@ -10,7 +10,7 @@ fn print_text(network: Network) -> bool {
     b.stage = board::Board::PLAY;
     b.network = network;
     let mut space = [0u8; 1500];
-    let written = writer::write(b, &mut space);
+    let written = text_writer::write(b, &mut space);
     if written.answer != 0 {
         return framing::print_line(written.answer);
     }
@@ -24,7 +24,7 @@ fn print_text(network: Network) -> bool {
 
 // What reading the text answers, and after a 0 the text of what was read.
 fn answer(text: &[u8]) -> bool {
-    let reading = reader::read(text);
+    let reading = text_reader::read(text);
     let is_printed = framing::print_line(reading.answer);
     if !is_printed {
         return false;

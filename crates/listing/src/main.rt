@@ -3,7 +3,7 @@
 use board::Board;
 use board::Entry;
 use board::Move;
-use session::Session;
+use play_session::Session;
 ghost use Prim.Native.Nat.{_≤_};
 
 // 1 for a carry, 0 for a turn.
@@ -45,19 +45,19 @@ fn print_counts(number: u32, board: Board) -> bool {
         board.moves - carried,
     ];
     let mut line = [0u8; 80];
-    let used = printing::put_line(&mut line, 0, b'N', &row);
-    serving::print_part(&line, used)
+    let used = text_writer::put_line(&mut line, 0, b'N', &row);
+    descriptors::print_part(&line, used)
 }
 
 // The line of a board, its text and its report.
 fn print_board(number: u32, text: &[u8]) -> bool {
-    let loaded = loader::load(text);
+    let loaded = load::load(text);
     let board = loaded.board;
-    let finished = finishing::finish(board);
+    let finished = solve_finish::finish(board);
     let last = finished.board;
     let counted = print_counts(number, last);
-    let written = serving::print_part(text, text.len());
-    let reported = serving::print_sheet(text);
+    let written = descriptors::print_part(text, text.len());
+    let reported = descriptors::print_sheet(text);
     counted && written && reported
 }
 

@@ -1,7 +1,7 @@
 // Reads a board on standard input and then lines, and prints what each is answered with.
+use descriptors::Served;
 use libc::STDIN_FILENO;
-use serving::Served;
-use session::Session;
+use play_session::Session;
 
 // Reads a piece of the input, as much as there is, and serves it. At the end of the input the session goes on no more.
 fn next_piece(session: Session) -> Served {
@@ -13,7 +13,7 @@ fn next_piece(session: Session) -> Served {
             going: false,
         };
     }
-    serving::serve(session, &space[..got])
+    descriptors::serve(session, &space[..got])
 }
 
 // A proved loop has to end, and nothing says that the input does. So the loop counts its rounds down, from a number that no run
@@ -36,5 +36,5 @@ fn all_pieces(session: Session) -> Session {
 fn main() {
     let session = Session::start();
     let last = all_pieces(session);
-    serving::close(last);
+    descriptors::close(last);
 }

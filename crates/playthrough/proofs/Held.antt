@@ -5,13 +5,13 @@ use mathlib.Core.List.{List}
 use Prim.Native.Nat.{ℕ}
 use lib.Seq.{sets}
 use Rattle.board.specs.declared.Board.{Board}
-use Rattle.loader.specs.declared.Loaded.{Loaded}
-use Rattle.loader.specs.Load.{loadText}
-use Rattle.finishing.specs.declared.Finished.{Finished}
-use Rattle.finishing.specs.Finishes.{finishCall}
-use Rattle.calls.specs.Calls.{Call, played, answers, Told}
-use Rattle.solving.specs.Faithful.{Faithful}
-use Rattle.solving.proofs.EveryList.{every-list}
+use Rattle.load.specs.declared.Loaded.{Loaded}
+use Rattle.load.specs.Load.{loadText}
+use Rattle.solve_finish.specs.declared.Finished.{Finished}
+use Rattle.solve_finish.specs.Finishes.{finishCall}
+use Rattle.move_list.specs.Calls.{Call, played, answers, Told}
+use Rattle.theorem_list.specs.Faithful.{Faithful}
+use Rattle.theorem_list.proofs.EveryList.{every-list}
 use Rattle.playthrough.specs.declared.Outcome.{Outcome}
 use Rattle.playthrough.specs.Through.{outcome, Held, Holds}
 

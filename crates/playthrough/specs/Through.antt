@@ -3,13 +3,13 @@ use mathlib.Core.Path.{_≡_}
 use mathlib.Core.List.{List, []}
 use Prim.Native.Nat.{ℕ}
 use lib.Seq.{sets}
-use Rattle.loader.specs.Load.{loadText}
-use Rattle.hinting.specs.declared.Suggestion.{Suggestion}
-use Rattle.finishing.specs.Finishes.{finishCall}
-use Rattle.calls.specs.Calls.{Call, played, noted}
-use Rattle.solving.specs.Player.{says, HintsKeptBy}
-use Rattle.solving.specs.Complete.{Complete}
-use Rattle.solving.specs.Faithful.{Faithful}
+use Rattle.load.specs.Load.{loadText}
+use Rattle.solve_next.specs.declared.Suggestion.{Suggestion}
+use Rattle.solve_finish.specs.Finishes.{finishCall}
+use Rattle.move_list.specs.Calls.{Call, played, noted}
+use Rattle.theorem_list.specs.Player.{says, HintsKeptBy}
+use Rattle.theorem_list.specs.Complete.{Complete}
+use Rattle.theorem_list.specs.Faithful.{Faithful}
 use Rattle.playthrough.specs.declared.Outcome.{Outcome}
 
 -- what is loaded, the board after the calls, and what finish makes of it

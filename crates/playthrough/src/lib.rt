@@ -1,11 +1,11 @@
 // A whole play as one call: load, a list of calls, and a finish.
 use board::Board;
-use finishing::Finished;
+use solve_finish::Finished;
 ghost use mathlib.Core.Path.{_≡_};
 ghost use lib.Seq.{sets};
-ghost use Rattle.loader.specs.Load.{loadText};
-ghost use Rattle.calls.specs.Calls.{answers, Told};
-ghost use Rattle.calls.specs.Codes.{callsOf};
+ghost use Rattle.load.specs.Load.{loadText};
+ghost use Rattle.move_list.specs.Calls.{answers, Told};
+ghost use Rattle.move_list.specs.Codes.{callsOf};
 ghost use Rattle.playthrough.specs.Through.{outcome, Holds};
 
 // What a whole play gives: the answer of the load, the board after the calls, and what the finish gave.
@@ -29,11 +29,11 @@ pub fn play_through(
     ensures { λ _. ⌜ Told (now (hints .entry)) 0 (loadText (now (text .entry)) .board) (callsOf (now (steps .entry)) (now (codes .entry))) (now (hints .exit)) ⌝ }
     ensures { λ r. ⌜ Holds (now (text .entry)) (callsOf (now (steps .entry)) (now (codes .entry))) (now (given .entry)) (now (given .exit)) (now (hints .entry)) (now (hints .exit)) r ⌝ }
 {
-    let loaded = loader::load(text);
+    let loaded = load::load(text);
     let start = loaded.board;
     let loading = loaded.answer;
-    let board = calls::run(start, codes, steps, given, hints);
-    let finish = finishing::finish(board);
+    let board = move_list::run(start, codes, steps, given, hints);
+    let finish = solve_finish::finish(board);
     Outcome {
         loading: loading,
         board: board,

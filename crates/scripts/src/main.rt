@@ -3,7 +3,7 @@
 use board::Board;
 use libc::STDIN_FILENO;
 use libc::STDOUT_FILENO;
-use session::Session;
+use play_session::Session;
 ghost use Prim.Native.Nat.{_≤_};
 ghost use lib.ListN.{length};
 
@@ -43,7 +43,7 @@ fn serve_piece(session: Session, piece: u8, left: u32) -> Stepped
 {
     let mut space = [0u8; 255];
     let n = read_piece(&mut space, piece, left);
-    let served = serving::serve(session, &space[..n]);
+    let served = descriptors::serve(session, &space[..n]);
     let next = served.session;
     Stepped {
         session: next,
@@ -64,7 +64,7 @@ fn play_script(piece: u8, length: u32) -> bool {
         }
         left -= taken;
     }
-    serving::close(session)
+    descriptors::close(session)
 }
 
 // Reads past so many bytes.
@@ -83,9 +83,9 @@ fn skip(length: u32) -> bool {
 
 // What the call `sheet` answers on a board, with this room, and its text.
 fn report_into(board: Board, room: &mut [u8]) -> bool {
-    let written = reporting::sheet(board, room);
+    let written = report::sheet(board, room);
     let answer_printed = framing::print_line(written.answer);
-    let printed = serving::print_part(room, written.used);
+    let printed = descriptors::print_part(room, written.used);
     answer_printed && printed
 }
 
@@ -100,11 +100,11 @@ fn report(board: Board, length: usize) -> bool {
 
 // The report before a finish; the finish; and the report with too little room and with enough.
 fn call_script(text: &[u8]) -> bool {
-    let loaded = loader::load(text);
+    let loaded = load::load(text);
     let board = loaded.board;
     let loading = framing::print_line(loaded.answer);
     let before = report(board, 9000);
-    let finished = finishing::finish(board);
+    let finished = solve_finish::finish(board);
     let finishing = framing::print_line(finished.answer);
     let mut last = board;
     if finished.answer == 0 {
@@ -127,7 +127,7 @@ fn fill(space: &mut [u8], n: usize) -> bool {
 // What `sheet` (S) or a caller prints for a text.
 fn answer(letter: u8, text: &[u8]) -> bool {
     if letter == b'S' {
-        serving::print_sheet(text)
+        descriptors::print_sheet(text)
     } else {
         call_script(text)
     }

@@ -1,10 +1,10 @@
 // Reads a board on standard input, finishes it and prints its route report, or the number that it is refused with.
 use libc::STDIN_FILENO;
-use session::Session;
+use play_session::Session;
 
 fn main() {
     // No input past this is read: its first bytes decide.
     let mut space = [0u8; Session::TEXT];
     let got = io::read_full(STDIN_FILENO, &mut space);
-    serving::print_sheet(&space[..got]);
+    descriptors::print_sheet(&space[..got]);
 }

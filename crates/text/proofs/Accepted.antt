@@ -15,8 +15,8 @@ use Rattle.text.specs.declared.Reading.{Reading}
 use Rattle.board.specs.Limits.{maxEdges, maxTerminals}
 use Rattle.text.specs.Text.{Read, refused, got, header, headed, headRanges, edgeRanges, terminalRanges, lines, withEdges}
 use Rattle.text.specs.Text.{withTerminals, nothingFollows, layout, lineText, linesText, headRow, edgeRow, terminalRow, textOf}
-use Rattle.rules.specs.Rules.{judged, Lawful}
-use Rattle.rules.proofs.Meaning.{Kept, kept, judged-zero}
+use Rattle.text_rules.specs.Rules.{judged, Lawful}
+use Rattle.text_rules.proofs.Meaning.{Kept, kept, judged-zero}
 use Rattle.text.specs.Results.{judgement, readingOf, readText}
 use Rattle.text.proofs.Fields.{Within, Rows, Heading, rowsText, parts, parts-in, after, after-in, header-of-text, header-only}
 use Rattle.text.proofs.Fields.{lines-of-text, lines-only, refused-above}

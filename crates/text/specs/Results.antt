@@ -7,7 +7,7 @@ use lib.ListN.{length, drop}
 use Rattle.lists.specs.Choice.{pick, both}
 use Rattle.board.specs.Record.{emptyNetwork, playStage, finishedStage}
 use Rattle.text.specs.Text.{Read, refused, got, layout, textOf}
-use Rattle.rules.specs.Rules.{judged, lawful}
+use Rattle.text_rules.specs.Rules.{judged, lawful}
 use Rattle.board.specs.declared.Network.{Network}
 use Rattle.text.specs.declared.Reading.{Reading}
 use Rattle.board.specs.declared.Board.{Board}

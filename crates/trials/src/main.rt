@@ -2,9 +2,9 @@
 // byte first. For each it plays the calls, finishes the board, and prints the answers and the moves of the finished board.
 use board::Board;
 use board::Entry;
-use finishing::Finished;
 use libc::STDIN_FILENO;
 use libc::STDOUT_FILENO;
+use solve_finish::Finished;
 ghost use Prim.Native.Nat.{_+_, _≤_};
 ghost use lib.ListN.{length};
 
@@ -133,7 +133,7 @@ fn print_moves(numbers: &[u64]) -> bool {
 // The first so many moves of the journal.
 fn print_journal(journal: [Entry; Board::JOURNAL], moves: u32) -> bool {
     let mut numbers = [0u64; 5280];
-    calls::put_journal(journal, &mut numbers);
+    move_list::put_journal(journal, &mut numbers);
     if Board::JOURNAL < moves as usize {
         return false;
     }

@@ -2,7 +2,7 @@
 use mathlib.Core.Path.{sym, ap, _∙_}
 use borrow.Author.Tests.{eq-eqb, ne-eqb}
 use Rattle.lists.proofs.Laws.{pick-yes, pick-no}
-use Rattle.finishing.specs.declared.Finished.{Finished}
+use Rattle.solve_finish.specs.declared.Finished.{Finished}
 use borrow.Author.Needs.{needs}
 use Rattle.boundary.proofs.last_board.Statement.{statement}
 use Rattle.boundary.proofs.last_board.Tie as tie

@@ -1,6 +1,6 @@
 -- `boundary::vulprow_acyclic` meets its contract: both answers are parts of what the load gives.
 use mathlib.Core.Path.{ap}
-use Rattle.loader.specs.declared.Loaded.{Loaded}
+use Rattle.load.specs.declared.Loaded.{Loaded}
 use borrow.Author.Needs.{needs}
 use Rattle.boundary.proofs.vulprow_acyclic.Statement.{statement}
 use Rattle.boundary.proofs.vulprow_acyclic.Tie as tie

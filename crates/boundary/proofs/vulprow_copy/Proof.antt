@@ -4,7 +4,7 @@ use lib.ListN.{length}
 use Rattle.board.specs.declared.Board.{Board}
 use Rattle.text.specs.declared.Written.{Written}
 use Rattle.text.specs.Results.{writeText, written}
-use Rattle.loader.specs.declared.Loaded.{Loaded}
+use Rattle.load.specs.declared.Loaded.{Loaded}
 use borrow.Author.Needs.{needs}
 use Rattle.boundary.proofs.vulprow_copy.Statement.{statement}
 use Rattle.boundary.proofs.vulprow_copy.Tie as tie

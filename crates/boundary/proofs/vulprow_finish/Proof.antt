@@ -1,6 +1,6 @@
 -- `boundary::vulprow_finish` meets its contract: what the whole play ensures, part by part.
 use mathlib.Core.Path.{ap, _∙_}
-use Rattle.calls.specs.Codes.{journalCoded}
+use Rattle.move_list.specs.Codes.{journalCoded}
 use Rattle.playthrough.specs.declared.Outcome.{Outcome}
 use borrow.Author.Needs.{needs}
 use Rattle.boundary.proofs.vulprow_finish.Statement.{statement}

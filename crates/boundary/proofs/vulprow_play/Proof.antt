@@ -2,9 +2,9 @@
 use mathlib.Core.Path.{ap, _∙_}
 use lib.Seq.{sets}
 use Rattle.board.specs.declared.Board.{Board}
-use Rattle.loader.specs.declared.Loaded.{Loaded}
-use Rattle.calls.specs.Calls.{played, answers}
-use Rattle.calls.specs.Codes.{callsOf, journalCoded}
+use Rattle.load.specs.declared.Loaded.{Loaded}
+use Rattle.move_list.specs.Calls.{played, answers}
+use Rattle.move_list.specs.Codes.{callsOf, journalCoded}
 use Rattle.playthrough.proofs.Held.{told-loaded}
 use borrow.Author.Needs.{needs}
 use Rattle.boundary.proofs.vulprow_play.Statement.{statement}

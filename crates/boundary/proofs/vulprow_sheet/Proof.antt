@@ -3,10 +3,10 @@ use mathlib.Core.Path.{ap, _∙_}
 use lib.ListN.{length}
 use Rattle.board.specs.declared.Board.{Board}
 use Rattle.text.specs.declared.Written.{Written}
-use Rattle.loader.specs.declared.Loaded.{Loaded}
-use Rattle.calls.specs.Calls.{played}
-use Rattle.calls.specs.Codes.{callsOf}
-use Rattle.reporting.specs.Reports.{sheetCall, sheeted}
+use Rattle.load.specs.declared.Loaded.{Loaded}
+use Rattle.move_list.specs.Calls.{played}
+use Rattle.move_list.specs.Codes.{callsOf}
+use Rattle.report.specs.Reports.{sheetCall, sheeted}
 use Rattle.boundary.specs.Ends.{lastBoard}
 use borrow.Author.Needs.{needs}
 use Rattle.boundary.proofs.vulprow_sheet.Statement.{statement}

@@ -1,8 +1,8 @@
 -- `boundary::vulprow_solve` meets its contract: both answers are parts of what the finish of the loaded board gives.
 use mathlib.Core.Path.{ap, _∙_}
-use Rattle.loader.specs.declared.Loaded.{Loaded}
-use Rattle.finishing.specs.declared.Finished.{Finished}
-use Rattle.finishing.specs.Finishes.{finishCall}
+use Rattle.load.specs.declared.Loaded.{Loaded}
+use Rattle.solve_finish.specs.declared.Finished.{Finished}
+use Rattle.solve_finish.specs.Finishes.{finishCall}
 use borrow.Author.Needs.{needs}
 use Rattle.boundary.proofs.vulprow_solve.Statement.{statement}
 use Rattle.boundary.proofs.vulprow_solve.Tie as tie

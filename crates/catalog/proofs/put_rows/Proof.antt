@@ -6,7 +6,7 @@ use native.Mathlib.Omega.{arith}
 use lib.ListN.{length}
 use lib.Seq.{sets, length-sets}
 use Rattle.text.specs.Text.{linesText}
-use Rattle.printing.proofs.Writing.{Left, lines-turned, lines-done}
+use Rattle.text_writer.proofs.Writing.{Left, lines-turned, lines-done}
 use Rattle.catalog.specs.Catalog.{tableRow}
 use Rattle.catalog.proofs.Laws.{row-fits, row-part, row-length}
 use Rattle.catalog.proofs.put_rows.Statement.{statement}

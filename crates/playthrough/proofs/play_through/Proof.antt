@@ -1,8 +1,8 @@
 -- What the three calls ensure, each put into the next, and the theorem about every list of calls.
 use mathlib.Core.Path.{_∙_}
 use lib.Seq.{sets}
-use Rattle.calls.specs.Calls.{answers}
-use Rattle.calls.specs.Codes.{callsOf}
+use Rattle.move_list.specs.Calls.{answers}
+use Rattle.move_list.specs.Codes.{callsOf}
 use Rattle.playthrough.proofs.Held.{gathered, from-load, told-loaded, held}
 use borrow.Author.Needs.{needs}
 use Rattle.playthrough.proofs.play_through.Statement.{statement}

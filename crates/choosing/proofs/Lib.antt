@@ -1,2 +1,0 @@
-pub mod Intact
-pub mod Advised

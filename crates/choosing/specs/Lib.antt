@@ -1,2 +1,0 @@
-pub mod Choosing
-pub mod Parts

@@ -1,0 +1,4 @@
+pub mod Loops
+pub mod Bitsets
+pub mod Folds
+pub mod Rounds

@@ -1,0 +1,3 @@
+pub mod Cycles
+pub mod Lowering
+pub mod Cancelling

@@ -1,2 +1,0 @@
-pub mod Facts
-pub mod Parts

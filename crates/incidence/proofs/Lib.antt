@@ -1,3 +1,0 @@
-pub mod Passed
-pub mod Meeting
-pub mod Leaving

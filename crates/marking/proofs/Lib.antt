@@ -1,3 +1,0 @@
-pub mod Ways
-pub mod Gathering
-pub mod Following

@@ -1,0 +1,2 @@
+pub mod Same
+pub mod Makes

@@ -1,0 +1,260 @@
+// Which carries are open, and the call `carry`.
+use board::Board;
+use board::EdgeSet;
+use board::Entry;
+use board::Move;
+use board::Network;
+use board::Played;
+use board::Relocation;
+use move_guard::Change;
+ghost use mathlib.Core.Path.{_≡_};
+ghost use lib.Dec.{ltb};
+ghost use lib.ListN.{getD};
+ghost use Rattle.lists.specs.Lists.{lowest};
+ghost use Rattle.move_carry.specs.Opens.{flowFits, isOpenAt, hasOpenIn, someOpenIn};
+ghost use Rattle.move_guard.specs.Moved.{unchanged};
+ghost use Rattle.move_carry.specs.Carries.{carryRefusal, carryCall, carryRefusalIn, carriedIn, carryChange};
+
+// ---- Which carries are open.
+
+// Whether the flow of an edge allows a carry of that demand.
+pub fn flow_fits(mark: bool, flow: u32, demand: u32) -> bool
+    ensures { λ r. ⌜ r ≡ flowFits mark flow demand ⌝ }
+{
+    if mark { flow == demand } else { demand <= flow }
+}
+
+// Whether the carry over edge e is open for a terminal with that place and demand.
+fn is_open_at<'a>(
+    heads: &'a [u32],
+    flows: &'a [u32],
+    marks: EdgeSet,
+    place: u32,
+    demand: u32,
+    e: u32,
+) -> bool
+    ensures { λ r. ⌜ r ≡ isOpenAt (now (heads .entry)) (now (flows .entry)) marks place demand e ⌝ }
+{
+    let head = lists::word_at(heads, e as usize);
+    let flow = lists::word_at(flows, e as usize);
+    let mark = sets::has(marks, e as usize);
+    let fitting = flow_fits(mark, flow, demand);
+    lists::and(head == place, fitting)
+}
+
+// The lowest such edge, or the count of edges.
+fn lowest_open<'a>(
+    heads: &'a [u32],
+    flows: &'a [u32],
+    marks: EdgeSet,
+    place: u32,
+    demand: u32,
+    edges: u32,
+) -> u32
+    ensures { λ r. ⌜ r ≡ lowest (isOpenAt (now (heads .entry)) (now (flows .entry)) marks place demand) 0 edges ⌝ }
+{
+    let mut e: u32 = 0;
+    while e < edges {
+        if is_open_at(heads, flows, marks, place, demand, e) {
+            return e;
+        }
+        e += 1;
+    }
+    e
+}
+
+// Whether terminal i has an open carry.
+fn has_open<'a>(
+    heads: &'a [u32],
+    demands: &'a [u32],
+    edges: u32,
+    flows: &'a [u32],
+    marks: EdgeSet,
+    places: &'a [u32],
+    i: u32,
+) -> bool
+    ensures { λ r. ⌜ r ≡ ltb (lowest (isOpenAt (now (heads .entry)) (now (flows .entry)) marks (getD (now (places .entry)) i 0) (getD (now (demands .entry)) i 0)) 0 edges)
+        edges ⌝ }
+{
+    let place = lists::word_at(places, i as usize);
+    let demand = lists::word_at(demands, i as usize);
+    lowest_open(heads, flows, marks, place, demand, edges) < edges
+}
+
+// The lowest such terminal, or the count of terminals.
+fn lowest_terminal<'a>(net: Network, flows: &'a [u32], marks: EdgeSet, places: &'a [u32]) -> u32
+    ensures { λ r. ⌜ r ≡ lowest (hasOpenIn net (now (flows .entry)) marks (now (places .entry))) 0 (net .terminals) ⌝ }
+{
+    let terminals = net.terminals;
+    let mut i: u32 = 0;
+    while i < terminals {
+        if has_open(&net.heads, &net.demands, net.edges, flows, marks, places, i) {
+            return i;
+        }
+        i += 1;
+    }
+    i
+}
+
+// Whether some carry is open on a network with these flows, marks and places.
+pub fn some_open_in<'a>(net: Network, flows: &'a [u32], marks: EdgeSet, places: &'a [u32]) -> bool
+    ensures { λ r. ⌜ r ≡ someOpenIn net (now (flows .entry)) marks (now (places .entry)) ⌝ }
+{
+    lowest_terminal(net, flows, marks, places) < net.terminals
+}
+
+// ---- The call `carry`.
+
+// 20, 6, 21, 22 or 23, in this order; 0 where the carry is accepted.
+fn refusal(
+    in_play: bool,
+    net: Network,
+    flows: [u32; Board::MAX_EDGES],
+    marks: EdgeSet,
+    places: [u32; Board::MAX_TERMINALS],
+    i: u32,
+    e: u32,
+) -> u32
+    ensures { λ r. ⌜ r ≡ carryRefusalIn «in_play» net flows marks places i e ⌝ }
+{
+    if !in_play {
+        return 20;
+    }
+    let on_board = lists::and(i < net.terminals, e < net.edges);
+    if !on_board {
+        return 6;
+    }
+    let place = lists::word_at(&places, i as usize);
+    if place == net.source {
+        return 21;
+    }
+    let head = lists::word_at(&net.heads, e as usize);
+    if head != place {
+        return 22;
+    }
+    let mark = sets::has(marks, e as usize);
+    let flow = lists::word_at(&flows, e as usize);
+    let demand = lists::word_at(&net.demands, i as usize);
+    if !flow_fits(mark, flow, demand) {
+        return 23;
+    }
+    0
+}
+
+// What a refused carry changes: nothing.
+fn refused(
+    number: u32,
+    flows: [u32; Board::MAX_EDGES],
+    marks: EdgeSet,
+    places: [u32; Board::MAX_TERMINALS],
+) -> Change
+    ensures { λ r. ⌜ r ≡ unchanged number flows marks places ⌝ }
+{
+    let entry = Entry::blank();
+    Change {
+        answer: number,
+        flows: flows,
+        marks: marks,
+        places: places,
+        entry: entry,
+    }
+}
+
+// What an accepted carry changes.
+fn carried(
+    net: Network,
+    flows: [u32; Board::MAX_EDGES],
+    marks: EdgeSet,
+    places: [u32; Board::MAX_TERMINALS],
+    i: u32,
+    e: u32,
+) -> Change
+    ensures { λ r. ⌜ r ≡ carriedIn net flows marks places i e ⌝ }
+{
+    let flow = lists::word_at(&flows, e as usize);
+    let demand = lists::word_at(&net.demands, i as usize);
+    let tail = lists::word_at(&net.tails, e as usize);
+    let rest = lists::minus(flow, demand);
+    let new_flows = move_guard::put_flow(flows, e as usize, rest);
+    let new_places = move_guard::put_place(places, i as usize, tail);
+    let entry = Entry {
+        step: Move::Carry(Relocation {
+            terminal: i,
+            edge: e,
+        }),
+    };
+    Change {
+        answer: 0,
+        flows: new_flows,
+        marks: marks,
+        places: new_places,
+        entry: entry,
+    }
+}
+
+// What a carry of terminal i over edge e would change, on a board with these parts.
+pub fn change(
+    in_play: bool,
+    net: Network,
+    flows: [u32; Board::MAX_EDGES],
+    marks: EdgeSet,
+    places: [u32; Board::MAX_TERMINALS],
+    i: u32,
+    e: u32,
+) -> Change
+    ensures { λ r. ⌜ r ≡ carryChange «in_play» net flows marks places i e ⌝ }
+{
+    let number = refusal(in_play, net, flows, marks, places, i, e);
+    if number != 0 {
+        return refused(number, flows, marks, places);
+    }
+    carried(net, flows, marks, places, i, e)
+}
+
+// 20, 6, 21, 22 or 23, in this order; 0 where the carry is accepted.
+pub fn carry_refusal(board: Board, i: u32, e: u32) -> u32
+    ensures { λ r. ⌜ r ≡ carryRefusal board i e ⌝ }
+{
+    let net = board.network;
+    let flows = board.flows;
+    let places = board.places;
+    let in_play = move_guard::playing(board);
+    refusal(in_play, net, flows, board.marks, places, i, e)
+}
+
+// Relocates terminal i over edge e, to its tail.
+pub fn carry(board: Board, i: u32, e: u32) -> Played
+    ensures { λ r. ⌜ r ≡ carryCall board i e ⌝ }
+{
+    let mut next = board;
+    let net = next.network;
+    let acyclic = next.acyclic;
+    let flows = next.flows;
+    let places = next.places;
+    let k = lists::minus(next.moves, 1) as usize;
+    let mut last = Entry::blank();
+    if k < Board::JOURNAL {
+        last = next.journal[k];
+    }
+    let step = last.step;
+    let fits = move_guard::intact_in(net, acyclic, flows, places, next.moves, step);
+    let in_play = lists::and(next.stage == Board::PLAY, fits);
+    let c = change(in_play, net, flows, next.marks, places, i, e);
+    if c.answer == 0 {
+        let new_flows = c.flows;
+        let new_places = c.places;
+        let entry = c.entry;
+        let m = next.moves as usize;
+        next.flows = new_flows;
+        next.marks = c.marks;
+        next.places = new_places;
+        next.moves = next.moves + 1;
+        if m < Board::JOURNAL {
+            next.journal[m] = entry;
+        }
+    }
+    Played {
+        answer: c.answer,
+        board: next,
+    }
+}

@@ -1,0 +1,4 @@
+pub mod Bytes
+pub mod Cycled
+pub mod Raising
+pub mod Shifting

@@ -1,0 +1,80 @@
+-- Each case of the code is the case of `straightBy` that the laws state; the count of vertices left falls at the call.
+use mathlib.Core.Path.{_∙_}
+use native.Mathlib.Omega.{arith}
+use borrow.Author.Needs.{needs}
+use Rattle.move_edges.proofs.Ways.{by-none, by-end, by-parts, by-on}
+use Prim.Native.Nat.{ℕ, _<_}
+use borrow.Fn.Kinds.{In}
+use borrow.Fn.PlainCycle.{Measures, is, falls, and}
+use Rattle.move_edges.proofs.straight.Reads as straight
+use Rattle.move_edges.proofs.straight.Kinds as straight-kinds
+use Rattle.move_edges.proofs.+straight.Lts-straight as straight-lts
+use Rattle.move_edges.proofs.touching.Reads as touching-reads
+use Rattle.lists.proofs.word_at.Reads as word-at-reads
+use Rattle.sets.proofs.drop.Reads as drop-reads
+use Rattle.sets.proofs.lowest.Reads as lowest-reads
+use Rattle.move_edges.proofs.+straight.{statement}
+use Rattle.move_edges.proofs.+straight.Tie.{close}
+
+abbrev μ-straight : Measures 1 straight-kinds.ps ℕ
+μ-straight κs a = a .1 .1 .1 .0
+
+abbrev straight-at : ℕ → In 1 straight-kinds.ps
+straight-at t = and 1 straight-kinds.ps (is 1 straight-kinds.ps μ-straight t) straight.Pre
+
+abbrev straight-below : ℕ → In 1 straight-kinds.ps
+straight-below t =
+    and 1 straight-kinds.ps (falls 1 straight-kinds.ps _<_ μ-straight t) straight.Pre
+
+abbrev cs : ℕ → straight-lts.Claims
+cs t =
+    (touching-reads.Asked, touching-reads.Learnt, lowest-reads.Asked, lowest-reads.Learnt, drop-reads.Asked, drop-reads.Learnt, word-at-reads.Asked, word-at-reads.Learnt, straight-below t, straight.Post)
+
+straight-returns : (t : ℕ) → straight-lts.Need-returns (cs t) (straight-at t) straight.Post
+straight-returns t c = by-none _ _ _ _ _ (c .if1 .taken)
+
+straight-touching-requires : (t : ℕ) → straight-lts.Need-touching-requires (cs t) (straight-at t) straight.Post
+straight-touching-requires t c κs = search needs
+
+straight-returns-2 : (t : ℕ) → straight-lts.Need-returns-2 (cs t) (straight-at t) straight.Post
+straight-returns-2 t c = by-end _ _ _ _ _ (c .before .touching .ensures) _ (c .before .before .if1 .left) (c .if2 .taken)
+
+straight-lowest-requires : (t : ℕ) → straight-lts.Need-lowest-requires (cs t) (straight-at t) straight.Post
+straight-lowest-requires t c κs = search needs
+
+straight-drop-requires : (t : ℕ) → straight-lts.Need-drop-requires (cs t) (straight-at t) straight.Post
+straight-drop-requires t c κs = search needs
+
+straight-returns-3 : (t : ℕ) → straight-lts.Need-returns-3 (cs t) (straight-at t) straight.Post
+straight-returns-3 t c = by-parts _ _ _ _ _ (c .before .before .before .before .touching .ensures) _ _ (c .before .before .before .if2 .left) (c .before .before .lowest .ensures) (c .before .drop .ensures) _ (c .before .before .before .before .before .if1 .left) (c .if3 .taken)
+
+straight-cast-word-at : (t : ℕ) → straight-lts.Need-cast-word-at (cs t) (straight-at t) straight.Post
+straight-cast-word-at t c = search needs
+
+straight-word-at-requires : (t : ℕ) → straight-lts.Need-word-at-requires (cs t) (straight-at t) straight.Post
+straight-word-at-requires t c κs = search needs
+
+straight-sub-straight : (t : ℕ) → straight-lts.Need-sub-straight (cs t) (straight-at t) straight.Post
+straight-sub-straight t c = omega (arith, c .before .before .before .before .before .before .if1 .left)
+
+straight-straight-requires : (t : ℕ) → straight-lts.Need-straight-requires (cs t) (straight-at t) straight.Post
+straight-straight-requires t c κs = (omega (arith, c .before .before .before .before .before .before .if1 .left, c .before .before .before .before .before .before .before .before .before .pre .0), tt)
+
+straight-returns-4 : (t : ℕ) → straight-lts.Need-returns-4 (cs t) (straight-at t) straight.Post
+straight-returns-4 t c = c .straight .ensures ∙ rw (c .before .word-at .ensures) (by-on _ _ _ _ _ (c .before .before .before .before .before .before .touching .ensures) _ _ (c .before .before .before .before .before .if2 .left) (c .before .before .before .before .lowest .ensures) (c .before .before .before .drop .ensures) _ (c .before .before .before .before .before .before .before .if1 .left) (c .before .before .if3 .left))
+
+pub +straight-spec : {M : Type 1} → statement M
++straight-spec = close μ-straight λ t. straight-lts.spec (cs t)
+    (straight-at t)
+    straight.Post
+    (straight-returns t)
+    (straight-touching-requires t)
+    (straight-returns-2 t)
+    (straight-lowest-requires t)
+    (straight-drop-requires t)
+    (straight-returns-3 t)
+    (straight-cast-word-at t)
+    (straight-word-at-requires t)
+    (straight-sub-straight t)
+    (straight-straight-requires t)
+    (straight-returns-4 t)

@@ -1,0 +1,47 @@
+-- One vertex of the way on, case by case in the code's shape: none left to look at, no edge leaves it, two leave it, or one does.
+use mathlib.Core.Path.{_≡_, refl, ap, _∙_}
+use mathlib.Core.Bool.{true, false}
+use mathlib.Core.Logic.{_≢_}
+use mathlib.Core.List.{List}
+use Prim.Native.Nat.{ℕ, zero, suc, _-_}
+use native.Mathlib.Omega.{arith}
+use lib.Dec.{ltb}
+use lib.ListN.{getD}
+use borrow.Author.Tests.{lt-ltb, le-ltb}
+use Rattle.lists.specs.Lists.{lowest}
+use Rattle.sets.specs.Sets.{setWidth, hasBit, dropped}
+use Rattle.move_edges.specs.Incidence.{touchingAt}
+use Rattle.move_edges.specs.Marking.{straightBy}
+
+module _ (heads sets : List ℕ) (positive k v : ℕ) where
+  pub by-none : k ≡ 0 → true ≡ straightBy heads sets positive k v
+  unfolding straightBy
+  by-none z = rw z refl
+
+module _ (heads sets : List ℕ) (positive v out : ℕ) (at : out ≡ touchingAt sets positive v) where
+  pub by-end : (k : ℕ) → k ≢ 0 → out ≡ 0 → true ≡ straightBy heads sets positive k v
+  unfolding straightBy
+  by-end zero some z = absurd (some refl)
+  by-end (suc k) some z = let past : ltb 0 (touchingAt sets positive v) ≡ false = rw at at (le-ltb 0 out (omega (arith, z))) in rw (past, straightBy) refl
+
+  module _ (e rest : ℕ) (some : out ≢ 0) (first : e ≡ lowest (hasBit out) 0 setWidth) (left : rest ≡ dropped out e) where
+    one : ltb 0 (touchingAt sets positive v) ≡ true
+    one = rw at at (lt-ltb 0 out (omega (arith, some)))
+
+    more : ltb 0 (dropped (touchingAt sets positive v) (lowest (hasBit (touchingAt sets positive v)) 0 setWidth)) ≡ ltb 0 rest
+    more = rw (left, first, at) refl
+
+    pub by-parts : (k : ℕ) → k ≢ 0 → rest ≢ 0 → false ≡ straightBy heads sets positive k v
+    unfolding straightBy
+    by-parts zero n h = absurd (n refl)
+    by-parts (suc k) n h = let two = more ∙ lt-ltb 0 rest (omega (arith, h)) in rw (one, two, straightBy) refl
+
+    pub by-on : (k : ℕ) → k ≢ 0 → rest ≡ 0 → straightBy heads sets positive (k - 1) (getD heads e 0) ≡ straightBy heads sets positive k v
+    unfolding straightBy
+    by-on zero n h = absurd (n refl)
+    by-on (suc k) n h =
+        let two = more ∙ le-ltb 0 rest (omega (arith, h)) in
+        let less : suc k - 1 ≡ k = omega arith in
+        let same : e ≡ lowest (hasBit (touchingAt sets positive v)) 0 setWidth = rw at at first in
+        ap (λ (n : ℕ). straightBy heads sets positive n (getD heads e 0)) less
+        ∙ rw (one, two, straightBy) (ap (λ (u : ℕ). straightBy heads sets positive k (getD heads u 0)) same)

@@ -1,0 +1,55 @@
+-- The edges passed that are positive are in the set.
+use Prim.Native.Nat.{_-_}
+use native.Mathlib.Omega.{arith}
+use lib.Dec.{ltb}
+use lib.ListN.{getD}
+use borrow.Author.Needs.{needs}
+use Rattle.board.specs.Limits.{maxEdges}
+use Rattle.move_edges.proofs.Passed.{Passed, passed-none, passed-all, passed-turn}
+use Rattle.move_edges.proofs.positive.Statement.{statement}
+use Rattle.move_edges.proofs.positive.Tie as tie
+
+abbrev Inv-loop : tie.InvT-loop
+Inv-loop flows m₀ e₀ m e = Passed (λ k. ltb 0 (getD flows k 0)) e m
+
+abbrev μ-loop : tie.MeasureT-loop
+μ-loop flows m₀ e₀ m e = maxEdges - e
+
+loop-holds : tie.Need-loop-holds Inv-loop μ-loop
+loop-holds c = passed-none _
+
+mul-with : tie.Need-mul-with Inv-loop μ-loop
+mul-with c = search needs
+
+array-read-with : tie.Need-array-read-with Inv-loop μ-loop
+array-read-with c = search needs
+
+with-requires : tie.Need-with-requires Inv-loop μ-loop
+with-requires c κs = search needs
+
+add-e : tie.Need-add-e Inv-loop μ-loop
+add-e c = omega arith
+
+loop-less : tie.Need-loop-less Inv-loop μ-loop
+loop-less c = omega arith
+
+loop-again : tie.Need-loop-again Inv-loop μ-loop
+loop-again c = rw (c .with .ensures) (passed-turn _ _ _ (c .before .before .loop .inv))
+
+returns : tie.Need-returns Inv-loop μ-loop
+returns c = passed-all _ maxEdges _ _ (c .loop-test .left) (c .before .loop .inv)
+
+pub positive-spec : {M : Type 1} → statement M
+positive-spec =
+    tie.close
+    (tie.spec
+    Inv-loop
+    μ-loop
+    loop-holds
+    mul-with
+    array-read-with
+    with-requires
+    add-e
+    loop-less
+    loop-again
+    returns)

@@ -1,0 +1,3 @@
+pub mod Singular
+pub mod Incidence
+pub mod Marking

@@ -1,0 +1,123 @@
+// The edges at a vertex as sets, which edges are singular, and which ones a turn marks newly.
+use board::Board;
+use board::EdgeSet;
+ghost use mathlib.Core.Path.{_≡_};
+ghost use Prim.Native.Nat.{_<_};
+ghost use lib.ListN.{getD, set};
+ghost use Rattle.sets.specs.Sets.{setWidth, withBit, collect};
+ghost use Rattle.move_edges.specs.Incidence.{Incident, PositiveSet, touchingAt};
+ghost use Rattle.move_edges.specs.Marking.{straightBy, singularBy, isFreshBy};
+
+// ---- The edges at each vertex, and the positive edges, as sets.
+
+// Adds edge e to the set of vertex v, where there is such a vertex.
+fn join(edges: &mut [EdgeSet], v: u32, e: usize)
+    requires { ⌜ e < setWidth ⌝ }
+    ensures { λ r. ⌜ now (edges .exit) ≡ set (now (edges .entry)) v (withBit (getD (now (edges .entry)) v 0) e) ⌝ }
+{
+    let at = v as usize;
+    if at < edges.len() {
+        edges[at] = sets::with(edges[at], true, e);
+    }
+}
+
+// For each vertex the set of the edges that have this end there.
+pub fn at_vertices(ends: [u32; Board::MAX_EDGES]) -> [EdgeSet; Board::MAX_VERTICES as usize]
+    ensures { λ r. ⌜ Incident ends r ⌝ }
+{
+    let mut edges: [EdgeSet; Board::MAX_VERTICES as usize] = [0; Board::MAX_VERTICES as usize];
+    let mut e: usize = 0;
+    while e < Board::MAX_EDGES {
+        join(&mut edges, ends[e], e);
+        e += 1;
+    }
+    edges
+}
+
+// The set of the positive edges.
+pub fn positive(flows: [u32; Board::MAX_EDGES]) -> EdgeSet
+    ensures { λ r. ⌜ PositiveSet flows r ⌝ }
+{
+    let mut m: EdgeSet = 0;
+    let mut e: usize = 0;
+    while e < Board::MAX_EDGES {
+        m = sets::with(m, 0 < flows[e], e);
+        e += 1;
+    }
+    m
+}
+
+// The set of the positive edges that have this end at v, and the empty set where there is no such vertex.
+pub fn touching(edges: &[EdgeSet], positive: EdgeSet, v: u32) -> EdgeSet
+    ensures { λ r. ⌜ r ≡ touchingAt (now (edges .entry)) positive v ⌝ }
+{
+    let at = v as usize;
+    if at < edges.len() {
+        sets::common(edges[at], positive)
+    } else {
+        0
+    }
+}
+
+// ---- Singular edges, and the edges that a turn marks. The edges that leave each vertex and the positive edges are sets.
+
+// Whether v and each vertex after it has at most one positive edge leaving, for as many vertices as are left.
+fn straight<'a>(
+    heads: &'a [u32],
+    leaving: &'a [EdgeSet],
+    positive: EdgeSet,
+    left: u32,
+    v: u32,
+) -> bool
+    ensures { λ r. ⌜ r ≡ straightBy (now (heads .entry)) (now (leaving .entry)) positive left v ⌝ }
+{
+    if left == 0 {
+        return true;
+    }
+    let out = touching(leaving, positive, v);
+    if out == 0 {
+        return true;
+    }
+    let e = sets::lowest(out);
+    if sets::drop(out, e) != 0 {
+        return false;
+    }
+    let next = lists::word_at(heads, e as usize);
+    straight(heads, leaving, positive, left - 1, next)
+}
+
+// Whether the head of edge e, and every vertex reached from it, has at most one positive edge leaving.
+pub fn singular_by<'a>(
+    heads: &'a [u32],
+    leaving: &'a [EdgeSet],
+    positive: EdgeSet,
+    vertices: u32,
+    e: usize,
+) -> bool
+    ensures { λ r. ⌜ r ≡ singularBy (now (heads .entry)) (now (leaving .entry)) positive vertices e ⌝ }
+{
+    let head = lists::word_at(heads, e);
+    straight(heads, leaving, positive, vertices, head)
+}
+
+// The edges that are not marked, positive and singular: those that a turn marks newly.
+pub fn fresh_by<'a>(
+    heads: &'a [u32],
+    leaving: &'a [EdgeSet],
+    positive: EdgeSet,
+    vertices: u32,
+    marks: EdgeSet,
+) -> EdgeSet
+    ensures { λ r. ⌜ r ≡ collect (isFreshBy (now (heads .entry)) (now (leaving .entry)) positive vertices marks) 0 0 setWidth ⌝ }
+{
+    let marked = sets::common(positive, marks);
+    let mut rest = sets::without(positive, marked);
+    let mut m: EdgeSet = 0;
+    while rest != 0 {
+        let e = sets::lowest(rest);
+        let joins = singular_by(heads, leaving, positive, vertices, e as usize);
+        m = sets::with(m, joins, e as usize);
+        rest = sets::drop(rest, e);
+    }
+    m
+}

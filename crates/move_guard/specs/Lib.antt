@@ -1,0 +1,3 @@
+pub mod Moved
+pub mod Parts
+pub mod Guard

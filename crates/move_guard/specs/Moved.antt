@@ -1,0 +1,58 @@
+-- The journal of standing moves, and the board after one more of them and after one less.
+use mathlib.Core.List.{List}
+use Prim.Native.Nat.{ℕ, _+_, _-_}
+use lib.Dec.{eqb}
+use lib.ListN.{getD, set}
+use Rattle.lists.specs.Choice.{pick}
+use Rattle.board.specs.Record.{blank}
+use Rattle.board.specs.declared.Board.{Board}
+use Rattle.board.specs.declared.Entry.{Entry}
+use Rattle.board.specs.declared.Played.{Played}
+use Rattle.move_guard.specs.declared.Change.{Change}
+
+-- the last standing move
+abbrev pub lastEntry : Board → Entry
+lastEntry b = getD (b .journal) (b .moves - 1) blank
+
+-- new flows, marks and places; the move joins the journal
+abbrev pub moved : Board → List ℕ → ℕ → List ℕ → Entry → Board
+moved b flows marks places entry = record {
+  stage = b .stage;
+  network = b .network;
+  acyclic = b .acyclic;
+  flows = flows;
+  marks = marks;
+  places = places;
+  journal = set (b .journal) (b .moves) entry;
+  moves = b .moves + 1;
+  «finish_from» = b .«finish_from»;
+}
+
+-- the flows, marks and places of before; the last move's place in the journal is blank again
+abbrev pub movedBack : Board → List ℕ → ℕ → List ℕ → Board
+movedBack b flows marks places = record {
+  stage = b .stage;
+  network = b .network;
+  acyclic = b .acyclic;
+  flows = flows;
+  marks = marks;
+  places = places;
+  journal = set (b .journal) (b .moves - 1) blank;
+  moves = b .moves - 1;
+  «finish_from» = b .«finish_from»;
+}
+
+-- a call that is refused where its number is not 0: "any other refusal gives the number alone"
+unfoldable pub answered : ℕ → Board → Board → Played
+answered number b next = pick (eqb number 0) (record { answer = 0; board = next }) (record { answer = number; board = b })
+
+-- what a refused call would change: nothing
+abbrev pub unchanged : ℕ → List ℕ → ℕ → List ℕ → Change
+unchanged number flows marks places = record { answer = number; flows = flows; marks = marks; places = places; entry = blank }
+
+-- a call on a board by what it changes: one more move, or one less
+abbrev pub changed : Board → Change → Played
+changed b c = answered (c .answer) b (moved b (c .flows) (c .marks) (c .places) (c .entry))
+
+abbrev pub changedBack : Board → Change → Played
+changedBack b c = answered (c .answer) b (movedBack b (c .flows) (c .marks) (c .places))

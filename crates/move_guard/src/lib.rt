@@ -1,0 +1,220 @@
+// Which boards a call of play works on, and what a change stores.
+use board::Board;
+use board::EdgeSet;
+use board::Entry;
+use board::Move;
+use board::Network;
+ghost use mathlib.Core.Path.{_≡_};
+ghost use lib.ListN.{getD, set};
+ghost use Rattle.board.specs.Record.{blank};
+ghost use Rattle.move_guard.specs.Moved.{lastEntry};
+ghost use lib.Dec.{leb, ltb, eqb};
+ghost use Rattle.lists.specs.Choice.{pick};
+ghost use Rattle.lists.specs.Lists.{all};
+ghost use Rattle.board.specs.Limits.{maxEdges, maxTerminals, maxTotal};
+ghost use Rattle.move_guard.specs.Guard.{edgeNumbersIntact, edgeIntactIn, terminalNumbersIntact, terminalIntactIn, moveIntact, intactIn, intact, playing};
+
+// ---- What a call changes, and the journal of standing moves.
+
+// What a call would change: its number, and where that is 0 the new flows, marks and places, and the entry of its move. Small beside a board, so it is what
+// is handed on where many calls are made.
+pub struct Change {
+    pub answer: u32,
+    pub flows: [u32; Board::MAX_EDGES],
+    pub marks: EdgeSet,
+    pub places: [u32; Board::MAX_TERMINALS],
+    pub entry: Entry,
+}
+
+// The flows with another one at e.
+pub fn put_flow(flows: [u32; Board::MAX_EDGES], e: usize, flow: u32) -> [u32; Board::MAX_EDGES]
+    ensures { λ r. ⌜ r ≡ set flows e flow ⌝ }
+{
+    let mut next = flows;
+    if e < Board::MAX_EDGES {
+        next[e] = flow;
+    }
+    next
+}
+
+// The places with another one at i.
+pub fn put_place(
+    places: [u32; Board::MAX_TERMINALS],
+    i: usize,
+    place: u32,
+) -> [u32; Board::MAX_TERMINALS]
+    ensures { λ r. ⌜ r ≡ set places i place ⌝ }
+{
+    let mut next = places;
+    if i < Board::MAX_TERMINALS {
+        next[i] = place;
+    }
+    next
+}
+
+// The entry at i, or the blank.
+fn entry_at(journal: [Entry; Board::JOURNAL], i: usize) -> Entry
+    ensures { λ r. ⌜ r ≡ getD journal i blank ⌝ }
+{
+    if i < Board::JOURNAL {
+        return journal[i];
+    }
+    Entry::blank()
+}
+
+// The last standing move, or the blank.
+pub fn last_entry(board: Board) -> Entry
+    ensures { λ r. ⌜ r ≡ lastEntry board ⌝ }
+{
+    let i = lists::minus(board.moves, 1) as usize;
+    let journal = board.journal;
+    entry_at(journal, i)
+}
+
+// ---- Which boards the calls work on.
+
+// Whether an edge's flow is small, and 0 where its acyclic flow is.
+fn small_flow(acyclic: u32, flow: u32) -> bool
+    ensures { λ r. ⌜ r ≡ pick (eqb acyclic 0) (eqb flow 0) (leb flow maxTotal) ⌝ }
+{
+    if acyclic == 0 {
+        flow == 0
+    } else {
+        flow <= Board::MAX_TOTAL
+    }
+}
+
+// Whether the numbers of an edge are intact, or those of a place past the edges.
+fn edge_intact(
+    is_edge: bool,
+    tail: u32,
+    head: u32,
+    text: u32,
+    acyclic: u32,
+    flow: u32,
+    vertices: u32,
+) -> bool
+    ensures { λ r. ⌜ r ≡ edgeNumbersIntact «is_edge» tail head text acyclic flow vertices ⌝ }
+{
+    let fits = text_rules::edge_numbers_fit(is_edge, tail, head, text, vertices);
+    let small = small_flow(acyclic, flow);
+    lists::and(fits, lists::and(acyclic <= text, small))
+}
+
+// Whether every edge is intact.
+fn edges_intact(
+    net: Network,
+    acyclic: [u32; Board::MAX_EDGES],
+    flows: [u32; Board::MAX_EDGES],
+) -> bool
+    ensures { λ r. ⌜ r ≡ all (edgeIntactIn net acyclic flows) 0 maxEdges ⌝ }
+{
+    let mut i: usize = 0;
+    while i < Board::MAX_EDGES {
+        let is_edge = i < net.edges as usize;
+        if !edge_intact(
+            is_edge,
+            net.tails[i],
+            net.heads[i],
+            net.flows[i],
+            acyclic[i],
+            flows[i],
+            net.vertices,
+        ) {
+            return false;
+        }
+        i += 1;
+    }
+    true
+}
+
+// Whether a terminal is at a vertex, and a place past the terminals holds 0.
+fn placed(is_terminal: bool, place: u32, vertices: u32) -> bool
+    ensures { λ r. ⌜ r ≡ pick «is_terminal» (ltb place vertices) (eqb place 0) ⌝ }
+{
+    if is_terminal {
+        place < vertices
+    } else {
+        place == 0
+    }
+}
+
+// Whether the numbers of a terminal are intact, or those of a place past the terminals.
+fn terminal_intact(is_terminal: bool, home: u32, demand: u32, place: u32, vertices: u32) -> bool
+    ensures { λ r. ⌜ r ≡ terminalNumbersIntact «is_terminal» home demand place vertices ⌝ }
+{
+    let fits = text_rules::terminal_numbers_fit(is_terminal, home, demand, vertices);
+    let there = placed(is_terminal, place, vertices);
+    lists::and(fits, there)
+}
+
+// Whether every terminal is intact.
+fn terminals_intact(net: Network, places: [u32; Board::MAX_TERMINALS]) -> bool
+    ensures { λ r. ⌜ r ≡ all (terminalIntactIn net places) 0 maxTerminals ⌝ }
+{
+    let mut j: usize = 0;
+    while j < Board::MAX_TERMINALS {
+        let is_terminal = j < net.terminals as usize;
+        if !terminal_intact(
+            is_terminal,
+            net.homes[j],
+            net.demands[j],
+            places[j],
+            net.vertices,
+        ) {
+            return false;
+        }
+        j += 1;
+    }
+    true
+}
+
+// Whether a move's amount is one that can be taken back.
+fn move_intact(step: Move) -> bool
+    ensures { λ r. ⌜ r ≡ moveIntact step ⌝ }
+{
+    match step {
+        Move::Carry(_) => true,
+        Move::Turn(turn) => turn.amount <= Board::MAX_TOTAL,
+    }
+}
+
+// Whether no number of the parts of a board can lead a call astray; `last` is its last standing move.
+pub fn intact_in(
+    net: Network,
+    acyclic: [u32; Board::MAX_EDGES],
+    flows: [u32; Board::MAX_EDGES],
+    places: [u32; Board::MAX_TERMINALS],
+    moves: u32,
+    last: Move,
+) -> bool
+    ensures { λ r. ⌜ r ≡ intactIn net acyclic flows places moves last ⌝ }
+{
+    let counts = text_judge::counts_fit(net);
+    let edges = edges_intact(net, acyclic, flows);
+    let terminals = terminals_intact(net, places);
+    let small = move_intact(last);
+    let room = lists::and(moves <= Board::JOURNAL as u32, small);
+    lists::and(counts, lists::and(edges, lists::and(terminals, room)))
+}
+
+// The same of a board.
+pub fn intact(board: Board) -> bool
+    ensures { λ r. ⌜ r ≡ intact board ⌝ }
+{
+    let net = board.network;
+    let acyclic = board.acyclic;
+    let flows = board.flows;
+    let places = board.places;
+    let last = last_entry(board);
+    let step = last.step;
+    intact_in(net, acyclic, flows, places, board.moves, step)
+}
+
+// Whether the board is in play.
+pub fn playing(board: Board) -> bool
+    ensures { λ r. ⌜ r ≡ playing board ⌝ }
+{
+    let fits = intact(board);
+    lists::and(board.stage == Board::PLAY, fits)
+}

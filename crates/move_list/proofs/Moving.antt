@@ -1,0 +1,166 @@
+-- A carry or an undo in a list of calls: judged by the parts of the board, and stored into it. What is stored is the board that the call gives:
+-- a carry writes the place behind the last move and an undo the place of the last move, and a place past the end of the journal is written by neither.
+use mathlib.Core.Path.{_≡_, refl, sym, ap, _∙_}
+use mathlib.Core.Bool.{Bool, true, false, true≢false}
+use mathlib.Core.List.{List}
+use mathlib.Core.Logic.{_≢_}
+use Prim.Native.Nat.{ℕ, _+_, _-_, _≤_}
+use native.Mathlib.Omega.{arith}
+use lib.Dec.{eqb}
+use lib.ListN.{length, getD, set, length-set}
+use lib.Seq.{set-out, sets, length-sets}
+use borrow.Author.Tests.{eqb-true, ne-eqb}
+use Rattle.lists.specs.Choice.{pick, either}
+use Rattle.lists.proofs.Laws.{Known, was-true, was-false, known, pick-yes, pick-no}
+use Rattle.board.specs.Limits.{maxEdges, maxTerminals, maxMoves}
+use Rattle.board.specs.declared.Board.{Board}
+use Rattle.board.specs.declared.Entry.{Entry}
+use Rattle.move_guard.specs.declared.Change.{Change}
+use Rattle.move_guard.specs.Moved.{lastEntry}
+use Rattle.move_guard.specs.Guard.{playing}
+use Rattle.move_carry.specs.Carries.{carryChange}
+use Rattle.move_guard.proofs.Stores.{stored, numbered, change-stored, change-refused, back-stored, back-refused}
+use Rattle.move_carry.proofs.Makes.{carry-by-change, carry-room}
+use Rattle.move_undo.specs.Undone.{undoChange}
+use Rattle.move_undo.proofs.Makes.{undo-by-change, undo-room, undo-blanks}
+use Rattle.move_list.specs.declared.Reply.{Reply}
+use Rattle.move_list.specs.Calls.{carry, undo, made, played, answers, isHint, plain, Replied, adviceCode, behind}
+use Rattle.move_list.specs.Codes.{callOf, callsOf}
+use Rattle.move_list.proofs.Coded.{Onward, calls, plain-replied, played-turn, answers-turn, told-turn}
+
+-- the arrays of a board have their lengths
+pub record Sized (b : Board) : Type 0 where
+  pub flows : length (b .flows) ≡ maxEdges
+  pub demands : length (b .network .demands) ≡ maxTerminals
+  pub journal : length (b .journal) ≡ maxMoves
+
+-- the call by its kind
+module _ (steps : List ℕ) (kind a c : ℕ) where
+  call-carry : eqb kind 0 ≡ true → callOf steps kind a c ≡ carry a c
+  unfolding callOf
+  call-carry t = pick-yes _ _ _ t
+
+  call-undo : eqb kind 0 ≡ false → eqb kind 2 ≡ true → callOf steps kind a c ≡ undo
+  unfolding callOf
+  call-undo n t =
+      let two : kind ≡ 2 = eqb-true kind 2 t in
+      let not-one : eqb kind 1 ≡ false = ne-eqb kind 1 (λ e. omega arith) in
+      pick-no _ _ _ n ∙ pick-no _ _ _ not-one ∙ pick-yes _ _ _ t
+
+either-second : (p q : Bool) → either p q ≡ true → p ≡ false → q ≡ true
+unfolding either
+either-second true q h n = absurd (true≢false n)
+either-second false q h n = h
+
+module _ (steps : List ℕ) (b : Board) (kind a c : ℕ) (last : Entry) (plays : Bool) (change : Change) (ep : plays ≡ playing b) (el : last ≡ lastEntry b)
+    (moving : either (eqb kind 0) (eqb kind 2) ≡ true)
+    (ec : change
+    ≡ pick (eqb kind 0) (carryChange plays (b .network) (b .flows) (b .marks) (b .places) a c)
+    (undoChange plays (b .network) (b .flows) (b .marks) (b .places) (b .moves) (last .step))) where
+  -- which of the two calls it is
+  data Which : Type 0 where
+    as-carry : eqb kind 2 ≡ false → callOf steps kind a c ≡ carry a c → change ≡ carryChange plays (b .network) (b .flows) (b .marks) (b .places) a c → Which
+    as-undo : eqb kind 2 ≡ true → callOf steps kind a c ≡ undo
+        → change ≡ undoChange plays (b .network) (b .flows) (b .marks) (b .places) (b .moves) (last .step) → Which
+
+  which : Which
+  which = go (known (eqb kind 0))
+    where
+      go : Known (eqb kind 0) → Which
+      go (was-true t) =
+          let zero : kind ≡ 0 = eqb-true kind 0 t in
+          as-carry (ne-eqb kind 2 (λ e. omega arith)) (call-carry steps kind a c t) (ec ∙ pick-yes _ _ _ t)
+      go (was-false n) =
+          let t : eqb kind 2 ≡ true = either-second _ _ moving n in
+          as-undo t (call-undo steps kind a c n t) (ec ∙ pick-no _ _ _ n)
+
+  no-hint : isHint (callOf steps kind a c) ≡ false
+  no-hint = go which
+    where
+      go : Which → isHint (callOf steps kind a c) ≡ false
+      go (as-carry n call e) = rw call refl
+      go (as-undo t call e) = rw call refl
+
+  module _ (h : change .answer ≡ 0) (at : ℕ) (e-at : at ≡ pick (eqb kind 2) (b .moves - 1) (b .moves)) where
+    pub move-room : at ≤ maxMoves
+    move-room = go which
+      where
+        go : Which → at ≤ maxMoves
+        go (as-carry n call e) =
+            let here : at ≡ b .moves = e-at ∙ pick-no _ _ _ n in
+            omega (arith, carry-room b a c plays change ep e h)
+        go (as-undo t call e) =
+            let here : at ≡ b .moves - 1 = e-at ∙ pick-yes _ _ _ t in
+            omega (arith, undo-room b plays last ep el change e h)
+
+    module _ (next : ℕ) (e-next : next ≡ pick (eqb kind 2) at (at + 1)) where
+      makes : numbered change (stored b change (set (b .journal) at (change .entry)) next) ≡ made b (callOf steps kind a c)
+      makes = go which
+        where
+          go : Which → numbered change (stored b change (set (b .journal) at (change .entry)) next) ≡ made b (callOf steps kind a c)
+          go (as-carry n call e) =
+              let here : at ≡ b .moves = e-at ∙ pick-no _ _ _ n in
+              let there : next ≡ at + 1 = e-next ∙ pick-no _ _ _ n in
+              rw (call, there, here) (change-stored b change h ∙ carry-by-change b a c plays change ep e)
+          go (as-undo t call e) =
+              let here : at ≡ b .moves - 1 = e-at ∙ pick-yes _ _ _ t in
+              let there : next ≡ at = e-next ∙ pick-yes _ _ _ t in
+              rw (call, there) (back-stored b change at (change .entry) here (undo-blanks b plays last ep el change e) h ∙ undo-by-change b plays last ep el change e)
+
+      module _ (s : Sized b) (many : length (change .flows) ≡ maxEdges) (b' : Board) where
+        pub move-stored : b' ≡ stored b change (set (b .journal) at (change .entry)) next → (numbered change b' ≡ made b (callOf steps kind a c)) × Sized b'
+        move-stored e = (
+          ap (numbered change) e ∙ makes,
+          rw e (record { flows = many; demands = s .demands; journal = length-set (b .journal) at (change .entry) ∙ s .journal }),
+        )
+
+        pub move-past : maxMoves ≤ at → b' ≡ stored b change (b .journal) next → (numbered change b' ≡ made b (callOf steps kind a c)) × Sized b'
+        move-past past e = move-stored (e ∙ ap (λ (journal : List Entry). stored b change journal next) (sym (set-out (b .journal) at (change .entry) (omega (arith, s .journal)))))
+
+  pub move-refused : change .answer ≢ 0 → Sized b → (b' : Board) → b' ≡ b → (numbered change b' ≡ made b (callOf steps kind a c)) × Sized b'
+  move-refused h s b' e = rw e (go which, s)
+    where
+      go : Which → numbered change b ≡ made b (callOf steps kind a c)
+      go (as-carry n call ed) = rw call (change-refused b change h ∙ carry-by-change b a c plays change ep ed)
+      go (as-undo t call ed) = rw call (back-refused b change h ∙ undo-by-change b plays last ep el change ed)
+
+  -- so the call replies with it
+  pub move-replied : (b' : Board) → numbered change b' ≡ made b (callOf steps kind a c) → Replied b (callOf steps kind a c) (plain (numbered change b'))
+  move-replied b' e = plain-replied b (callOf steps kind a c) (numbered change b') _ no-hint refl e
+
+-- where the loop is: so much is left, and what is left of the calls completes what all of them give
+module _ (steps codes buf₀ hints₀ : List ℕ) (b₀ : Board) where
+  abbrev pub Going : List ℕ → List ℕ → Board → ℕ → ℕ → ℕ → Type 0
+  Going buf hints b left k j =
+      (k + left ≤ length codes)
+      × (length buf ≡ length buf₀)
+      × (length hints ≡ length hints₀)
+      × (played b (calls steps codes left) ≡ played b₀ (callsOf steps codes))
+      × (sets buf k (answers b (calls steps codes left)) ≡ sets buf₀ 0 (answers b₀ (callsOf steps codes)))
+      × Onward hints₀ b₀ (callsOf steps codes) hints j b (calls steps codes left)
+      × Sized b
+
+  module _ (buf hints : List ℕ) (b : Board) (left k j : ℕ) (some : 3 ≤ left) (going : Going buf hints b left k j) (given : Reply)
+      (makes : Replied b (callOf steps (getD codes (length codes - left) 0) (getD codes (length codes - left + 1) 0) (getD codes (length codes - left + 2) 0)) given) where
+    inside : left ≤ length codes
+    inside = omega (arith, going .0)
+
+    noted-length : (hints' : List ℕ) → hints' ≡ pick (given .hinted) (sets hints j (adviceCode (given .advice))) hints → length hints' ≡ length hints
+    noted-length hints' e = go (known (given .hinted))
+      where
+        go : Known (given .hinted) → length hints' ≡ length hints
+        go (was-true t) = ap length (e ∙ pick-yes _ _ _ t) ∙ length-sets hints j (adviceCode (given .advice))
+        go (was-false t) = ap length (e ∙ pick-no _ _ _ t)
+
+    pub going-turn : (buf' hints' : List ℕ) (b' : Board) (j' : ℕ) → buf' ≡ set buf k (given .answer)
+        → hints' ≡ pick (given .hinted) (sets hints j (adviceCode (given .advice))) hints → b' ≡ given .board → j' ≡ pick (given .hinted) (behind hints j) j → Sized b'
+        → Going buf' hints' b' (left - 3) (k + 1) j'
+    going-turn buf' hints' b' j' e-buf e-hints e-b e-j s = (
+      omega (arith, going .0),
+      ap length e-buf ∙ length-set buf k (given .answer) ∙ going .1,
+      noted-length hints' e-hints ∙ going .2,
+      rw e-b (played-turn steps codes left b given some inside makes ∙ going .3),
+      rw e-b (answers-turn steps codes left b given some inside makes buf buf' k e-buf ∙ going .4),
+      rw e-b (λ out t. going .5 out (told-turn steps codes left b given some inside makes hints hints' out j j' e-hints e-j t)),
+      s,
+    )

@@ -1,0 +1,96 @@
+-- A list of calls on a board: what they answer, and the board after them.
+use mathlib.Core.Path.{_≡_}
+use mathlib.Core.Bool.{Bool, true, false}
+use mathlib.Core.List.{List, [], _∷_}
+use Prim.Native.Nat.{ℕ, _+_}
+use lib.Dec.{ltb}
+use lib.ListN.{length}
+use Rattle.lists.specs.Choice.{pick}
+use lib.Seq.{sets}
+use Rattle.board.specs.Limits.{maxEdges}
+use Rattle.board.specs.declared.Board.{Board}
+use Rattle.board.specs.declared.Played.{Played}
+use Rattle.move_carry.specs.Carries.{carryCall}
+use Rattle.move_turn.specs.Turns.{turnCall}
+use Rattle.move_undo.specs.Undone.{undoCall}
+use Rattle.solve_next.specs.declared.Advice.{Advice}
+use Rattle.solve_next.specs.Choosing.{noAdvice}
+use Rattle.solve_next.specs.declared.Suggestion.{Suggestion}
+use Rattle.solve_next.specs.Hints.{hintRefusal, Hinted}
+use Rattle.move_list.specs.declared.Reply.{Reply}
+
+-- a call with its arguments: a carry of a terminal over an edge, a turn along steps as bytes, an undo, or a hint
+pub data Call : Type 0 where
+  carry : ℕ → ℕ → Call
+  turn : List ℕ → Call
+  undo : Call
+  hint : Call
+
+-- what one call gives; of a hint, its number
+abbrev pub made : Board → Call → Played
+made b (carry i e) = carryCall b i e
+made b (turn s) = turnCall b s
+made b undo = undoCall b
+made b hint = record { answer = hintRefusal b; board = b }
+
+-- "Each call gets the board as the call before it gave or left it"
+unfoldable pub played : Board → List Call → Board
+played b [] = b
+played b (c ∷ cs) = played (made b c .board) cs
+
+unfoldable pub answers : Board → List Call → List ℕ
+answers b [] = []
+answers b (c ∷ cs) = made b c .answer ∷ answers (made b c .board) cs
+
+-- the hints that the calls gave, in order: each kept the hint's rule on the board of that point
+abbrev pub HintsKept : Board → List Call → List Suggestion → Type 0
+HintsKept b [] hs = hs ≡ []
+HintsKept b (hint ∷ cs) [] = ⊥
+HintsKept b (hint ∷ cs) (h ∷ hs) = Hinted b h × HintsKept b cs hs
+HintsKept b (carry i e ∷ cs) hs = HintsKept (made b (carry i e) .board) cs hs
+HintsKept b (turn s ∷ cs) hs = HintsKept (made b (turn s) .board) cs hs
+HintsKept b (undo ∷ cs) hs = HintsKept (made b undo .board) cs hs
+
+-- whether a call is a hint
+abbrev pub isHint : Call → Bool
+isHint (carry i e) = false
+isHint (turn s) = false
+isHint undo = false
+isHint hint = true
+
+-- what a call that is no hint gives
+abbrev pub plain : Played → Reply
+plain p = record { answer = p .answer; board = p .board; hinted = false; advice = noAdvice }
+
+-- what the engine replies to a call: the number and the board of `made`, and to a hint a move that keeps the hint's rule
+pub record Replied (b : Board) (c : Call) (r : Reply) : Type 0 where
+  pub answer : r .answer ≡ made b c .answer
+  pub board : r .board ≡ made b c .board
+  pub hinted : r .hinted ≡ isHint c
+  pub hint : isHint c ≡ true → Hinted b (record { answer = r .answer; advice = r .advice })
+
+-- a hint's move in numbers: its kind, terminal, edge, count of steps, and the steps
+abbrev pub adviceCode : Advice → List ℕ
+adviceCode a = a .kind ∷ a .terminal ∷ a .edge ∷ a .count ∷ a .steps
+
+abbrev pub adviceWidth : ℕ
+adviceWidth = 4 + maxEdges
+
+-- no slice is longer than this
+abbrev pub lastPlace : ℕ
+lastPlace = 9223372036854775807
+
+-- the place of the next hint; none is past the end
+unfoldable pub behind : List ℕ → ℕ → ℕ
+behind buf k = pick (ltb k (length buf)) (k + adviceWidth) k
+
+-- the buffer with the moves of the hints from place k on, as far as it reaches
+unfoldable pub noted : List ℕ → ℕ → List Suggestion → List ℕ
+noted buf k [] = buf
+noted buf k (h ∷ hs) = noted (sets buf k (adviceCode (h .advice))) (behind buf k) hs
+
+-- the calls gave hints that kept their rule, and their moves were written into the buffer from place k on, which then is `out`
+pub record Told (buf : List ℕ) (k : ℕ) (b : Board) (cs : List Call) (out : List ℕ) : Type 0 where
+  pub hints : List Suggestion
+  pub kept : HintsKept b cs hints
+  pub written : out ≡ noted buf k hints

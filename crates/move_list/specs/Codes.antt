@@ -1,0 +1,36 @@
+-- Lists of calls in numbers, and answers and journals written into buffers of numbers: how other programs drive the engine.
+use mathlib.Core.List.{List, [], _∷_}
+use Prim.Native.Nat.{ℕ, suc, _-_}
+use lib.Dec.{leb, eqb}
+use lib.ListN.{length, take, drop}
+use Rattle.lists.specs.Choice.{pick, both}
+use lib.Seq.{sets}
+use Rattle.board.specs.declared.Entry.{Entry}
+use Rattle.board.specs.declared.Move.{Move}
+use Rattle.board.specs.declared.Move.the-variants.{Carry, Turn}
+use Rattle.move_list.specs.Calls.{Call, carry, turn, undo, hint}
+
+-- the steps from a up to c; none where there are no such
+unfoldable pub part : List ℕ → ℕ → ℕ → List ℕ
+part steps a c = pick (both (leb a c) (leb c (length steps))) (take (c - a) (drop a steps)) []
+
+-- 0: a carry of terminal a over edge c; 1: a turn along the steps from a up to c; 2: an undo; anything else: a hint
+unfoldable pub callOf : List ℕ → ℕ → ℕ → ℕ → Call
+callOf steps kind a c = pick (eqb kind 0) (carry a c) (pick (eqb kind 1) (turn (part steps a c)) (pick (eqb kind 2) undo hint))
+
+-- three numbers a call; one or two left over are no call
+unfoldable pub callsOf : List ℕ → List ℕ → List Call
+callsOf steps [] = []
+callsOf steps (k ∷ []) = []
+callsOf steps (k ∷ a ∷ []) = []
+callsOf steps (k ∷ a ∷ c ∷ codes) = callOf steps k a c ∷ callsOf steps codes
+
+-- a move in five numbers: 0, the terminal, the edge, 0, 0; or 1, the amount, and the sets of edges that fell, rose and were marked
+abbrev pub moveCode : Move → List ℕ
+moveCode (Carry r) = 0 ∷ r .terminal ∷ r .edge ∷ 0 ∷ 0 ∷ []
+moveCode (Turn a) = 1 ∷ a .amount ∷ a .down ∷ a .up ∷ a .marked ∷ []
+
+-- the buffer with these entries from place k on
+unfoldable pub journalCoded : List ℕ → ℕ → List Entry → List ℕ
+journalCoded buf k [] = buf
+journalCoded buf k (m ∷ ms) = journalCoded (sets buf k (moveCode (m .step))) (suc (suc (suc (suc (suc k))))) ms

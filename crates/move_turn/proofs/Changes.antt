@@ -1,0 +1,178 @@
+-- What the call `turn` changes, by the parts of a board: the tests and the changes read nothing else of the board, so on its own parts they are the call's.
+-- And what a board in play has that a turn needs: its guard has tested it.
+use mathlib.Core.Path.{_≡_, refl, sym, ap, ap₂, _∙_}
+use mathlib.Core.Bool.{Bool, true, false}
+use mathlib.Core.Logic.{_⊎_, inl, inr, _≢_}
+use mathlib.Core.List.{List}
+use Prim.Native.Nat.{ℕ, _+_, _-_, _≤_, _<_}
+use native.Mathlib.Omega.{arith}
+use lib.Dec.{leb, eqb}
+use lib.ListN.{length, getD, set}
+use borrow.Author.Tests.{eq-eqb, ne-eqb, lt-leb}
+use Rattle.lists.specs.Choice.{both}
+use Rattle.lists.proofs.Laws.{lt-or-ge, eq-or-ne, pick-yes, pick-no, pick-passed}
+use Rattle.board.specs.Limits.{maxEdges, maxMoves}
+use Rattle.board.specs.Record.{blank, playStage}
+use Rattle.board.specs.declared.Board.{Board}
+use Rattle.board.specs.declared.Network.{Network}
+use Rattle.board.specs.declared.Entry.{Entry}
+use Rattle.board.specs.declared.Move.{Move}
+use Rattle.graph_flows.specs.Trails.{Step}
+use Rattle.move_edges.specs.Incidence.{Incident, PositiveSet}
+use Rattle.move_guard.specs.Guard.{intactIn, intact, playing}
+use Rattle.move_guard.proofs.Facts.{playing-edges, playing-head, playing-flow, playing-demand}
+use Rattle.move_guard.specs.declared.Change.{Change}
+use Rattle.move_guard.specs.Moved.{lastEntry, moved, answered, unchanged, changed}
+use Rattle.move_guard.proofs.Answers.{answered-yes, answered-no}
+use Rattle.move_guard.proofs.Stores.{withParts, numbered}
+use Rattle.move_guard.proofs.Stores as stores
+use Rattle.move_carry.specs.Opens.{someOpen, someOpenIn}
+use Rattle.move_carry.proofs.Same.{some-same}
+use Rattle.move_cycle.specs.Steps.{stepsOf, InSets, every}
+use Rattle.move_edges.specs.Marking.{singular, isFresh, fresh, ChartedOut}
+use Rattle.move_cycle.specs.Amounts.{amountFrom, amount}
+use Rattle.move_turn.proofs.Passing.{in-sets}
+use Rattle.move_turn.specs.declared.StepRule.the-variants.{OnBoard}
+use Rattle.move_turn.specs.Turns.{meetsOn, stepsRefusal, turnRefusalIn, turnRefusal, turned, turnedIn, turnChange, turnCall, Sound}
+
+-- a board in play is sound
+pub playing-sound : (b : Board) → playing b ≡ true → Sound (b .network) (b .flows)
+playing-sound b play = record {
+  room = playing-edges b play;
+  headed = playing-head b play;
+  small = playing-flow b play;
+  asked = λ long j. let d = playing-demand b play long j in omega (arith, d);
+}
+
+-- the sets of a sound network chart it
+pub charted-out : (net : Network) (flows leaving : List ℕ) (positive : ℕ) → Sound net flows → length (net .heads) ≡ maxEdges → length flows ≡ maxEdges
+    → Incident (net .tails) leaving → PositiveSet flows positive → ChartedOut (net .tails) (net .heads) flows leaving positive
+charted-out net flows leaving positive sound wide long at is-positive = record { leave = at; is-positive = is-positive; all = long; headed = sound .headed wide }
+
+module _ (b : Board) (w : List Step) where
+  pub refusal-same : turnRefusalIn (playing b) (someOpen b) (b .network) (b .flows) w ≡ turnRefusal b w
+  unfolding turnRefusalIn stepsRefusal turnRefusal singular
+  refusal-same = refl
+
+  pub turned-same : (let t = turnedIn (b .network) (b .flows) (b .marks) (b .places) w in moved b (t .flows) (t .marks) (t .places) (t .entry)) ≡ turned b w
+  unfolding turnedIn turned amount amountFrom fresh isFresh
+  turned-same = refl
+
+-- by the number of the refusal
+module _ (play anyOpen : Bool) (net : Network) (flows : List ℕ) (marks : ℕ) (places : List ℕ) (w : List Step) where
+  pub change-accepted : turnRefusalIn play anyOpen net flows w ≡ 0 → turnChange play anyOpen net flows marks places w ≡ turnedIn net flows marks places w
+  unfolding turnChange
+  change-accepted h = pick-yes _ _ _ (eq-eqb _ 0 h)
+
+  pub change-refused : turnRefusalIn play anyOpen net flows w ≢ 0
+      → turnChange play anyOpen net flows marks places w ≡ unchanged (turnRefusalIn play anyOpen net flows w) flows marks places
+  unfolding turnChange
+  change-refused h = pick-no _ _ _ (ne-eqb _ 0 h)
+
+  pub change-made : (number : ℕ) (entry : Entry) → number ≡ turnRefusalIn play anyOpen net flows w → number ≢ 0 → entry ≡ blank
+      → record { answer = number; flows = flows; marks = marks; places = places; entry = entry } ≡ turnChange play anyOpen net flows marks places w
+  change-made number entry e n b = rw (b, e) (sym (change-refused (λ z. n (e ∙ z))))
+
+  -- the number, and the places, which no turn changes
+  pub change-answer : turnChange play anyOpen net flows marks places w .answer ≡ turnRefusalIn play anyOpen net flows w
+  unfolding turnedIn
+  change-answer = go (eq-or-ne (turnRefusalIn play anyOpen net flows w) 0)
+    where
+      go : (turnRefusalIn play anyOpen net flows w ≡ 0) ⊎ (turnRefusalIn play anyOpen net flows w ≢ 0)
+          → turnChange play anyOpen net flows marks places w .answer ≡ turnRefusalIn play anyOpen net flows w
+      go (inl z) = ap (λ (c : Change). c .answer) (change-accepted z) ∙ sym z
+      go (inr n) = ap (λ (c : Change). c .answer) (change-refused n)
+
+  pub change-places : turnChange play anyOpen net flows marks places w .places ≡ places
+  unfolding turnedIn
+  change-places = go (eq-or-ne (turnRefusalIn play anyOpen net flows w) 0)
+    where
+      go : (turnRefusalIn play anyOpen net flows w ≡ 0) ⊎ (turnRefusalIn play anyOpen net flows w ≢ 0) → turnChange play anyOpen net flows marks places w .places ≡ places
+      go (inl z) = ap (λ (c : Change). c .places) (change-accepted z)
+      go (inr n) = ap (λ (c : Change). c .places) (change-refused n)
+
+-- an accepted turn has passed the first two tests, so the board is in play and the sets have room for the steps
+module _ (play anyOpen : Bool) (net : Network) (flows : List ℕ) where
+  pub accepted-plays : (w : List Step) → turnRefusalIn play anyOpen net flows w ≡ 0 → play ≡ true
+  unfolding turnRefusalIn
+  accepted-plays w h = pick-passed play _ 19 h .0
+
+  pub accepted-sets : (s : List ℕ) → turnRefusalIn play anyOpen net flows (stepsOf s) ≡ 0 → (play ≡ true → Sound net flows) → Sound net flows × InSets s
+  unfolding turnRefusalIn stepsRefusal
+  accepted-sets s h sound =
+      let now = sound (accepted-plays (stepsOf s) h) in
+      let on = pick-passed (every (meetsOn OnBoard (net .edges) (net .tails) (net .heads) flows (net .vertices)) (stepsOf s)) _ 5 (pick-passed play _ 19 h .1) .0 in
+      (now, in-sets (net .edges) (net .tails) (net .heads) flows (net .vertices) (now .room) s on)
+
+-- what the call changes on a board
+abbrev pub turnMade : Board → List ℕ → Change
+turnMade b s = turnChange (playing b) (someOpen b) (b .network) (b .flows) (b .marks) (b .places) (stepsOf s)
+
+pub turn-changes : (b : Board) (s : List ℕ) → turnCall b s ≡ changed b (turnMade b s)
+unfolding turnCall
+turn-changes b s = go (eq-or-ne number 0)
+  where
+    w : List Step
+    w = stepsOf s
+
+    number : ℕ
+    number = turnRefusalIn (playing b) (someOpen b) (b .network) (b .flows) w
+
+    go : (number ≡ 0) ⊎ (number ≢ 0) → answered (turnRefusal b w) b (turned b w) ≡ changed b (turnMade b s)
+    go (inl z) =
+        answered-yes _ b (turned b w) (sym (refusal-same b w) ∙ z)
+        ∙ ap (λ (n : Board). record { answer = 0; board = n }) (sym (turned-same b w))
+        ∙ sym (ap (changed b) (change-accepted _ _ _ _ _ _ w z) ∙ answered-yes _ b _ (ap (λ (c : Change). c .answer) (sym (change-accepted _ _ _ _ _ _ w z)) ∙ change-answer _ _ _ _ _ _ w ∙ z))
+    go (inr n) =
+        ap (λ k. answered k b (turned b w)) (sym (refusal-same b w))
+        ∙ answered-no number b (turned b w) n
+        ∙ sym (ap (changed b) (change-refused _ _ _ _ _ _ w n) ∙ answered-no number b _ n)
+
+-- the call's answer by the change
+module _ (b : Board) (s : List ℕ) (c : Change) (e : c ≡ turnMade b s) where
+  by-change : changed b c ≡ turnCall b s
+  by-change = ap (changed b) e ∙ sym (turn-changes b s)
+
+  pub turn-refused : c .answer ≢ 0 → numbered c b ≡ turnCall b s
+  turn-refused h = stores.change-refused b c h ∙ by-change
+
+  -- a turn keeps the places, so the code stores none
+  pub turn-accepted : c .answer ≡ 0 → numbered c (moved b (c .flows) (c .marks) (b .places) (c .entry)) ≡ turnCall b s
+  turn-accepted h =
+      let kept : c .places ≡ b .places = ap (λ (k : Change). k .places) e ∙ change-places _ _ _ _ _ _ _ in
+      ap (λ (p : List ℕ). numbered c (moved b (c .flows) (c .marks) p (c .entry))) (sym kept) ∙ stores.change-stored b c h ∙ by-change
+
+  -- the board's parts as the code stores them, the journal whole
+  pub turn-stored : (j : List Entry) → c .answer ≡ 0 → j ≡ set (b .journal) (b .moves) (c .entry)
+      → numbered c (withParts b (c .flows) (c .marks) (b .places) j (b .moves + 1)) ≡ turnCall b s
+  turn-stored j h e = rw e (turn-accepted h)
+
+  pub turn-plays : c .answer ≡ 0 → playing b ≡ true
+  turn-plays h = accepted-plays _ _ _ _ (stepsOf s) (sym (ap (λ (k : Change). k .answer) e ∙ change-answer _ _ _ _ _ _ _) ∙ h)
+
+past-room : (net : Network) (acyclic flows places : List ℕ) (moves : ℕ) (x y : Move) → leb moves maxMoves ≡ false → intactIn net acyclic flows places moves x ≡ intactIn net acyclic flows places moves y
+unfolding both
+past-room net acyclic flows places moves x y h = rw h
+
+-- the guard's test, with the last move read at a place that is its own where the journal has room for the moves; where it has not, the test fails anyway
+pub play-made : (b : Board) (k : ℕ) (play fits : Bool) → (b .moves ≤ maxMoves → k ≡ b .moves - 1)
+    → fits ≡ intactIn (b .network) (b .acyclic) (b .flows) (b .places) (b .moves) (getD (b .journal) k blank .step)
+    → play ≡ both (eqb (b .stage) playStage) fits → play ≡ playing b
+unfolding playing intact
+play-made b k play fits hk hf hp = hp ∙ ap (both (eqb (b .stage) playStage)) (hf ∙ go (lt-or-ge maxMoves (b .moves)))
+  where
+    at : Entry → Bool
+    at last = intactIn (b .network) (b .acyclic) (b .flows) (b .places) (b .moves) (last .step)
+
+    go : (maxMoves < b .moves) ⊎ (b .moves ≤ maxMoves) → at (getD (b .journal) k blank) ≡ at (lastEntry b)
+    go (inl h) = past-room (b .network) (b .acyclic) (b .flows) (b .places) (b .moves) (getD (b .journal) k blank .step) (lastEntry b .step) (lt-leb (b .moves) maxMoves h)
+    go (inr h) = rw (hk h)
+
+-- the change that the code makes of the parts of a board
+pub made-by : (b : Board) (s : List ℕ) (k : ℕ) (play fits anyOpen : Bool) (c : Change) → (b .moves ≤ maxMoves → k ≡ b .moves - 1)
+    → fits ≡ intactIn (b .network) (b .acyclic) (b .flows) (b .places) (b .moves) (getD (b .journal) k blank .step)
+    → play ≡ both (eqb (b .stage) playStage) fits → anyOpen ≡ someOpenIn (b .network) (b .flows) (b .marks) (b .places)
+    → c ≡ turnChange play anyOpen (b .network) (b .flows) (b .marks) (b .places) (stepsOf s) → c ≡ turnMade b s
+made-by b s k play fits anyOpen c hk hf hp ho hc =
+    hc
+    ∙ ap₂ (λ p o. turnChange p o (b .network) (b .flows) (b .marks) (b .places) (stepsOf s)) (play-made b k play fits hk hf hp) (ho ∙ some-same b)

@@ -1,0 +1,90 @@
+-- Why the tests of a turn's steps can be run byte by byte: the steps from i on are the step at i and those after it, so one turn of the loop leaves the same test.
+-- And why the sets have room: where every step is on the board, each edge is one of the board's, of which there are no more than a set has bits.
+use mathlib.Core.Path.{_≡_, refl, ap}
+use mathlib.Core.Bool.{Bool, true, false}
+use mathlib.Core.Logic.{inl, inr}
+use mathlib.Core.List.{List, [], _∷_}
+use Prim.Native.Nat.{ℕ, zero, suc, _+_, _<_, _≤_, _^_}
+use native.Mathlib.Numerals.{add-one}
+use native.Mathlib.Omega.{arith}
+use lib.ListN.{length, getD, drop, drop-of-length-le}
+use lib.Seq.{drop-cons}
+use borrow.Author.Tests.{ltb-true}
+use Rattle.lists.specs.Choice.{pick}
+use Rattle.sets.specs.Sets.{setWidth}
+use Rattle.board.specs.Limits.{maxEdges}
+use Rattle.graph_flows.specs.Trails.{Step, edgeOf}
+use Rattle.graph_flows.proofs.Change.{In}
+use Rattle.move_cycle.specs.Steps.{stepOf, stepsOf, InSets, every, isCycle}
+use Rattle.move_cycle.proofs.Cycled.{every-in}
+use Rattle.move_edges.specs.Marking.{singularBy, ChartedOut}
+use Rattle.move_edges.proofs.Following.{singular-same}
+use Rattle.move_turn.specs.declared.StepRule.{StepRule}
+use Rattle.move_turn.specs.declared.StepRule.the-variants.{OnBoard, Positive, UpSingular}
+use Rattle.move_turn.specs.Turns.{meetsIn, meetsOn, stepsRefusal}
+
+-- a test of every step that has passed i of them
+module _ (p : Step → Bool) (s : List ℕ) (i : ℕ) where
+  pub every-hit : i < length s → p (stepOf (getD s i 0)) ≡ true → every p (stepsOf (drop (i + 1) s)) ≡ every p (stepsOf (drop i s))
+  unfolding every stepsOf
+  every-hit h t = rw (drop-cons s i 0 h, add-one i, t, every)
+
+  pub every-miss : i < length s → p (stepOf (getD s i 0)) ≡ false → false ≡ every p (stepsOf (drop i s))
+  unfolding every stepsOf
+  every-miss h t = rw (drop-cons s i 0 h, t, every)
+
+  pub every-end : length s ≤ i → true ≡ every p (stepsOf (drop i s))
+  unfolding every stepsOf
+  every-end h = rw (drop-of-length-le s h)
+
+in-steps : (s : List ℕ) (i : ℕ) → i < length s → In (stepOf (getD s i 0)) (stepsOf s)
+unfolding stepsOf
+in-steps [] i h = absurd (omega arith)
+in-steps (x ∷ s) zero h = inl refl
+in-steps (x ∷ s) (suc i) h = inr (in-steps s i (omega arith))
+
+-- where every step is on the board
+module _ (edges : ℕ) (tails heads flows : List ℕ) (vertices : ℕ) (room : edges ≤ maxEdges) where
+  pub in-sets : (s : List ℕ) → every (meetsOn OnBoard edges tails heads flows vertices) (stepsOf s) ≡ true → InSets s
+  in-sets s on i h =
+      let there : edgeOf (stepOf (getD s i 0)) < edges =
+      ltb-true _ _ (every-in (meetsOn OnBoard edges tails heads flows vertices) (stepsOf s) (stepOf (getD s i 0)) on (in-steps s i h)) in
+      omega arith
+
+-- the tests in their order, each with the number it refuses with
+module _ (anyOpen : Bool) (edges : ℕ) (tails heads flows : List ℕ) (vertices : ℕ) (w : List Step) where
+  abbrev meet : StepRule → Bool
+  meet rule = every (meetsOn rule edges tails heads flows vertices) w
+
+  pub refused-6 : meet OnBoard ≡ false → 6 ≡ stepsRefusal anyOpen edges tails heads flows vertices w
+  unfolding stepsRefusal pick
+  refused-6 o = rw o
+
+  module _ (o : meet OnBoard ≡ true) where
+    pub refused-7 : isCycle tails heads w ≡ false → 7 ≡ stepsRefusal anyOpen edges tails heads flows vertices w
+    unfolding stepsRefusal pick
+    refused-7 y = rw (o, y)
+
+    module _ (y : isCycle tails heads w ≡ true) where
+      pub refused-24 : anyOpen ≡ true → 24 ≡ stepsRefusal anyOpen edges tails heads flows vertices w
+      unfolding stepsRefusal pick
+      refused-24 s = rw (o, y, s)
+
+      module _ (s : anyOpen ≡ false) where
+        pub refused-25 : meet Positive ≡ false → 25 ≡ stepsRefusal anyOpen edges tails heads flows vertices w
+        unfolding stepsRefusal pick
+        refused-25 f = rw (o, y, s, f)
+
+        pub refused-26 : meet Positive ≡ true → meet UpSingular ≡ false → 26 ≡ stepsRefusal anyOpen edges tails heads flows vertices w
+        unfolding stepsRefusal pick
+        refused-26 f u = rw (o, y, s, f, u)
+
+        pub steps-accepted : meet Positive ≡ true → meet UpSingular ≡ true → 0 ≡ stepsRefusal anyOpen edges tails heads flows vertices w
+        unfolding stepsRefusal pick
+        steps-accepted f u = rw (o, y, s, f, u)
+
+-- the edges of up-steps are singular by the sets where they are by the lists
+pub ups-same : (tails heads flows leaving : List ℕ) (positive : ℕ) → ChartedOut tails heads flows leaving positive → positive < 2 ^ setWidth → (edges vertices : ℕ) (w : List Step)
+    → every (meetsIn UpSingular edges flows (singularBy heads leaving positive vertices)) w ≡ every (meetsOn UpSingular edges tails heads flows vertices) w
+ups-same tails heads flows leaving positive chart fits edges vertices w =
+    ap (λ (single : ℕ → Bool). every (meetsIn UpSingular edges flows single) w) (λ i e. singular-same tails heads flows leaving positive chart fits vertices e i)

@@ -1,0 +1,368 @@
+// The call `turn`.
+use board::Augmentation;
+use board::Board;
+use board::EdgeSet;
+use board::Entry;
+use board::Move;
+use board::Network;
+use board::Played;
+use move_guard::Change;
+ghost use mathlib.Core.Path.{_≡_};
+ghost use mathlib.Core.Bool.{true};
+ghost use Prim.Native.Nat.{_-_, _≤_, _<_};
+ghost use lib.Dec.{ltb};
+ghost use lib.ListN.{getD};
+ghost use Rattle.lists.specs.Choice.{pick};
+ghost use Rattle.graph_flows.specs.Trails.{edgeOf};
+ghost use Rattle.board.specs.Limits.{maxEdges, maxMoves};
+ghost use Rattle.move_cycle.specs.Steps.{stepOf, stepsOf, InSets, isUp, every};
+ghost use Rattle.move_edges.specs.Incidence.{Incident, PositiveSet};
+ghost use Rattle.move_edges.specs.Marking.{singularBy, ChartedOut};
+ghost use Rattle.move_turn.specs.Turns.{meetsIn, stepsRefusal, turnRefusalIn, turnRefusal, turnedIn, turnChange, turnCall, Sound};
+
+// The rules that each step of a turn keeps.
+pub enum StepRule {
+    OnBoard,
+    Positive,
+    UpSingular,
+}
+
+// The board has the edge.
+fn on_board(edges: u32, s: u8) -> bool
+    ensures { λ r. ⌜ r ≡ ltb (edgeOf (stepOf s)) edges ⌝ }
+{
+    move_cycle::edge_of(s) < edges
+}
+
+// The edge has a flow.
+fn has_flow(flows: &[u32], s: u8) -> bool
+    ensures { λ r. ⌜ r ≡ ltb 0 (getD (now (flows .entry)) (edgeOf (stepOf s)) 0) ⌝ }
+{
+    let e = move_cycle::edge_of(s) as usize;
+    0 < lists::word_at(flows, e)
+}
+
+// An up-step's edge is singular.
+fn up_singular<'a>(
+    heads: &'a [u32],
+    leaving: &'a [EdgeSet],
+    positive: EdgeSet,
+    vertices: u32,
+    s: u8,
+) -> bool
+    ensures { λ r. ⌜ r ≡ pick (isUp (stepOf s)) (singularBy (now (heads .entry)) (now (leaving .entry)) positive vertices (edgeOf (stepOf s))) true ⌝ }
+{
+    if !move_cycle::is_up(s) {
+        return true;
+    }
+    let e = move_cycle::edge_of(s) as usize;
+    move_edges::singular_by(heads, leaving, positive, vertices, e)
+}
+
+// Whether a step keeps a rule.
+fn meets<'a>(
+    rule: StepRule,
+    edges: u32,
+    heads: &'a [u32],
+    flows: &'a [u32],
+    leaving: &'a [EdgeSet],
+    positive: EdgeSet,
+    vertices: u32,
+    s: u8,
+) -> bool
+    ensures { λ r. ⌜ r ≡ meetsIn rule edges (now (flows .entry)) (singularBy (now (heads .entry)) (now (leaving .entry)) positive vertices) (stepOf s) ⌝ }
+{
+    match rule {
+        StepRule::OnBoard => on_board(edges, s),
+        StepRule::Positive => has_flow(flows, s),
+        StepRule::UpSingular => up_singular(heads, leaving, positive, vertices, s),
+    }
+}
+
+// Whether every step keeps a rule.
+fn all_meet<'a>(
+    rule: StepRule,
+    edges: u32,
+    heads: &'a [u32],
+    flows: &'a [u32],
+    leaving: &'a [EdgeSet],
+    positive: EdgeSet,
+    vertices: u32,
+    steps: &'a [u8],
+) -> bool
+    ensures { λ r. ⌜ r ≡ every (meetsIn rule edges (now (flows .entry)) (singularBy (now (heads .entry)) (now (leaving .entry)) positive vertices))
+        (stepsOf (now (steps .entry))) ⌝ }
+{
+    let mut i: usize = 0;
+    while i < steps.len() {
+        if !meets(
+            rule,
+            edges,
+            heads,
+            flows,
+            leaving,
+            positive,
+            vertices,
+            steps[i],
+        ) {
+            return false;
+        }
+        i += 1;
+    }
+    true
+}
+
+// 6, 7, 24, 25 or 26, in this order; 0 where the steps are accepted.
+fn steps_refusal<'a>(
+    any_open: bool,
+    edges: u32,
+    tails: &'a [u32],
+    heads: &'a [u32],
+    flows: &'a [u32],
+    leaving: &'a [EdgeSet],
+    positive: EdgeSet,
+    vertices: u32,
+    steps: &'a [u8],
+) -> u32
+    requires { ⌜ edges ≤ maxEdges ⌝ }
+    requires { ⌜ ChartedOut (now tails) (now heads) (now flows) (now leaving) positive ⌝ }
+    ensures { λ r. ⌜ r ≡ stepsRefusal «any_open» edges (now (tails .entry)) (now (heads .entry)) (now (flows .entry)) vertices (stepsOf (now (steps .entry))) ⌝ }
+{
+    if !all_meet(
+        StepRule::OnBoard,
+        edges,
+        heads,
+        flows,
+        leaving,
+        positive,
+        vertices,
+        steps,
+    ) {
+        return 6;
+    }
+    if !move_cycle::is_cycle(tails, heads, steps) {
+        return 7;
+    }
+    if any_open {
+        return 24;
+    }
+    if !all_meet(
+        StepRule::Positive,
+        edges,
+        heads,
+        flows,
+        leaving,
+        positive,
+        vertices,
+        steps,
+    ) {
+        return 25;
+    }
+    if !all_meet(
+        StepRule::UpSingular,
+        edges,
+        heads,
+        flows,
+        leaving,
+        positive,
+        vertices,
+        steps,
+    ) {
+        return 26;
+    }
+    0
+}
+
+// 20 where the board is not in play, or what the steps are refused with. The sets are of the edges that leave each vertex, and of the positive ones.
+fn refusal<'a>(
+    in_play: bool,
+    any_open: bool,
+    net: Network,
+    flows: [u32; Board::MAX_EDGES],
+    leaving: &'a [EdgeSet],
+    positive: EdgeSet,
+    steps: &'a [u8],
+) -> u32
+    requires { ⌜ («in_play» ≡ true → Sound net flows) ⌝ }
+    requires { ⌜ Incident (net .tails) (now leaving) ⌝ }
+    requires { ⌜ PositiveSet flows positive ⌝ }
+    ensures { λ r. ⌜ r ≡ turnRefusalIn «in_play» «any_open» net flows (stepsOf (now (steps .entry))) ⌝ }
+{
+    if !in_play {
+        return 20;
+    }
+    steps_refusal(
+        any_open,
+        net.edges,
+        &net.tails,
+        &net.heads,
+        &flows,
+        leaving,
+        positive,
+        net.vertices,
+        steps,
+    )
+}
+
+// 20, 6, 7, 24, 25 or 26, in this order; 0 where the turn is accepted.
+pub fn turn_refusal(board: Board, steps: &[u8]) -> u32
+    ensures { λ r. ⌜ r ≡ turnRefusal board (stepsOf (now (steps .entry))) ⌝ }
+{
+    let play = move_guard::playing(board);
+    let net = board.network;
+    let flows = board.flows;
+    let places = board.places;
+    let any_open = move_carry::some_open_in(net, &flows, board.marks, &places);
+    let tails = net.tails;
+    let leaving = move_edges::at_vertices(tails);
+    let positive = move_edges::positive(flows);
+    refusal(play, any_open, net, flows, &leaving, positive, steps)
+}
+
+// What an accepted turn changes.
+fn turned<'a>(
+    net: Network,
+    flows: [u32; Board::MAX_EDGES],
+    marks: EdgeSet,
+    places: [u32; Board::MAX_TERMINALS],
+    leaving: &'a [EdgeSet],
+    positive: EdgeSet,
+    steps: &'a [u8],
+) -> Change
+    requires { ⌜ Sound net flows ⌝ }
+    requires { ⌜ Incident (net .tails) (now leaving) ⌝ }
+    requires { ⌜ PositiveSet flows positive ⌝ }
+    requires { ⌜ InSets (now steps) ⌝ }
+    ensures { λ r. ⌜ r ≡ turnedIn net flows marks places (stepsOf (now (steps .entry))) ⌝ }
+{
+    let amount = move_cycle::least_allowed(
+        &net.heads,
+        &flows,
+        &places,
+        &net.demands,
+        net.terminals,
+        steps,
+    );
+    let down = move_cycle::gather(false, steps);
+    let up = move_cycle::gather(true, steps);
+    let fresh = move_edges::fresh_by(&net.heads, leaving, positive, net.vertices, marks);
+    let shifted = move_cycle::shifted(amount, down, up, flows);
+    let marks = sets::joined(marks, fresh);
+    let entry = Entry {
+        step: Move::Turn(Augmentation {
+            amount: amount,
+            down: down,
+            up: up,
+            marked: fresh,
+        }),
+    };
+    Change {
+        answer: 0,
+        flows: shifted,
+        marks: marks,
+        places: places,
+        entry: entry,
+    }
+}
+
+// What a turn changes on a board of these parts; `in_play` says whether the board is in play, `any_open` whether a carry is open. `leaving` has for each vertex
+// the set of the edges that leave it, and `positive` is the set of the positive ones.
+pub fn change_by<'a>(
+    in_play: bool,
+    any_open: bool,
+    net: Network,
+    flows: [u32; Board::MAX_EDGES],
+    marks: EdgeSet,
+    places: [u32; Board::MAX_TERMINALS],
+    leaving: &'a [EdgeSet],
+    positive: EdgeSet,
+    steps: &'a [u8],
+) -> Change
+    requires { ⌜ («in_play» ≡ true → Sound net flows) ⌝ }
+    requires { ⌜ Incident (net .tails) (now leaving) ⌝ }
+    requires { ⌜ PositiveSet flows positive ⌝ }
+    ensures { λ r. ⌜ r ≡ turnChange «in_play» «any_open» net flows marks places (stepsOf (now (steps .entry))) ⌝ }
+{
+    let number = refusal(in_play, any_open, net, flows, leaving, positive, steps);
+    if number != 0 {
+        let blank = Entry::blank();
+        return Change {
+            answer: number,
+            flows: flows,
+            marks: marks,
+            places: places,
+            entry: blank,
+        };
+    }
+    turned(net, flows, marks, places, leaving, positive, steps)
+}
+
+// The same, with the sets made here.
+pub fn change(
+    in_play: bool,
+    any_open: bool,
+    net: Network,
+    flows: [u32; Board::MAX_EDGES],
+    marks: EdgeSet,
+    places: [u32; Board::MAX_TERMINALS],
+    steps: &[u8],
+) -> Change
+    requires { ⌜ («in_play» ≡ true → Sound net flows) ⌝ }
+    ensures { λ r. ⌜ r ≡ turnChange «in_play» «any_open» net flows marks places (stepsOf (now (steps .entry))) ⌝ }
+{
+    let tails = net.tails;
+    let leaving = move_edges::at_vertices(tails);
+    let positive = move_edges::positive(flows);
+    change_by(
+        in_play,
+        any_open,
+        net,
+        flows,
+        marks,
+        places,
+        &leaving,
+        positive,
+        steps,
+    )
+}
+
+// Where the journal has the last of so many moves.
+fn last_place(moves: u32) -> usize
+    ensures { λ r. ⌜ (r < maxMoves) × (moves ≤ maxMoves → r ≡ moves - 1) ⌝ }
+{
+    let k = lists::minus(moves, 1) as usize;
+    if k < Board::JOURNAL { k } else { 0 }
+}
+
+// Augments along the cycle of the steps. The board is changed in place, so that it is copied once.
+pub fn turn(board: Board, steps: &[u8]) -> Played
+    ensures { λ r. ⌜ r ≡ turnCall board (now (steps .entry)) ⌝ }
+{
+    let mut next = board;
+    let net = next.network;
+    let acyclic = next.acyclic;
+    let flows = next.flows;
+    let places = next.places;
+    let k = last_place(next.moves);
+    let last = next.journal[k];
+    let step = last.step;
+    let fits = move_guard::intact_in(net, acyclic, flows, places, next.moves, step);
+    let play = lists::and(next.stage == Board::PLAY, fits);
+    let any_open = move_carry::some_open_in(net, &flows, next.marks, &places);
+    let made = change(play, any_open, net, flows, next.marks, places, steps);
+    if made.answer == 0 {
+        let m = next.moves as usize;
+        let shifted = made.flows;
+        let entry = made.entry;
+        next.flows = shifted;
+        next.marks = made.marks;
+        next.moves = next.moves + 1;
+        if m < Board::JOURNAL {
+            next.journal[m] = entry;
+        }
+    }
+    Played {
+        answer: made.answer,
+        board: next,
+    }
+}

@@ -1,0 +1,115 @@
+-- What the code puts together, part by part, is what the definitions name: an undo is the change that it makes.
+use mathlib.Core.Path.{_≡_, refl, sym, ap, _∙_}
+use mathlib.Core.Bool.{Bool, true}
+use mathlib.Core.List.{List}
+use Prim.Native.Nat.{ℕ, _+_, _≤_}
+use lib.Dec.{eqb}
+use lib.ListN.{length, getD, set}
+use borrow.Author.Tests.{eqb-true, eqb-false}
+use Rattle.lists.specs.Choice.{pick}
+use Rattle.lists.proofs.Laws.{Known, was-true, was-false, known, pick-yes, pick-no, pick-passed}
+use Rattle.board.specs.Limits.{maxEdges, maxTerminals, maxMoves}
+use Rattle.board.specs.Record.{blank}
+use Rattle.board.specs.declared.Board.{Board}
+use Rattle.board.specs.declared.Network.{Network}
+use Rattle.board.specs.declared.Entry.{Entry}
+use Rattle.board.specs.declared.Relocation.{Relocation}
+use Rattle.board.specs.declared.Move.{Move}
+use Rattle.board.specs.declared.Move.the-variants.{Carry, Turn}
+use Rattle.move_guard.specs.declared.Change.{Change}
+use Rattle.move_guard.specs.Moved.{lastEntry, movedBack, answered, unchanged, changedBack}
+use Rattle.move_guard.proofs.Answers.{answered-yes, answered-no}
+use Rattle.move_guard.specs.Guard.{moveIntact, playing}
+use Rattle.move_guard.proofs.Facts.{playing-moves, playing-flow, playing-demand, playing-last}
+use Rattle.move_undo.specs.Undone.{undoRefusal, undoneMove, undone, undoCall, carryBack, moveBack, undoRefusalIn, undoChange, Small}
+
+-- what the code of a carry taken back computes, number by number
+module _ (net : Network) (flows : List ℕ) (marks : ℕ) (places : List ℕ) (r : Relocation) (f d h : ℕ) (flows' places' : List ℕ) (entry : Entry) where
+  pub makes-carry-back : f ≡ getD flows (r .edge) 0 → d ≡ getD (net .demands) (r .terminal) 0 → h ≡ getD (net .heads) (r .edge) 0
+      → flows' ≡ set flows (r .edge) (f + d) → places' ≡ set places (r .terminal) h → entry ≡ blank
+      → record { answer = 0; flows = flows'; marks = marks; places = places'; entry = entry } ≡ carryBack net flows marks places r
+  makes-carry-back hf hd hh hfs hps he = rw (hfs, hps, hf, hd, hh, he)
+
+-- an accepted undo is of a board in play
+pub undo-plays : (p : Bool) (moves : ℕ) → undoRefusalIn p moves ≡ 0 → p ≡ true
+unfolding undoRefusalIn
+undo-plays p moves h = pick-passed p _ _ h .0
+
+-- the number and the entry of the change
+module _ (p : Bool) (net : Network) (flows : List ℕ) (marks : ℕ) (places : List ℕ) (moves : ℕ) (last : Move) where
+  change-in-play : undoChange p net flows marks places moves last .answer ≡ 0 → p ≡ true
+  unfolding undoChange
+  change-in-play h = go (known (eqb (undoRefusalIn p moves) 0))
+    where
+      go : Known (eqb (undoRefusalIn p moves) 0) → p ≡ true
+      go (was-true t) = undo-plays p moves (eqb-true _ 0 t)
+      go (was-false t) = absurd (eqb-false _ 0 t (sym (ap (λ (c : Change). c .answer) (pick-no _ _ _ t)) ∙ h))
+
+  change-blank : undoChange p net flows marks places moves last .entry ≡ blank
+  unfolding undoChange
+  change-blank = go (known (eqb (undoRefusalIn p moves) 0))
+    where
+      back : (m : Move) → moveBack net flows marks places m .entry ≡ blank
+      back (Carry r) = refl
+      back (Turn a) = refl
+
+      go : Known (eqb (undoRefusalIn p moves) 0) → pick (eqb (undoRefusalIn p moves) 0) (moveBack net flows marks places last) (unchanged (undoRefusalIn p moves) flows marks places) .entry ≡ blank
+      go (was-true t) = ap (λ (c : Change). c .entry) (pick-yes _ _ _ t) ∙ back last
+      go (was-false t) = ap (λ (c : Change). c .entry) (pick-no _ _ _ t)
+
+-- a move taken back, by its parts
+back-parts : (b : Board) (m : Move)
+    → undoneMove b m
+    ≡ movedBack b (moveBack (b .network) (b .flows) (b .marks) (b .places) m .flows) (moveBack (b .network) (b .flows) (b .marks) (b .places) m .marks) (moveBack (b .network) (b .flows) (b .marks) (b .places) m .places)
+back-parts b (Carry r) = refl
+back-parts b (Turn a) = refl
+
+back-accepted : (net : Network) (flows : List ℕ) (marks : ℕ) (places : List ℕ) (m : Move) → moveBack net flows marks places m .answer ≡ 0
+back-accepted net flows marks places (Carry r) = refl
+back-accepted net flows marks places (Turn a) = refl
+
+-- an undo is the change that it makes
+module _ (b : Board) where
+  abbrev number : ℕ
+  number = undoRefusalIn (playing b) (b .moves)
+
+  abbrev yes : Change
+  yes = moveBack (b .network) (b .flows) (b .marks) (b .places) (lastEntry b .step)
+
+  abbrev no : Change
+  no = unchanged number (b .flows) (b .marks) (b .places)
+
+  refusal-parts : undoRefusal b ≡ number
+  unfolding undoRefusal undoRefusalIn
+  refusal-parts = refl
+
+  pub undo-changes : undoCall b ≡ changedBack b (undoChange (playing b) (b .network) (b .flows) (b .marks) (b .places) (b .moves) (lastEntry b .step))
+  unfolding undoCall undoChange undone
+  undo-changes = rw (refusal-parts, back-parts b (lastEntry b .step)) (go (known (eqb number 0)))
+    where
+      go : Known (eqb number 0) → answered number b (movedBack b (yes .flows) (yes .marks) (yes .places)) ≡ changedBack b (pick (eqb number 0) yes no)
+      go (was-true t) =
+          answered-yes number b _ (eqb-true number 0 t) ∙ sym (ap (changedBack b) (pick-yes _ yes no t) ∙ answered-yes (yes .answer) b _ (back-accepted _ _ _ _ (lastEntry b .step)))
+      go (was-false t) = answered-no number b _ (eqb-false number 0 t) ∙ sym (ap (changedBack b) (pick-no _ yes no t) ∙ answered-no number b _ (eqb-false number 0 t))
+
+  -- what an undo makes of the parts of the board
+  module _ (p : Bool) (last : Entry) (ep : p ≡ playing b) (el : last ≡ lastEntry b) where
+    pub undo-by-change : (c : Change) → c ≡ undoChange p (b .network) (b .flows) (b .marks) (b .places) (b .moves) (last .step) → changedBack b c ≡ undoCall b
+    undo-by-change c ec = rw (ec, ep, el) (sym undo-changes)
+
+    -- the journal has room for its moves
+    pub undo-room : (c : Change) → c ≡ undoChange p (b .network) (b .flows) (b .marks) (b .places) (b .moves) (last .step) → c .answer ≡ 0 → b .moves ≤ maxMoves
+    undo-room c ec h = playing-moves b (sym ep ∙ change-in-play p _ _ _ _ _ _ (sym (ap (λ (c : Change). c .answer) ec) ∙ h))
+
+    -- the change names no move
+    pub undo-blanks : (c : Change) → c ≡ undoChange p (b .network) (b .flows) (b .marks) (b .places) (b .moves) (last .step) → c .entry ≡ blank
+    undo-blanks c ec = ap (λ (c : Change). c .entry) ec ∙ change-blank p _ _ _ _ _ _
+
+    pub undo-small : length (b .flows) ≡ maxEdges → length (b .network .demands) ≡ maxTerminals → p ≡ true → Small (b .network) (b .flows) (last .step)
+    undo-small many-flows many-demands t =
+        let play : playing b ≡ true = sym ep ∙ t in
+        record {
+          flow = playing-flow b play many-flows;
+          demand = playing-demand b play many-demands;
+          amount = ap (λ (entry : Entry). moveIntact (entry .step)) el ∙ playing-last b play;
+        }

@@ -1,0 +1,59 @@
+-- A line's answer, by the tests that the code makes: the kind of the line picks the call, and a turn whose steps were not all kept has its number. What is
+-- printed is the number, and behind it the report after an accepted finish.
+use mathlib.Core.Path.{_≡_, refl, sym, ap, _∙_}
+use mathlib.Core.Bool.{Bool, true, false}
+use mathlib.Core.List.{List, [], _++_, append-nil}
+use Prim.Native.Nat.{ℕ, _+_, _≤_}
+use native.Mathlib.Omega.{arith}
+use lib.Dec.{leb, ltb, eqb}
+use lib.ListN.{length, take, length-append}
+use lib.Seq.{sets}
+use Rattle.lists.specs.Choice.{both}
+use Rattle.lists.proofs.Laws.{pick-yes, pick-no}
+use Rattle.board.specs.Limits.{maxEdges}
+use Rattle.board.specs.declared.Board.{Board}
+use Rattle.board.specs.declared.Played.{Played}
+use Rattle.move_turn.specs.Turns.{turnCall}
+use Rattle.play_lines.specs.declared.Form.{Form}
+use Rattle.play_lines.specs.Scans.{finishForm}
+use Rattle.text_writer.proofs.Writing.{sets-append}
+use Rattle.sheet_output.specs.Outputs.{numberLine, reportOf}
+use Rattle.play_session.specs.Machine.{unkept, turnReplied, formText}
+
+-- ---- a turn
+
+module _ (b : Board) (f : Form) (t : Bool) (e : t ≡ both (leb (f .count) maxEdges) (ltb (f .greatest) (b .network .edges))) where
+  pub turn-unkept : (n : ℕ) → t ≡ false → n ≡ unkept b f → _≡_ {A = Played} (record { answer = n; board = b }) (turnReplied b f)
+  unfolding turnReplied
+  turn-unkept n h q = rw q (sym (pick-no _ _ _ (sym e ∙ h)))
+
+  pub turn-kept : (p : Played) → t ≡ true → p ≡ turnCall b (take (f .count) (f .steps)) → p ≡ turnReplied b f
+  unfolding turnReplied
+  turn-kept p h q = q ∙ sym (pick-yes _ _ _ (sym e ∙ h))
+
+-- ---- what is printed
+
+-- the same text under another name
+pub printed : (out after : List ℕ) (used : ℕ) (x y : List ℕ) → x ≡ y → used ≡ length x → used ≤ 8291 → after ≡ sets out 0 x
+    → (used ≡ length y) × ((used ≤ 8291) × (after ≡ sets out 0 y))
+printed out after used x y e p small q = (p ∙ ap length e, (small, q ∙ ap (λ (l : List ℕ). sets out 0 l) e))
+
+-- nothing
+pub printed-none : (out y : List ℕ) → y ≡ [] → (0 ≡ length y) × ((0 ≤ 8291) × (out ≡ sets out 0 y))
+printed-none out y e = printed out out 0 [] y (sym e) refl (omega arith) refl
+
+-- a text behind another
+pub put-joined : (out b1 b2 x y : List ℕ) (n r : ℕ) → n ≡ length x → b1 ≡ sets out 0 x → r ≡ n + length y → b2 ≡ sets b1 n y
+    → (r ≡ length (x ++ y)) × (b2 ≡ sets out 0 (x ++ y))
+put-joined out b1 b2 x y n r p e q g =
+    let z : 0 + length x ≡ n = omega arith in
+    (omega (arith, length-append x y), g ∙ rw (e, ← z) (sym (sets-append x out y 0)))
+
+module _ (f : Form) (p : Played) (t : Bool) (e : t ≡ both (eqb (f .kind) finishForm) (eqb (p .answer) 0)) where
+  pub text-alone : t ≡ false → numberLine (p .answer) ≡ formText f p
+  unfolding formText
+  text-alone h = sym (ap (λ (l : List ℕ). numberLine (p .answer) ++ l) (pick-no _ _ _ (sym e ∙ h)) ∙ append-nil _)
+
+  pub text-reported : t ≡ true → numberLine (p .answer) ++ reportOf (p .board) ≡ formText f p
+  unfolding formText
+  text-reported h = sym (ap (λ (l : List ℕ). numberLine (p .answer) ++ l) (pick-yes _ _ _ (sym e ∙ h)))

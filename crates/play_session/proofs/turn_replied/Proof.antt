@@ -1,0 +1,71 @@
+-- The steps that were kept are played, where all of them were.
+use mathlib.Core.Path.{sym, _∙_}
+use Prim.Native.Nat.{ℕ}
+use native.Mathlib.Omega.{arith}
+use lib.Seq.{length-take-le}
+use borrow.Author.Tests.{not-true, not-false, leb-true}
+use Rattle.lists.proofs.Laws.{both-left}
+use Rattle.board.specs.Limits.{maxEdges}
+use Rattle.play_session.proofs.Replying.{turn-unkept, turn-kept}
+use borrow.Author.Needs.{needs, length-unmapped}
+use Rattle.play_session.proofs.turn_replied.Statement.{statement}
+use Rattle.play_session.proofs.turn_replied.Tie as tie
+
+cast-few : tie.Need-cast-few
+cast-few c = search needs
+
+and-requires : tie.Need-and-requires
+and-requires c κs = search needs
+
+unkept-requires : tie.Need-unkept-requires
+unkept-requires c κs = search needs
+
+returns : tie.Need-returns
+returns c =
+    let at-args = c .before .before .before .before .before .before .before .args in
+    turn-unkept (at-args .board) (at-args .form) _ (c .before .before .and .ensures) _ (not-true _ (c .before .if1 .taken)) (c .unkept .ensures)
+
+cast-steps : tie.Need-cast-steps
+cast-steps c = search needs
+
+array-share-prefix-steps : tie.Need-array-share-prefix-steps
+array-share-prefix-steps c =
+    let start = c .before .before .before .before .before .before .before .before in
+    -- what owning the form tells of its fields, nested to the right
+    let steps = start .good .1 .0 .1 .1 .1 .1 .1 .1 .1 .0 in
+    let long = length-unmapped ℕ (start .args .form .steps) maxEdges (steps .1 .0 .1) in
+    let few = leb-true (start .args .form .count) maxEdges (both-left _ _ (sym (c .before .before .before .and .ensures) ∙ not-false _ (c .before .before .if1 .left))) in
+    omega arith
+
+slice-aggregate-turn : tie.Need-slice-aggregate-turn
+slice-aggregate-turn c =
+    let start = c .before .before .before .before .before .before .before .before .before in
+    -- what owning the form tells of its fields, nested to the right
+    let steps = start .good .1 .0 .1 .1 .1 .1 .1 .1 .1 .0 in
+    let long = length-unmapped ℕ (start .args .form .steps) maxEdges (steps .1 .0 .1) in
+    let few = leb-true (start .args .form .count) maxEdges (both-left _ _ (sym (c .before .before .before .before .and .ensures) ∙ not-false _ (c .before .before .before .if1 .left))) in
+    sym (length-take-le _ _ (omega arith))
+
+turn-requires : tie.Need-turn-requires
+turn-requires c κs = search needs
+
+returns-2 : tie.Need-returns-2
+returns-2 c =
+    let at-if1 = c .before .before .before .before .if1 in
+    let at-and = c .before .before .before .before .before .and in
+    let at-args = c .before .before .before .before .before .before .before .before .before .before .args in
+    turn-kept (at-args .board) (at-args .form) _ (at-and .ensures) _ (not-false _ (at-if1 .left)) (c .turn .ensures)
+
+pub turn-replied-spec : {M : Type 1} → statement M
+turn-replied-spec =
+    tie.close
+    (tie.spec
+    cast-few
+    and-requires
+    unkept-requires
+    returns
+    cast-steps
+    array-share-prefix-steps
+    slice-aggregate-turn
+    turn-requires
+    returns-2)

@@ -1,0 +1,425 @@
+// The program `play` over pieces of its input.
+use board::Board;
+use board::Played;
+use load::Loaded;
+use play_lines::Form;
+use play_lines::Scan;
+ghost use mathlib.Core.Path.{_≡_};
+ghost use Prim.Native.Nat.{min, _+_, _≤_};
+ghost use lib.Dec.{leb, eqb};
+ghost use lib.ListN.{length};
+ghost use lib.Seq.{sets};
+ghost use Rattle.lists.specs.Choice.{pick};
+ghost use Rattle.solve_next.specs.Hints.{hintRefusal};
+ghost use Rattle.solve_finish.specs.Finishes.{finishCall};
+ghost use Rattle.load.specs.Load.{loadText};
+ghost use Rattle.play_lines.specs.Scans.{scanned};
+ghost use Rattle.sheet_output.specs.Inputs.{textSpace};
+ghost use Rattle.play_session.specs.Machine.{playingStage, overStage, unkept, turnReplied, formReplied, formText, newSession, textGrown, scanGrown, grown, textSoFar, linesLeft, ready, boardLine, loadTold, boardTold, playedLine, lineEnded, lineTold, endTold, takenOf, fedSession, fedTold};
+
+// The board is read, lines are played, or the board was refused; how many lines of the board are still to come, 0 before the first has ended; the text of
+// the board as far as it is kept; the line as far as it was read; and the board.
+pub struct Session {
+    pub stage: u32,
+    pub left: u32,
+    pub used: usize,
+    pub text: [u8; Session::TEXT],
+    pub scan: Scan,
+    pub board: Board,
+}
+
+// The session behind a line feed, and how many bytes were printed.
+pub struct Told {
+    pub session: Session,
+    pub used: usize,
+}
+
+// The session behind a piece of the input, how many bytes of the piece were taken, and how many were printed.
+pub struct Fed {
+    pub session: Session,
+    pub taken: usize,
+    pub used: usize,
+}
+
+impl Session {
+    // No board text is longer.
+    pub const TEXT: usize = 2048;
+
+    // The most that a line's answer takes: a number, and the longest report.
+    pub const OUTPUT: usize = 8291;
+
+    // The stages.
+    pub const READING: u32 = 0;
+
+    pub const PLAYING: u32 = 1;
+
+    pub const OVER: u32 = 2;
+
+    // Nothing was read yet.
+    pub fn start() -> Session
+        ensures { λ r. ⌜ r ≡ newSession ⌝ }
+    {
+        let scan = Scan::none();
+        let board = Board::closed();
+        Session {
+            stage: Session::READING,
+            left: 0,
+            used: 0,
+            text: [0; Session::TEXT],
+            scan: scan,
+            board: board,
+        }
+    }
+}
+
+// The number for a turn whose steps were not all kept.
+fn unkept(board: Board, form: Form) -> u32
+    ensures { λ r. ⌜ r ≡ unkept board form ⌝ }
+{
+    if !move_guard::playing(board) {
+        return 20;
+    }
+    let net = board.network;
+    if form.greatest < net.edges { 7 } else { 6 }
+}
+
+// A turn.
+fn turn_replied(board: Board, form: Form) -> Played
+    ensures { λ r. ⌜ r ≡ turnReplied board form ⌝ }
+{
+    let net = board.network;
+    let few = form.count <= Board::MAX_EDGES as u32;
+    let known = form.greatest < net.edges;
+    if !lists::and(few, known) {
+        let number = unkept(board, form);
+        return Played {
+            answer: number,
+            board: board,
+        };
+    }
+    let steps = form.steps;
+    move_turn::turn(board, &steps[..form.count as usize])
+}
+
+// A hint: its number, and the board as it was.
+fn hint_replied(board: Board) -> Played
+    ensures { λ r. ⌜ r .answer ≡ hintRefusal board ⌝ }
+    ensures { λ r. ⌜ r .board ≡ board ⌝ }
+{
+    let given = solve_next::hint(board);
+    Played {
+        answer: given.answer,
+        board: board,
+    }
+}
+
+// A finish: its number, and the board after it.
+fn finish_replied(board: Board) -> Played
+    ensures { λ r. ⌜ r .answer ≡ finishCall board .answer ⌝ }
+    ensures { λ r. ⌜ r .board ≡ finishCall board .board ⌝ }
+{
+    let finished = solve_finish::finish(board);
+    let last = finished.board;
+    Played {
+        answer: finished.answer,
+        board: last,
+    }
+}
+
+// What a line is answered with, and the board after it.
+fn form_replied(board: Board, form: Form) -> Played
+    ensures { λ r. ⌜ r ≡ formReplied board form ⌝ }
+{
+    if form.kind == Form::CARRY_WHOLE {
+        return move_carry::carry(board, form.first, form.second);
+    }
+    if form.kind == Form::TURN {
+        return turn_replied(board, form);
+    }
+    if form.kind == Form::HINT {
+        return hint_replied(board);
+    }
+    if form.kind == Form::UNDO {
+        return move_undo::undo(board);
+    }
+    if form.kind == Form::FINISH {
+        return finish_replied(board);
+    }
+    Played {
+        answer: 1,
+        board: board,
+    }
+}
+
+// Writes the number of an answer, and the report after an accepted finish; answers how many bytes.
+fn put_reply(out: &mut [u8], form: Form, played: Played) -> usize
+    ensures { λ r. ⌜ r ≡ length (formText form played) ⌝ }
+    ensures { λ r. ⌜ r ≤ 8291 ⌝ }
+    ensures { λ _. ⌜ now (out .exit) ≡ sets (now (out .entry)) 0 (formText form played) ⌝ }
+{
+    let number = sheet_output::put_number(out, 0, played.answer);
+    let finished = form.kind == Form::FINISH;
+    if !lists::and(finished, played.answer == 0) {
+        return number;
+    }
+    let last = played.board;
+    sheet_output::put_report(out, number, last)
+}
+
+// Stores bytes from a place on, as many as there is room for.
+fn put_bytes(text: [u8; Session::TEXT], at: usize, bytes: &[u8]) -> [u8; Session::TEXT]
+    ensures { λ r. ⌜ r ≡ sets text at (now (bytes .entry)) ⌝ }
+{
+    let mut next = text;
+    let mut to = at;
+    let mut i: usize = 0;
+    while i < bytes.len() {
+        if Session::TEXT <= to {
+            return next;
+        }
+        next[to] = bytes[i];
+        to += 1;
+        i += 1;
+    }
+    next
+}
+
+// How much of the text is used behind so many bytes more: all of it where they have no room.
+fn used_after(used: usize, count: usize) -> usize
+    ensures { λ r. ⌜ r ≡ pick (leb (used + count) textSpace) (used + count) textSpace ⌝ }
+{
+    if Session::TEXT < used {
+        return Session::TEXT;
+    }
+    if Session::TEXT - used < count {
+        return Session::TEXT;
+    }
+    used + count
+}
+
+// Bytes of the board's text.
+fn text_grown(session: Session, bytes: &[u8]) -> Session
+    ensures { λ r. ⌜ r ≡ textGrown session (now (bytes .entry)) ⌝ }
+{
+    let text = session.text;
+    let kept = put_bytes(text, session.used, bytes);
+    let used = used_after(session.used, bytes.len());
+    let mut next = session;
+    next.used = used;
+    next.text = kept;
+    next
+}
+
+// Bytes of a line of the play.
+fn scan_grown(session: Session, bytes: &[u8]) -> Session
+    ensures { λ r. ⌜ r ≡ scanGrown session (now (bytes .entry)) ⌝ }
+{
+    let scan = session.scan;
+    let read = play_lines::read_on(scan, bytes);
+    let mut next = session;
+    next.scan = read;
+    next
+}
+
+// Bytes with no line feed among them.
+fn grown(session: Session, bytes: &[u8]) -> Session
+    ensures { λ r. ⌜ r ≡ grown session (now (bytes .entry)) ⌝ }
+{
+    if session.stage == Session::READING {
+        return text_grown(session, bytes);
+    }
+    if session.stage == Session::PLAYING {
+        return scan_grown(session, bytes);
+    }
+    session
+}
+
+// How many bytes of the text are kept.
+fn kept(used: usize) -> usize
+    ensures { λ r. ⌜ r ≡ min used textSpace ⌝ }
+{
+    if used < Session::TEXT {
+        used
+    } else {
+        Session::TEXT
+    }
+}
+
+// How many lines of the board are still to come behind one that has ended. The first one says how many there are.
+fn lines_left(session: Session) -> u32
+    ensures { λ r. ⌜ r ≡ linesLeft session ⌝ }
+{
+    if session.left != 0 {
+        return session.left - 1;
+    }
+    let text = session.text;
+    let used = kept(session.used);
+    let wanted = sheet_output::lines_wanted(&text[..used]);
+    lists::minus(wanted, 1)
+}
+
+// The board, loaded from the text.
+fn board_loaded(session: Session) -> Loaded
+    ensures { λ r. ⌜ r ≡ loadText (textSoFar session) ⌝ }
+{
+    let text = session.text;
+    let used = kept(session.used);
+    load::load(&text[..used])
+}
+
+// The stage behind a load: the board is played, or it was refused.
+fn stage_after(answer: u32) -> u32
+    ensures { λ r. ⌜ r ≡ pick (eqb answer 0) playingStage overStage ⌝ }
+{
+    if answer == 0 {
+        Session::PLAYING
+    } else {
+        Session::OVER
+    }
+}
+
+// The session with the board loaded.
+fn ready(session: Session, loaded: Loaded) -> Session
+    ensures { λ r. ⌜ r ≡ ready loaded session ⌝ }
+{
+    let stage = stage_after(loaded.answer);
+    let scan = Scan::none();
+    let board = loaded.board;
+    let mut next = session;
+    next.stage = stage;
+    next.left = 0;
+    next.scan = scan;
+    next.board = board;
+    next
+}
+
+// Writes the number of a refused board, and nothing for another; answers how many bytes.
+fn put_load(out: &mut [u8], loaded: Loaded) -> usize
+    ensures { λ r. ⌜ r ≡ length (loadTold loaded) ⌝ }
+    ensures { λ r. ⌜ r ≤ 8291 ⌝ }
+    ensures { λ _. ⌜ now (out .exit) ≡ sets (now (out .entry)) 0 (loadTold loaded) ⌝ }
+{
+    if loaded.answer == 0 {
+        return 0;
+    }
+    sheet_output::put_number(out, 0, loaded.answer)
+}
+
+// A line of the board has ended: the next one is expected, or the board is loaded.
+fn board_line(session: Session, out: &mut [u8]) -> Told
+    ensures { λ r. ⌜ r .session ≡ boardLine session ⌝ }
+    ensures { λ r. ⌜ r .used ≡ length (boardTold session) ⌝ }
+    ensures { λ r. ⌜ r .used ≤ 8291 ⌝ }
+    ensures { λ _. ⌜ now (out .exit) ≡ sets (now (out .entry)) 0 (boardTold session) ⌝ }
+{
+    let left = lines_left(session);
+    if left != 0 {
+        let mut next = session;
+        next.left = left;
+        return Told {
+            session: next,
+            used: 0,
+        };
+    }
+    let loaded = board_loaded(session);
+    let used = put_load(out, loaded);
+    let next = ready(session, loaded);
+    Told {
+        session: next,
+        used: used,
+    }
+}
+
+// A line of the play has ended: it is answered.
+fn played_line(session: Session, out: &mut [u8]) -> Told
+    ensures { λ r. ⌜ r .session ≡ playedLine (formReplied (session .board) (scanned (session .scan))) session ⌝ }
+    ensures { λ r. ⌜ r .used ≡ length (formText (scanned (session .scan)) (formReplied (session .board) (scanned (session .scan)))) ⌝ }
+    ensures { λ r. ⌜ r .used ≤ 8291 ⌝ }
+    ensures { λ _. ⌜ now (out .exit) ≡ sets (now (out .entry)) 0 (formText (scanned (session .scan)) (formReplied (session .board) (scanned (session .scan)))) ⌝ }
+{
+    let scan = session.scan;
+    let form = play_lines::whole(scan);
+    let board = session.board;
+    let played = form_replied(board, form);
+    let used = put_reply(out, form, played);
+    let none = Scan::none();
+    let last = played.board;
+    let mut next = session;
+    next.scan = none;
+    next.board = last;
+    Told {
+        session: next,
+        used: used,
+    }
+}
+
+// A line feed.
+fn line_ended(session: Session, out: &mut [u8]) -> Told
+    ensures { λ r. ⌜ r .session ≡ lineEnded session ⌝ }
+    ensures { λ r. ⌜ r .used ≡ length (lineTold session) ⌝ }
+    ensures { λ r. ⌜ r .used ≤ 8291 ⌝ }
+    ensures { λ _. ⌜ now (out .exit) ≡ sets (now (out .entry)) 0 (lineTold session) ⌝ }
+{
+    if session.stage == Session::READING {
+        let feed = [b'\n'];
+        let whole = text_grown(session, &feed);
+        return board_line(whole, out);
+    }
+    if session.stage == Session::PLAYING {
+        return played_line(session, out);
+    }
+    Told {
+        session: session,
+        used: 0,
+    }
+}
+
+// Takes a piece of the input, up to and with its first line feed, and writes what is printed for it: OUTPUT bytes at most. What has no room in the
+// buffer is dropped.
+pub fn feed(session: Session, bytes: &[u8], out: &mut [u8]) -> Fed
+    ensures { λ r. ⌜ r .session ≡ fedSession session (now (bytes .entry)) ⌝ }
+    ensures { λ r. ⌜ r .taken ≡ takenOf (now (bytes .entry)) ⌝ }
+    ensures { λ r. ⌜ r .used ≡ length (fedTold session (now (bytes .entry))) ⌝ }
+    ensures { λ r. ⌜ r .used ≤ 8291 ⌝ }
+    ensures { λ _. ⌜ now (out .exit) ≡ sets (now (out .entry)) 0 (fedTold session (now (bytes .entry))) ⌝ }
+    ensures { λ r. ⌜ r .taken ≤ length (now (bytes .entry)) ⌝ }
+{
+    let at = lists::index_of(bytes, b'\n');
+    if bytes.len() <= at {
+        let next = grown(session, bytes);
+        return Fed {
+            session: next,
+            taken: bytes.len(),
+            used: 0,
+        };
+    }
+    let next = grown(session, &bytes[..at]);
+    let told = line_ended(next, out);
+    let last = told.session;
+    let taken = at + 1;
+    Fed {
+        session: last,
+        taken: taken,
+        used: told.used,
+    }
+}
+
+// Writes what is printed at the end of the input, and answers how many bytes.
+pub fn close(session: Session, out: &mut [u8]) -> usize
+    ensures { λ r. ⌜ r ≡ length (endTold session) ⌝ }
+    ensures { λ r. ⌜ r ≤ 8291 ⌝ }
+    ensures { λ _. ⌜ now (out .exit) ≡ sets (now (out .entry)) 0 (endTold session) ⌝ }
+{
+    if session.stage == Session::READING {
+        let loaded = board_loaded(session);
+        return put_load(out, loaded);
+    }
+    if session.stage == Session::PLAYING {
+        let scan = session.scan;
+        if play_lines::is_blank(scan) {
+            return 0;
+        }
+        return sheet_output::put_number(out, 0, 1);
+    }
+    0
+}

@@ -1,0 +1,42 @@
+-- The first line, the lines of the routes and the lines of the loads stand one behind the other.
+use native.Mathlib.Omega.{arith}
+use Rattle.report.proofs.Answers.{tables-written}
+use borrow.Author.Needs.{needs}
+use Rattle.report.proofs.put_tables.Statement.{statement}
+use Rattle.report.proofs.put_tables.Tie as tie
+
+slice-aggregate-put-line : tie.Need-slice-aggregate-put-line
+slice-aggregate-put-line c = search needs
+
+put-line-requires : tie.Need-put-line-requires
+put-line-requires c κs = search needs
+
+put-routes-requires : tie.Need-put-routes-requires
+put-routes-requires c κs = search needs
+
+put-loads-requires : tie.Need-put-loads-requires
+put-loads-requires c κs = search needs
+
+same-length : tie.Need-same-length
+same-length c = search needs
+
+returns : tie.Need-returns
+returns c =
+    let at-put-loads = c .before .before .put-loads in
+    let at-put-routes = c .before .before .before .before .before .before .put-routes in
+    let at-put-line = c .before .before .before .before .before .before .before .before .before .before .put-line in
+    let args = c .before .before .before .before .before .before .before .before .before .before .before .before .before .before .args in
+    let d = tables-written (args .net) (args .counts) (args .rows) (args .buf .now) _ _ _ (args .at) _ _ _ (at-put-line .ensures .0)
+    (at-put-line .ensures .1 .1) (at-put-routes .ensures .0) (at-put-routes .ensures .1 .1) (at-put-loads .ensures .0) (at-put-loads .ensures .1 .1) in
+    (d .0, (omega arith, d .1))
+
+pub put-tables-spec : {M : Type 1} → statement M
+put-tables-spec =
+    tie.close
+    (tie.spec
+    slice-aggregate-put-line
+    put-line-requires
+    put-routes-requires
+    put-loads-requires
+    same-length
+    returns)

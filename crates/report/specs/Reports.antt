@@ -1,0 +1,65 @@
+-- The route report: document 01, "Route sheet".
+use mathlib.Core.Bool.{Bool}
+use mathlib.Core.List.{List, [], _∷_, _++_}
+use Prim.Native.Nat.{ℕ}
+use lib.Dec.{leb, eqb}
+use lib.ListN.{length, getD, drop}
+use lib.Seq.{sets}
+use Rattle.lists.specs.Choice.{pick, both}
+use Rattle.board.specs.Record.{playStage, finishedStage}
+use Rattle.board.specs.declared.Board.{Board}
+use Rattle.text.specs.Text.{lineText, linesText}
+use Rattle.text.specs.declared.Written.{Written}
+use Rattle.move_guard.specs.Guard.{intact}
+use Rattle.report_routes.specs.Routes.{route, load}
+use Rattle.report_routes.specs.Tables.{routesFit}
+
+-- `M,mill,steps,` "and its channels from the spring on"
+abbrev pub routeRow : Board → ℕ → List ℕ
+routeRow b i = i ∷ length (route b i) ∷ route b i
+
+-- `L,channel,first flow,load`, "where first flow is the one in the board text and load is the sum of needs routed over it"
+abbrev pub loadRow : Board → ℕ → List ℕ
+loadRow b e = e ∷ getD (b .network .flows) e 0 ∷ load b e ∷ []
+
+-- `R,mills,channels`, then a line for each terminal and one for each edge
+unfoldable pub reportText : Board → List ℕ
+reportText b =
+    lineText 82 (b .network .terminals ∷ b .network .edges ∷ [])
+    ++ (linesText 77 (routeRow b) 0 (b .network .terminals) ++ linesText 76 (loadRow b) 0 (b .network .edges))
+
+-- a board that a load gave: in play or finished. Its routes are simple, so they have room in their rows: see the theorem about every finish
+unfoldable pub started : Board → Bool
+started b = both (both (leb playStage (b .stage)) (leb (b .stage) finishedStage)) (both (intact b) (routesFit b))
+
+-- "29 nothing was loaded. 28 not finished"; 0 where there is a report
+unfoldable pub unreported : Board → ℕ
+unreported b = pick (started b) (pick (eqb (b .stage) finishedStage) 0 28) 29
+
+-- the same by the stage, whether the board is intact, and whether its routes have room
+abbrev pub unreportedIn : ℕ → Bool → Bool → ℕ
+unreportedIn stage sound fit =
+    pick (both (both (leb playStage stage) (leb stage finishedStage)) (both sound fit)) (pick (eqb stage finishedStage) 0 28) 29
+
+-- "Sheet: 29, 28, 8", for a buffer of n bytes
+unfoldable pub sheetRefusal : Board → ℕ → ℕ
+sheetRefusal b n = pick (eqb (unreported b) 0) (pick (leb (length (reportText b)) n) 0 8) (unreported b)
+
+-- the call: 0 and the length of the text, or the number
+unfoldable pub sheetCall : Board → ℕ → Written
+sheetCall b n =
+    pick (eqb (sheetRefusal b n) 0) (record { answer = 0; used = length (reportText b) }) (record { answer = sheetRefusal b n; used = 0 })
+
+-- the buffer then: the text with the bytes past it kept, or as it was
+unfoldable pub sheeted : Board → List ℕ → List ℕ
+sheeted b buf = pick (eqb (sheetRefusal b (length buf)) 0) (reportText b ++ drop (length (reportText b)) buf) buf
+
+-- the same with the text at a place of the buffer, by stores that drop what is past its end; only a text that is to be whole needs room
+abbrev pub putRefusal : Board → Bool → ℕ → ℕ
+putRefusal b whole n = pick whole (sheetRefusal b n) (unreported b)
+
+abbrev pub putCall : Board → Bool → ℕ → Written
+putCall b whole n = record { answer = putRefusal b whole n; used = pick (eqb (putRefusal b whole n) 0) (length (reportText b)) 0 }
+
+abbrev pub putIn : Board → Bool → List ℕ → ℕ → List ℕ
+putIn b whole buf at = pick (eqb (putRefusal b whole (length buf)) 0) (sets buf at (reportText b)) buf

@@ -1,0 +1,29 @@
+-- The rows of the report, over the counts and the rows of the routes.
+use mathlib.Core.List.{List, [], _∷_, _++_}
+use Prim.Native.Nat.{ℕ, _≤_, _<_}
+use lib.ListN.{getD}
+use Rattle.board.specs.Limits.{maxVertices, maxEdges, maxTerminals}
+use Rattle.board.specs.declared.Network.{Network}
+use Rattle.text.specs.Text.{lineText, linesText}
+use Rattle.report_routes.specs.Tables.{rowAt, tableLoad, Moderate}
+
+-- terminal i, how many edges its route has, and its edges from the source on
+abbrev pub tableRouteRow : List ℕ → List (List ℕ) → ℕ → List ℕ
+tableRouteRow counts rows i = i ∷ getD counts i 0 ∷ rowAt counts rows i
+
+-- edge e, its flow in the text, and its load
+abbrev pub tableLoadRow : Network → List ℕ → List (List ℕ) → ℕ → List ℕ
+tableLoadRow net counts rows e = e ∷ getD (net .flows) e 0 ∷ tableLoad counts rows (net .demands) e (net .terminals) ∷ []
+
+-- the text of the report
+unfoldable pub tableText : Network → List ℕ → List (List ℕ) → List ℕ
+tableText net counts rows =
+    lineText 82 (net .terminals ∷ net .edges ∷ [])
+    ++ (linesText 77 (tableRouteRow counts rows) 0 (net .terminals) ++ linesText 76 (tableLoadRow net counts rows) 0 (net .edges))
+
+-- what the writing asks for: counts within the limits, demands whose sums do not wrap, and routes that have room in their rows
+pub record Printable (net : Network) (counts : List ℕ) : Type 0 where
+  pub edges : net .edges ≤ maxEdges
+  pub terminals : net .terminals ≤ maxTerminals
+  pub demands : Moderate (net .demands)
+  pub steps : (i : ℕ) → i < net .terminals → getD counts i 0 ≤ maxVertices

@@ -1,0 +1,210 @@
+// The call `sheet`: the route report.
+use board::Board;
+use board::Entry;
+use board::Network;
+use text::Written;
+ghost use mathlib.Core.Path.{_≡_};
+ghost use mathlib.Core.List.{_∷_};
+ghost use Prim.Native.Nat.{ℕ, _+_, _*_, _≤_, _<_};
+ghost use lib.Dec.{leb};
+ghost use lib.ListN.{length, getD, take};
+ghost use lib.Seq.{sets};
+ghost use Rattle.board.specs.Limits.{maxVertices, maxEdges, maxTerminals};
+ghost use Rattle.text.specs.Text.{lineText, linesText};
+ghost use Rattle.report_routes.specs.Tables.{Moderate};
+ghost use Rattle.report.specs.Reports.{unreportedIn, sheetCall, sheeted, putCall, putIn};
+ghost use Rattle.report.specs.Rows.{tableRouteRow, tableLoadRow, tableText, Printable};
+
+// How many numbers the line of a route has at most: the terminal, how many edges, and the edges.
+const ROUTE_NUMBERS: usize = Board::MAX_VERTICES as usize + 2;
+
+// A report has at most so many bytes: a line of 2 numbers, one of ROUTE_NUMBERS for each terminal, and one of 3 for each edge.
+const REPORT_BYTES: usize = 8280;
+
+// 29 or 28, in this order; 0 where there is a report. `sound`: the board is intact; `fit`: its routes have room in their rows.
+fn unreported_in(stage: u32, sound: bool, fit: bool) -> u32
+    ensures { λ r. ⌜ r ≡ unreportedIn stage sound fit ⌝ }
+{
+    let staged = lists::and(Board::PLAY <= stage, stage <= Board::FINISHED);
+    let whole = lists::and(sound, fit);
+    if !lists::and(staged, whole) {
+        return 29;
+    }
+    if stage == Board::FINISHED { 0 } else { 28 }
+}
+
+// The numbers of a route's line, and 0 behind them.
+fn route_row(
+    terminal: u32,
+    count: u32,
+    edges: [u32; Board::MAX_VERTICES as usize],
+) -> [u32; ROUTE_NUMBERS]
+    requires { ⌜ count ≤ maxVertices ⌝ }
+    ensures { λ r. ⌜ take (count + 2) r ≡ terminal ∷ count ∷ take count edges ⌝ }
+{
+    let mut row = [0u32; ROUTE_NUMBERS];
+    row[0] = terminal;
+    row[1] = count;
+    let mut left = count as usize;
+    while 0 < left {
+        let k = count as usize - left;
+        row[k + 2] = edges[k];
+        left -= 1;
+    }
+    row
+}
+
+// Writes the line of a terminal's route. A line of n numbers has at most 2 + 11 × n bytes.
+fn put_route(
+    buf: &mut [u8],
+    at: usize,
+    terminal: u32,
+    count: u32,
+    edges: [u32; Board::MAX_VERTICES as usize],
+) -> usize
+    requires { ⌜ (at ≤ 131072) × (count ≤ maxVertices) ⌝ }
+    ensures { λ r. ⌜ r ≡ at + length (lineText 77 (terminal ∷ count ∷ take count edges)) ⌝ }
+    ensures { λ r. ⌜ r ≤ at + 376 ⌝ }
+    ensures { λ r. ⌜ now (buf .exit) ≡ sets (now (buf .entry)) at (lineText 77 (terminal ∷ count ∷ take count edges)) ⌝ }
+{
+    let row = route_row(terminal, count, edges);
+    let end = count as usize + 2;
+    text_writer::put_line(buf, at, b'M', &row[..end])
+}
+
+// Writes the lines of the routes.
+fn put_routes(
+    buf: &mut [u8],
+    at: usize,
+    counts: [u32; Board::MAX_TERMINALS],
+    rows: [[u32; Board::MAX_VERTICES as usize]; Board::MAX_TERMINALS],
+    terminals: u32,
+) -> usize
+    requires { ⌜ (at ≤ 100000) × ((terminals ≤ maxTerminals) × ((i : ℕ) → i < terminals → getD counts i 0 ≤ maxVertices)) ⌝ }
+    ensures { λ r. ⌜ r ≡ at + length (linesText 77 (tableRouteRow counts rows) 0 terminals) ⌝ }
+    ensures { λ r. ⌜ r ≤ at + 376 * maxTerminals ⌝ }
+    ensures { λ r. ⌜ now (buf .exit) ≡ sets (now (buf .entry)) at (linesText 77 (tableRouteRow counts rows) 0 terminals) ⌝ }
+{
+    let mut to = at;
+    let mut i: u32 = 0;
+    while i < terminals {
+        let count = counts[i as usize];
+        let edges = rows[i as usize];
+        to = put_route(buf, to, i, count, edges);
+        i += 1;
+    }
+    to
+}
+
+// Writes the lines of the loads.
+fn put_loads(
+    buf: &mut [u8],
+    at: usize,
+    net: Network,
+    counts: [u32; Board::MAX_TERMINALS],
+    rows: [[u32; Board::MAX_VERTICES as usize]; Board::MAX_TERMINALS],
+) -> usize
+    requires { ⌜ (at ≤ 100000) × ((net .edges ≤ maxEdges) × ((net .terminals ≤ maxTerminals) × Moderate (net .demands))) ⌝ }
+    ensures { λ r. ⌜ r ≡ at + length (linesText 76 (tableLoadRow net counts rows) 0 (net .edges)) ⌝ }
+    ensures { λ r. ⌜ r ≤ at + 35 * maxEdges ⌝ }
+    ensures { λ r. ⌜ now (buf .exit) ≡ sets (now (buf .entry)) at (linesText 76 (tableLoadRow net counts rows) 0 (net .edges)) ⌝ }
+{
+    let edges = net.edges;
+    let terminals = net.terminals;
+    let flows = net.flows;
+    let demands = net.demands;
+    let routes = report_routes::edge_sets(counts, rows, terminals);
+    let mut to = at;
+    let mut e: u32 = 0;
+    while e < edges {
+        let flow = flows[e as usize];
+        let load = report_routes::load(routes, demands, terminals, e);
+        let row = [e, flow, load];
+        to = text_writer::put_line(buf, to, b'L', &row);
+        e += 1;
+    }
+    to
+}
+
+// Writes the report by the routes at a place of the buffer, and answers the place behind it. A byte past the end of the buffer is dropped.
+fn put_tables(
+    buf: &mut [u8],
+    at: usize,
+    net: Network,
+    counts: [u32; Board::MAX_TERMINALS],
+    rows: [[u32; Board::MAX_VERTICES as usize]; Board::MAX_TERMINALS],
+) -> usize
+    requires { ⌜ (at ≤ 65536) × Printable net counts ⌝ }
+    ensures { λ r. ⌜ r ≡ at + length (tableText net counts rows) ⌝ }
+    ensures { λ r. ⌜ r ≤ at + 8280 ⌝ }
+    ensures { λ r. ⌜ now (buf .exit) ≡ sets (now (buf .entry)) at (tableText net counts rows) ⌝ }
+{
+    let sizes = [net.terminals, net.edges];
+    let head = text_writer::put_line(buf, at, b'R', &sizes);
+    let routes = put_routes(buf, head, counts, rows, net.terminals);
+    put_loads(buf, routes, net, counts, rows)
+}
+
+// Whether the report has room in so many bytes: it is measured by writing it into a buffer that drops it.
+fn has_room(
+    room: usize,
+    net: Network,
+    counts: [u32; Board::MAX_TERMINALS],
+    rows: [[u32; Board::MAX_VERTICES as usize]; Board::MAX_TERMINALS],
+) -> bool
+    requires { ⌜ Printable net counts ⌝ }
+    ensures { λ r. ⌜ r ≡ leb (length (tableText net counts rows)) room ⌝ }
+{
+    let mut none = [0u8; 1];
+    let length = put_tables(&mut none, 0, net, counts, rows);
+    length <= room
+}
+
+// Writes the report of a board at a place of the buffer, and answers its length, or the number that it is refused with. A byte past the end of the buffer is
+// dropped; where the report is to be whole, a buffer that is too short for it is refused.
+pub fn put_sheet(buf: &mut [u8], at: usize, whole: bool, board: Board) -> Written
+    requires { ⌜ at ≤ 65536 ⌝ }
+    ensures { λ r. ⌜ r ≡ putCall board whole (length (now (buf .entry))) ⌝ }
+    ensures { λ r. ⌜ r .used ≤ 8280 ⌝ }
+    ensures { λ _. ⌜ now (buf .exit) ≡ putIn board whole (now (buf .entry)) at ⌝ }
+{
+    let net = board.network;
+    let acyclic = board.acyclic;
+    let flows = board.flows;
+    let places = board.places;
+    let k = lists::minus(board.moves, 1) as usize;
+    let mut last = Entry::blank();
+    if k < Board::JOURNAL {
+        last = board.journal[k];
+    }
+    let step = last.step;
+    let sound = move_guard::intact_in(net, acyclic, flows, places, board.moves, step);
+    let mut counts = [0u32; Board::MAX_TERMINALS];
+    let rows = report_routes::fill(board.journal, board.moves, &mut counts);
+    let fit = report_routes::routes_fit(counts, net.terminals);
+    let number = unreported_in(board.stage, sound, fit);
+    if number != 0 {
+        return Written {
+            answer: number,
+            used: 0,
+        };
+    }
+    if lists::and(whole, buf.len() < REPORT_BYTES) {
+        if !has_room(buf.len(), net, counts, rows) {
+            return Written { answer: 8, used: 0 };
+        }
+    }
+    let end = put_tables(buf, at, net, counts, rows);
+    Written {
+        answer: 0,
+        used: end - at,
+    }
+}
+
+// Writes the route report: 29 where no board was loaded, 28 before a finish, then 8 where the buffer is too short for the text.
+pub fn sheet(board: Board, buf: &mut [u8]) -> Written
+    ensures { λ r. ⌜ r ≡ sheetCall board (length (now (buf .entry))) ⌝ }
+    ensures { λ _. ⌜ now (buf .exit) ≡ sheeted board (now (buf .entry)) ⌝ }
+{
+    put_sheet(buf, 0, true, board)
+}

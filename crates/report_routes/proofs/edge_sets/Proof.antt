@@ -1,0 +1,82 @@
+-- Each terminal that was passed has the set of its route in its place.
+use mathlib.Core.Path.{_≡_, refl, _∙_}
+use Prim.Native.Nat.{_-_, _≤_}
+use native.Mathlib.Omega.{arith}
+use lib.ListN.{length, length-set}
+use borrow.Author.Needs.{needs}
+use Rattle.board.specs.Limits.{maxTerminals}
+use Rattle.report_routes.specs.Tables.{AreRouteSets}
+use Rattle.report_routes.proofs.Loops.{routes-turn}
+use Rattle.report_routes.proofs.edge_sets.Statement.{statement}
+use Rattle.report_routes.proofs.edge_sets.Tie as tie
+
+abbrev Inv-loop : tie.InvT-loop
+Inv-loop terminals counts rows routes₀ i₀ routes i = (length routes ≡ maxTerminals) × (i ≤ terminals) × AreRouteSets routes counts rows i
+
+abbrev μ-loop : tie.MeasureT-loop
+μ-loop terminals counts rows routes₀ i₀ routes i = terminals - i
+
+loop-holds : tie.Need-loop-holds Inv-loop μ-loop
+loop-holds c = (refl, omega arith, λ i h. absurd (omega arith))
+
+mul-row : tie.Need-mul-row Inv-loop μ-loop
+mul-row c = search needs
+
+array-copy-out-row : tie.Need-array-copy-out-row Inv-loop μ-loop
+array-copy-out-row c = search needs
+
+mul-count : tie.Need-mul-count Inv-loop μ-loop
+mul-count c = search needs
+
+array-read-count : tie.Need-array-read-count Inv-loop μ-loop
+array-read-count c = search needs
+
+cast-row-set : tie.Need-cast-row-set Inv-loop μ-loop
+cast-row-set c = search needs
+
+row-set-requires : tie.Need-row-set-requires Inv-loop μ-loop
+row-set-requires c κs = search needs
+
+mul-routes : tie.Need-mul-routes Inv-loop μ-loop
+mul-routes c = search needs
+
+array-write-routes : tie.Need-array-write-routes Inv-loop μ-loop
+array-write-routes c = search needs
+
+add-i : tie.Need-add-i Inv-loop μ-loop
+add-i c = search needs
+
+loop-less : tie.Need-loop-less Inv-loop μ-loop
+loop-less c = search needs
+
+loop-again : tie.Need-loop-again Inv-loop μ-loop
+loop-again c =
+    let at-loop = c .before .before .before .loop in
+    let start = c .before .before .before .before in (
+      length-set (at-loop .routes) _ _ ∙ at-loop .inv .0,
+      omega arith,
+      routes-turn (at-loop .routes) (start .args .t1) (start .args .t2) (at-loop .i) _ (omega arith) (at-loop .inv .2) (c .row-set .ensures),
+    )
+
+returns : tie.Need-returns Inv-loop μ-loop
+returns c i h = c .before .loop .inv .2 i (omega arith)
+
+pub edge-sets-spec : {M : Type 1} → statement M
+edge-sets-spec =
+    tie.close
+    (tie.spec
+    Inv-loop
+    μ-loop
+    loop-holds
+    mul-row
+    array-copy-out-row
+    mul-count
+    array-read-count
+    cast-row-set
+    row-set-requires
+    mul-routes
+    array-write-routes
+    add-i
+    loop-less
+    loop-again
+    returns)

@@ -1,0 +1,52 @@
+-- The report where there is one, and else its number: then nothing was written before it.
+use mathlib.Core.Path.{ap, _∙_}
+use native.Mathlib.Omega.{arith}
+use lib.ListN.{length}
+use Rattle.sheet_output.proofs.Prints.{report-refused, report-given}
+use borrow.Author.Needs.{needs}
+use Rattle.sheet_output.proofs.put_report.Statement.{statement}
+use Rattle.sheet_output.proofs.put_report.Tie as tie
+
+put-sheet-requires : tie.Need-put-sheet-requires
+put-sheet-requires c κs = search needs
+
+put-number-requires : tie.Need-put-number-requires
+put-number-requires c κs = search needs
+
+same-length : tie.Need-same-length
+same-length c = search needs
+
+returns : tie.Need-returns
+returns c =
+    let at-put-number = c .before .before .put-number in
+    let at-put-sheet = c .before .before .before .before .before .before .before .before .put-sheet in
+    let args = c .before .before .before .before .before .before .before .before .before .before .before .args in
+    let e = report-refused (args .board) (args .buf .now) _ (args .at) _ (at-put-sheet .ensures .0) (at-put-sheet .ensures .1 .1) (c .before .before .before .before .if1 .taken) in (
+      omega (arith, ap length (e .0)),
+      (omega arith, at-put-number .ensures .1 .1 ∙ rw (e .0, e .1)),
+    )
+
+add-result : tie.Need-add-result
+add-result c = search needs
+
+same-length-2 : tie.Need-same-length-2
+same-length-2 c = search needs
+
+returns-2 : tie.Need-returns-2
+returns-2 c =
+    let at-put-sheet = c .before .before .before .before .before .put-sheet in
+    let args = c .before .before .before .before .before .before .before .before .args in
+    let e = report-given (args .board) (args .buf .now) _ (args .at) _ (at-put-sheet .ensures .0) (at-put-sheet .ensures .1 .1) (c .before .if1 .left) in
+    (omega (arith, e .0), (omega arith, e .1))
+
+pub put-report-spec : {M : Type 1} → statement M
+put-report-spec =
+    tie.close
+    (tie.spec
+    put-sheet-requires
+    put-number-requires
+    same-length
+    returns
+    add-result
+    same-length-2
+    returns-2)

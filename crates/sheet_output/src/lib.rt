@@ -1,0 +1,65 @@
+// What the programs read and print, over slices.
+use board::Board;
+ghost use mathlib.Core.Path.{_≡_};
+ghost use Prim.Native.Nat.{_+_, _≤_};
+ghost use lib.ListN.{length};
+ghost use lib.Seq.{sets};
+ghost use Rattle.sheet_output.specs.Outputs.{numberLine, reportOf, sheetOutput};
+ghost use Rattle.sheet_output.specs.Inputs.{linesWanted};
+
+// Writes a number and a line feed at a place of the buffer, and answers the place behind them. A byte past the end of the buffer is dropped.
+pub fn put_number(buf: &mut [u8], at: usize, n: u32) -> usize
+    requires { ⌜ at ≤ 65536 ⌝ }
+    ensures { λ r. ⌜ r ≡ at + length (numberLine n) ⌝ }
+    ensures { λ r. ⌜ r ≤ at + 11 ⌝ }
+    ensures { λ r. ⌜ now (buf .exit) ≡ sets (now (buf .entry)) at (numberLine n) ⌝ }
+{
+    let end = decimal::write_number(buf, at, n);
+    lists::put_byte(buf, end, b'\n');
+    end + 1
+}
+
+// Writes the report of a board in the same way, or the number that it is refused with.
+pub fn put_report(buf: &mut [u8], at: usize, board: Board) -> usize
+    requires { ⌜ at ≤ 65536 ⌝ }
+    ensures { λ r. ⌜ r ≡ at + length (reportOf board) ⌝ }
+    ensures { λ r. ⌜ r ≤ at + 8280 ⌝ }
+    ensures { λ r. ⌜ now (buf .exit) ≡ sets (now (buf .entry)) at (reportOf board) ⌝ }
+{
+    let written = report::put_sheet(buf, at, false, board);
+    if written.answer != 0 {
+        return put_number(buf, at, written.answer);
+    }
+    at + written.used
+}
+
+// Writes what the program `sheet` prints for an input, and answers how many bytes.
+pub fn sheet_output(input: &[u8], out: &mut [u8]) -> usize
+    ensures { λ r. ⌜ r ≡ length (sheetOutput (now (input .entry))) ⌝ }
+    ensures { λ r. ⌜ r ≤ 8280 ⌝ }
+    ensures { λ r. ⌜ now (out .exit) ≡ sets (now (out .entry)) 0 (sheetOutput (now (input .entry))) ⌝ }
+{
+    let loaded = load::load(input);
+    if loaded.answer != 0 {
+        return put_number(out, 0, loaded.answer);
+    }
+    let board = loaded.board;
+    let finished = solve_finish::finish(board);
+    if finished.answer != 0 {
+        return put_number(out, 0, finished.answer);
+    }
+    let last = finished.board;
+    put_report(out, 0, last)
+}
+
+// How many lines the board has whose text starts with this.
+pub fn lines_wanted(text: &[u8]) -> u32
+    ensures { λ r. ⌜ r ≡ linesWanted (now (text .entry)) ⌝ }
+{
+    let head = text_reader::header(text);
+    if head.answer != 0 {
+        return 1;
+    }
+    let net = head.network;
+    1 + net.edges + net.terminals
+}

@@ -1,0 +1,83 @@
+-- The moves of a finish over the parts of a board in play, as the code makes them: the network, the flows, the marks and the places. They come to the same board as
+-- the moves of the definition `playedOut`, which tests the whole board at each move; here only the numbers are tested that a move can put past their limits.
+use mathlib.Core.Path.{_≡_}
+use mathlib.Core.Bool.{Bool, true, false}
+use mathlib.Core.List.{List}
+use Prim.Native.Nat.{ℕ, _-_}
+use lib.Dec.{leb, ltb, eqb}
+use lib.ListN.{length, getD}
+use Rattle.lists.specs.Choice.{pick, both}
+use Rattle.lists.specs.Lists.{all, lowest}
+use Rattle.sets.specs.Sets.{dropped}
+use Rattle.move_edges.specs.Incidence.{PositiveSet}
+use Rattle.board.specs.Limits.{maxEdges, maxTerminals, maxMoves, maxTotal}
+use Rattle.board.specs.declared.Board.{Board}
+use Rattle.board.specs.declared.Network.{Network}
+use Rattle.move_guard.specs.Guard.{playing}
+use Rattle.move_guard.specs.Moved.{unchanged}
+use Rattle.move_guard.specs.declared.Change.{Change}
+use Rattle.move_carry.specs.Carries.{carriedIn}
+use Rattle.move_turn.specs.Turns.{turnChange}
+use Rattle.solve_walk.specs.Walk.{cycleOf}
+use Rattle.solve_carry.specs.Search.{hasOpenAt, chosenEdgeIn}
+use Rattle.solve_next.specs.Choosing.{allHomeIn}
+use Rattle.solve_finish.specs.declared.Made.{Made}
+
+-- no flow is above what the terminals need together at most
+unfoldable pub allSmall : List ℕ → Bool
+allSmall flows = all (λ e. leb (getD flows e 0) maxTotal) 0 maxEdges
+
+-- the lowest terminal with an open carry, or the count of terminals: `openTerminal` over the parts of a board
+unfoldable pub openTerminalIn : Network → List ℕ → ℕ → List ℕ → ℕ
+openTerminalIn net flows marks places = lowest (hasOpenAt (net .heads) (net .demands) (net .edges) flows marks places) 0 (net .terminals)
+
+-- the wet channels where channel e has the rest of its flow
+unfoldable pub positiveAfter : ℕ → ℕ → ℕ → ℕ
+positiveAfter positive rest e = pick (eqb rest 0) (dropped positive e) positive
+
+-- what the solver's carry of terminal i over edge e, which is open, changes: nothing where the terminal is at the source
+unfoldable pub carryStep : Network → List ℕ → ℕ → List ℕ → ℕ → ℕ → Change
+carryStep net flows marks places i e =
+    pick (eqb (getD places i 0) (net .source)) (unchanged 21 flows marks places) (carriedIn net flows marks places i e)
+
+-- what the solver changes where no carry is open: nothing where every terminal is at the source
+unfoldable pub turnStep : Network → List ℕ → ℕ → List ℕ → Change
+turnStep net flows marks places =
+    pick (allHomeIn (net .terminals) (net .source) places)
+    (unchanged 28 flows marks places)
+    (turnChange true false net flows marks places (cycleOf (net .tails) (net .heads) flows (net .vertices) (net .source)))
+
+-- what the solver's next move changes on a board in play of these parts; a number other than 0 where it makes none
+unfoldable pub stepChange : Network → List ℕ → ℕ → List ℕ → Change
+stepChange net flows marks places =
+    pick (ltb (openTerminalIn net flows marks places) (net .terminals))
+    (carryStep net flows marks places (openTerminalIn net flows marks places)
+    (chosenEdgeIn (net .heads) (net .demands) (net .edges) flows marks places (openTerminalIn net flows marks places)))
+    (turnStep net flows marks places)
+
+-- the lists of a network have the lengths that the code gives them
+pub record Sized (net : Network) : Type 0 where
+  pub tails : length (net .tails) ≡ maxEdges
+  pub heads : length (net .heads) ≡ maxEdges
+  pub demands : length (net .demands) ≡ maxTerminals
+
+-- the parts of a board in play
+pub record InPlay (net : Network) (flows : List ℕ) (marks : ℕ) (places : List ℕ) : Type 0 where
+  pub board : Board
+  pub play : playing board ≡ true
+  pub its-network : board .network ≡ net
+  pub its-flows : board .flows ≡ flows
+  pub its-marks : board .marks ≡ marks
+  pub its-places : board .places ≡ places
+  pub long : length flows ≡ maxEdges
+  pub sized : Sized net
+
+-- a move of the solver is this change, with the wet channels after it, and whether the flows are small then
+pub record Makes (change : Change) (made : Made) : Type 0 where
+  pub changes : made .change ≡ change
+  pub is-positive : PositiveSet (made .change .flows) (made .positive)
+  pub smalls : made .small ≡ allSmall (made .change .flows)
+
+-- the moves that are left of a run where the board is in play after one of them, else none
+unfoldable pub leftAfter : ℕ → ℕ → Bool → ℕ
+leftAfter left moves small = pick (both (leb moves maxMoves) small) (left - 1) 0

@@ -1,0 +1,86 @@
+-- What the solver leans on holds of the parts of a board in play: its guard has tested them. With the sets of the lists it is what the search and the walk ask for.
+use mathlib.Core.Path.{_≡_, sym, _∙_}
+use mathlib.Core.Bool.{true}
+use mathlib.Core.List.{List}
+use mathlib.Core.Logic.{_⊎_, inl, inr}
+use Prim.Native.Nat.{ℕ, _<_, _≤_}
+use native.Mathlib.Omega.{arith}
+use lib.ListN.{length, getD, List·getD-eq-default}
+use borrow.Author.Tests.{lt-ltb, le-ltb, ltb-true, leb-true, eqb-true, eq-eqb}
+use Rattle.lists.proofs.Laws.{lt-or-ge, pick-yes, pick-no, both-left, both-right}
+use Rattle.board.specs.Limits.{maxVertices, maxEdges}
+use Rattle.board.specs.declared.Board.{Board}
+use Rattle.board.specs.declared.Network.{Network}
+use Rattle.move_guard.specs.Parts.{flow, acyclicFlow, demand, place}
+use Rattle.move_guard.specs.Guard.{terminalIntact, intact, playing}
+use Rattle.move_guard.proofs.Facts.{intact-vertices, intact-edges, intact-terminals, intact-source, intact-edge, intact-terminal, intact-tail, intact-head, playing-intact}
+use Rattle.move_edges.specs.Incidence.{Incident, PositiveSet}
+use Rattle.solve_carry.specs.Search.{Searched}
+use Rattle.solve_walk.specs.Chart.{Charted}
+use Rattle.solve_next.specs.Parts.{Searchable, Walkable}
+
+module _ (b : Board) (play : playing b ≡ true) where
+  sound : intact b ≡ true
+  sound = playing-intact b play
+
+  pub playing-vertices : b .network .vertices ≤ maxEdges
+  playing-vertices = omega (arith, intact-vertices b sound)
+
+  -- the places past the edges hold no flow: their text flow is 0, so the acyclic flow is, and the flow with it
+  past-zero : length (b .flows) ≡ maxEdges → (e : ℕ) → b .network .edges ≤ e → flow b e ≡ 0
+  past-zero long e above = go (lt-or-ge e maxEdges)
+    where
+      go : (e < maxEdges) ⊎ (maxEdges ≤ e) → flow b e ≡ 0
+      go (inl h) =
+          let tests = intact-edge b sound e h in
+          let numbers = sym (pick-no _ _ _ (le-ltb e (b .network .edges) above)) ∙ both-left _ _ tests in
+          let text : getD (b .network .flows) e 0 ≡ 0 = eqb-true _ _ (both-right _ _ (both-right _ _ numbers)) in
+          let least : acyclicFlow b e ≤ getD (b .network .flows) e 0 = leb-true _ _ (both-left _ _ (both-right _ _ tests)) in
+          let none : acyclicFlow b e ≡ 0 = omega (arith, text, least) in
+          eqb-true _ _ (sym (pick-yes _ _ _ (eq-eqb _ _ none)) ∙ both-right _ _ (both-right _ _ tests))
+      go (inr h) = List·getD-eq-default (b .flows) 0 (omega (arith, long))
+
+  -- a terminal is at a vertex and needs something
+  module _ (i : ℕ) (below : i < b .network .terminals) where
+    numbers : terminalIntact b i ≡ true
+    numbers = intact-terminal b sound i (omega (arith, below, intact-terminals b sound))
+
+    place-vertex : place b i < maxVertices
+    place-vertex =
+        let h : place b i < b .network .vertices = ltb-true _ _ (sym (pick-yes _ _ _ (lt-ltb i (b .network .terminals) below)) ∙ both-right _ _ numbers) in
+        omega (arith, h, intact-vertices b sound)
+
+    demand-some : 0 < demand b i
+    demand-some =
+        let fits = sym (pick-yes _ _ _ (lt-ltb i (b .network .terminals) below)) ∙ both-left _ _ numbers in
+        let h : 1 ≤ demand b i = leb-true _ _ (both-left _ _ (both-right _ _ fits)) in
+        omega (arith, h)
+
+  pub playing-searchable : length (b .flows) ≡ maxEdges → Searchable (b .network) (b .flows) (b .places)
+  playing-searchable long = record { few = intact-edges b sound; past = past-zero long; placed = place-vertex; needs = demand-some }
+
+  pub playing-walkable : length (b .network .tails) ≡ maxEdges → length (b .network .heads) ≡ maxEdges → Walkable (b .network)
+  playing-walkable tails heads = record {
+    small = playing-vertices;
+    source = omega (arith, intact-source b sound, intact-vertices b sound);
+    tailed = intact-tail b sound tails;
+    headed = intact-head b sound heads;
+  }
+
+-- with the sets
+module _ (net : Network) (flows : List ℕ) (positive : ℕ) (is-positive : PositiveSet flows positive) (long : length flows ≡ maxEdges) where
+  pub searched : (places entering : List ℕ) → Searchable net flows places → Incident (net .heads) entering
+      → Searched (net .heads) entering (net .demands) (net .terminals) (net .edges) flows positive places
+  searched places entering s at = record {
+    enter = at;
+    is-positive = is-positive;
+    all = long;
+    few = s .few;
+    past = s .past;
+    placed = s .placed;
+    needs = s .needs;
+  }
+
+  pub charted : (leaving entering : List ℕ) → Walkable net → Incident (net .tails) leaving → Incident (net .heads) entering
+      → Charted (net .tails) (net .heads) flows leaving entering positive
+  charted leaving entering w leave enter = record { leave = leave; enter = enter; is-positive = is-positive; all = long; tailed = w .tailed; headed = w .headed }

@@ -1,0 +1,3 @@
+pub mod Intact
+pub mod Advised
+pub mod Ways

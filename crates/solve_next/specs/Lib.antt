@@ -1,0 +1,3 @@
+pub mod Choosing
+pub mod Parts
+pub mod Hints

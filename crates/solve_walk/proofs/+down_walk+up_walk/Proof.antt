@@ -1,0 +1,394 @@
+-- Each case of the code is the case of the walk that the laws state; the count of vertices left falls at each call.
+use mathlib.Core.Path.{_≡_, sym, _∙_}
+use borrow.Author.Needs.{needs}
+use native.Mathlib.Omega.{arith}
+use lib.Dec.{eqb}
+use Rattle.lists.specs.Choice.{either}
+use Rattle.sets.specs.Sets.{hasBit}
+use Rattle.board.specs.Limits.{maxVertices}
+use Rattle.graph_flows.specs.Trails.{down, up}
+use Rattle.solve_walk.specs.Walk.{another, parts}
+use Rattle.solve_walk.proofs.Charts.{falls-in, climbs-in, parting-in, seen-more}
+use Rattle.solve_walk.proofs.Walks.{room-now, room-step, room-on, left-some, vertex-bit}
+use Rattle.solve_walk.proofs.Walks.{down-stops, up-stops, down-falls, down-climbs, up-falls, up-climbs}
+use Prim.Native.Nat.{ℕ, _<_}
+use borrow.Fn.Kinds.{In}
+use borrow.Fn.PlainCycle.{Measures, is, falls, and}
+use Rattle.solve_walk.proofs.down_walk.Reads as down-walk
+use Rattle.solve_walk.proofs.down_walk.Kinds as down-walk-kinds
+use Rattle.solve_walk.proofs.+down_walk+up_walk.Lts-down_walk as down-walk-lts
+use Rattle.solve_walk.proofs.up_walk.Reads as up-walk
+use Rattle.solve_walk.proofs.up_walk.Kinds as up-walk-kinds
+use Rattle.solve_walk.proofs.+down_walk+up_walk.Lts-up_walk as up-walk-lts
+use Rattle.lists.proofs.or.Reads as or-reads
+use Rattle.lists.proofs.word_at.Reads as word-at-reads
+use Rattle.sets.proofs.has.Reads as has-reads
+use Rattle.solve_walk.proofs.another.Reads as another-reads
+use Rattle.solve_walk.proofs.meet.Reads as meet-reads
+use Rattle.solve_walk.proofs.parts.Reads as parts-reads
+use Rattle.solve_walk.proofs.since_met.Reads as since-met-reads
+use Rattle.solve_walk.proofs.with_step.Reads as with-step-reads
+use Rattle.solve_walk.proofs.+down_walk+up_walk.{statement}
+use Rattle.solve_walk.proofs.+down_walk+up_walk.Tie.{close}
+
+abbrev μ-down-walk : Measures 1 down-walk-kinds.ps ℕ
+μ-down-walk κs a = a .1 .1 .1 .1 .1 .1 .1 .0
+
+abbrev μ-up-walk : Measures 1 up-walk-kinds.ps ℕ
+μ-up-walk κs a = a .1 .1 .1 .1 .1 .1 .1 .0
+
+abbrev down-walk-at : ℕ → In 1 down-walk-kinds.ps
+down-walk-at t = and 1 down-walk-kinds.ps (is 1 down-walk-kinds.ps μ-down-walk t) down-walk.Pre
+
+abbrev down-walk-below : ℕ → In 1 down-walk-kinds.ps
+down-walk-below t =
+    and 1 down-walk-kinds.ps (falls 1 down-walk-kinds.ps _<_ μ-down-walk t) down-walk.Pre
+
+abbrev up-walk-at : ℕ → In 1 up-walk-kinds.ps
+up-walk-at t = and 1 up-walk-kinds.ps (is 1 up-walk-kinds.ps μ-up-walk t) up-walk.Pre
+
+abbrev up-walk-below : ℕ → In 1 up-walk-kinds.ps
+up-walk-below t = and 1 up-walk-kinds.ps (falls 1 up-walk-kinds.ps _<_ μ-up-walk t) up-walk.Pre
+
+-- what the calls of each function ask and promise
+abbrev down-calls : ℕ → down-walk-lts.Claims
+down-calls t = (
+  has-reads.Asked,
+  has-reads.Learnt,
+  or-reads.Asked,
+  or-reads.Learnt,
+  since-met-reads.Asked,
+  since-met-reads.Learnt,
+  another-reads.Asked,
+  another-reads.Learnt,
+  with-step-reads.Asked,
+  with-step-reads.Learnt,
+  meet-reads.Asked,
+  meet-reads.Learnt,
+  word-at-reads.Asked,
+  word-at-reads.Learnt,
+  down-walk-below t,
+  down-walk.Post,
+  up-walk-below t,
+  up-walk.Post,
+)
+
+abbrev up-calls : ℕ → up-walk-lts.Claims
+up-calls t = (
+  has-reads.Asked,
+  has-reads.Learnt,
+  or-reads.Asked,
+  or-reads.Learnt,
+  since-met-reads.Asked,
+  since-met-reads.Learnt,
+  parts-reads.Asked,
+  parts-reads.Learnt,
+  another-reads.Asked,
+  another-reads.Learnt,
+  with-step-reads.Asked,
+  with-step-reads.Learnt,
+  meet-reads.Asked,
+  meet-reads.Learnt,
+  word-at-reads.Asked,
+  word-at-reads.Learnt,
+  down-walk-below t,
+  down-walk.Post,
+  up-walk-below t,
+  up-walk.Post,
+)
+
+-- where the walk stops
+down-stop : (t : ℕ) (o : down-walk-lts.After-or (down-calls t) (down-walk-at t) down-walk.Post) → let s = o .before .before .before .before .before .before .before in
+    o .or .result ≡ either (eqb (s .args .left) 0) (hasBit (s .args .seen) (s .args .v))
+down-stop t o = rw (o .before .has .ensures) at (o .or .ensures)
+
+down-some : (t : ℕ) (g : down-walk-lts.Else1 (down-calls t) (down-walk-at t) down-walk.Post) → g .before .before .before .before .before .before .before .before .args .left ≡ 0 → ⊥
+down-some t g = left-some _ _ _ (down-stop t (g .before)) (g .if1 .left)
+
+-- the edge that it goes on by
+down-fell : (t : ℕ) (a : down-walk-lts.After-another (down-calls t) (down-walk-at t) down-walk.Post) → let s = a .before .before .before .before .before .before .before .before .before in
+    a .another .result ≡ another (s .args .tails .now) (s .args .flows .now) (s .args .v) (s .args .x)
+down-fell t a =
+    let s = a .before .before .before .before .before .before .before .before .before in
+    a .another .ensures ∙ falls-in _ _ _ _ _ _ _ (s .pre .1 .1 .0) (search needs) (s .pre .1 .1 .1 .1) _
+
+down-climbed : (t : ℕ) (a : down-walk-lts.After-another2 (down-calls t) (down-walk-at t) down-walk.Post) → let s = a .before .before .before .before .before .before .before .before .before .before .before in
+    a .another2 .result ≡ another (s .args .heads .now) (s .args .flows .now) (s .args .v) (s .args .x)
+down-climbed t a =
+    let s = a .before .before .before .before .before .before .before .before .before .before .before in
+    a .another2 .ensures ∙ climbs-in _ _ _ _ _ _ _ (s .pre .1 .1 .0) (search needs) (s .pre .1 .1 .1 .1) _
+
+down-walk-has-requires : (t : ℕ) → down-walk-lts.Need-has-requires (down-calls t) (down-walk-at t) down-walk.Post
+down-walk-has-requires t c κs = search needs
+
+down-walk-or-requires : (t : ℕ) → down-walk-lts.Need-or-requires (down-calls t) (down-walk-at t) down-walk.Post
+down-walk-or-requires t c κs = search needs
+
+down-walk-since-met-requires : (t : ℕ) → down-walk-lts.Need-since-met-requires (down-calls t) (down-walk-at t) down-walk.Post
+down-walk-since-met-requires t c κs = let s = c .before .before .before .before .before .before .before .before in room-now (s .args .walk) (s .args .left) (s .pre .1 .0)
+
+down-walk-returns : (t : ℕ) → down-walk-lts.Need-returns (down-calls t) (down-walk-at t) down-walk.Post
+down-walk-returns t c =
+    let s = c .before .before .before .before .before .before .before .before .before in
+    down-stops _ _ _ _ _ _ _ _ _ _ (s .pre .1 .1 .1 .0 _ (s .pre .1 .1 .1 .1)) (down-stop t (c .before .before)) (c .before .if1 .taken) (c .since-met .ensures)
+
+down-walk-another-requires : (t : ℕ) → down-walk-lts.Need-another-requires (down-calls t) (down-walk-at t) down-walk.Post
+down-walk-another-requires t c κs = search needs
+
+down-walk-cast-if2 : (t : ℕ) → down-walk-lts.Need-cast-if2 (down-calls t) (down-walk-at t) down-walk.Post
+down-walk-cast-if2 t c = search needs
+
+down-walk-cast-with-step : (t : ℕ) → down-walk-lts.Need-cast-with-step (down-calls t) (down-walk-at t) down-walk.Post
+down-walk-cast-with-step t c = search needs
+
+down-walk-with-step-requires : (t : ℕ) → down-walk-lts.Need-with-step-requires (down-calls t) (down-walk-at t) down-walk.Post
+down-walk-with-step-requires t c κs =
+    let s = c .before .before .before .before .before .before .before .before .before .before in
+    room-step (s .args .walk) (s .args .left) (s .pre .1 .0) _ _ _ _ _ (down-some t (c .before .before)) (s .pre .1 .1 .0 .all) (down-fell t (c .before))
+
+down-walk-meet-requires : (t : ℕ) → down-walk-lts.Need-meet-requires (down-calls t) (down-walk-at t) down-walk.Post
+down-walk-meet-requires t c κs = vertex-bit _ (c .before .before .before .before .before .before .before .before .before .before .before .pre .1 .1 .0 .tailed _)
+
+down-walk-cast-word-at : (t : ℕ) → down-walk-lts.Need-cast-word-at (down-calls t) (down-walk-at t) down-walk.Post
+down-walk-cast-word-at t c = search needs
+
+down-walk-word-at-requires : (t : ℕ) → down-walk-lts.Need-word-at-requires (down-calls t) (down-walk-at t) down-walk.Post
+down-walk-word-at-requires t c κs = search needs
+
+down-walk-sub-down-walk : (t : ℕ) → down-walk-lts.Need-sub-down-walk (down-calls t) (down-walk-at t) down-walk.Post
+down-walk-sub-down-walk t c = omega (arith, down-some t (c .before .before .before .before .before))
+
+down-walk-down-walk-requires : (t : ℕ) → down-walk-lts.Need-down-walk-requires (down-calls t) (down-walk-at t) down-walk.Post
+down-walk-down-walk-requires t c κs =
+    let s = c .before .before .before .before .before .before .before .before .before .before .before .before .before in
+    let some = down-some t (c .before .before .before .before .before) in
+    let longer = c .before .before .with-step .ensures in
+    let room = room-on (s .args .walk) (s .args .left) (s .pre .1 .0) _ some (longer .1) in
+    let met = seen-more _ _ _ _ _ _ (down (c .before .before .before .before .another .result)) (longer .0) (c .before .meet .ensures) (s .pre .1 .1 .1 .0) in
+    let small : c .word-at .result < maxVertices = rw (c .word-at .ensures) (s .pre .1 .1 .0 .headed _) in
+    (omega (arith, some, s .pre .0), (room, (s .pre .1 .1 .0, (met, small))))
+
+down-walk-returns-2 : (t : ℕ) → down-walk-lts.Need-returns-2 (down-calls t) (down-walk-at t) down-walk.Post
+down-walk-returns-2 t c =
+    let s = c .before .before .before .before .before .before .before .before .before .before .before .before .before .before in
+    let goes = c .before .before .before .before .before .before in
+    down-falls _ _ _ _ _ _ _ _ _ _ (s .pre .1 .1 .1 .0 _ (s .pre .1 .1 .1 .1)) (down-stop t (goes .before)) (goes .if1 .left) _ _ _ (down-fell t (c .before .before .before .before .before)) (c .before .before .before .before .if2 .taken)
+    (c .before .before .before .with-step .ensures .0) (c .before .word-at .ensures) (c .down-walk .ensures)
+
+down-walk-another-requires-2 : (t : ℕ) → down-walk-lts.Need-another-requires-2 (down-calls t) (down-walk-at t) down-walk.Post
+down-walk-another-requires-2 t c κs = search needs
+
+down-walk-cast-with-step-2 : (t : ℕ) → down-walk-lts.Need-cast-with-step-2 (down-calls t) (down-walk-at t) down-walk.Post
+down-walk-cast-with-step-2 t c = search needs
+
+down-walk-with-step-requires-2 : (t : ℕ) → down-walk-lts.Need-with-step-requires-2 (down-calls t) (down-walk-at t) down-walk.Post
+down-walk-with-step-requires-2 t c κs =
+    let s = c .before .before .before .before .before .before .before .before .before .before .before in
+    room-step (s .args .walk) (s .args .left) (s .pre .1 .0) _ _ _ _ _ (down-some t (c .before .before .before)) (s .pre .1 .1 .0 .all) (down-climbed t (c))
+
+down-walk-meet-requires-2 : (t : ℕ) → down-walk-lts.Need-meet-requires-2 (down-calls t) (down-walk-at t) down-walk.Post
+down-walk-meet-requires-2 t c κs = vertex-bit _ (c .before .before .before .before .before .before .before .before .before .before .before .before .pre .1 .1 .0 .headed _)
+
+down-walk-cast-word-at-2 : (t : ℕ) → down-walk-lts.Need-cast-word-at-2 (down-calls t) (down-walk-at t) down-walk.Post
+down-walk-cast-word-at-2 t c = search needs
+
+down-walk-word-at-requires-2 : (t : ℕ) → down-walk-lts.Need-word-at-requires-2 (down-calls t) (down-walk-at t) down-walk.Post
+down-walk-word-at-requires-2 t c κs = search needs
+
+down-walk-sub-up-walk : (t : ℕ) → down-walk-lts.Need-sub-up-walk (down-calls t) (down-walk-at t) down-walk.Post
+down-walk-sub-up-walk t c = omega (arith, down-some t (c .before .before .before .before .before .before))
+
+down-walk-up-walk-requires : (t : ℕ) → down-walk-lts.Need-up-walk-requires (down-calls t) (down-walk-at t) down-walk.Post
+down-walk-up-walk-requires t c κs =
+    let s = c .before .before .before .before .before .before .before .before .before .before .before .before .before .before in
+    let some = down-some t (c .before .before .before .before .before .before) in
+    let longer = c .before .before .with-step2 .ensures in
+    let room = room-on (s .args .walk) (s .args .left) (s .pre .1 .0) _ some (longer .1) in
+    let met = seen-more _ _ _ _ _ _ (up (c .before .before .before .another2 .result)) (longer .0) (c .before .meet2 .ensures) (s .pre .1 .1 .1 .0) in
+    let small : c .word-at2 .result < maxVertices = rw (c .word-at2 .ensures) (s .pre .1 .1 .0 .tailed _) in
+    (omega (arith, some, s .pre .0), (room, (s .pre .1 .1 .0, (met, small))))
+
+down-walk-returns-3 : (t : ℕ) → down-walk-lts.Need-returns-3 (down-calls t) (down-walk-at t) down-walk.Post
+down-walk-returns-3 t c =
+    let s = c .before .before .before .before .before .before .before .before .before .before .before .before .before .before .before in
+    let goes = c .before .before .before .before .before .before .before in
+    down-climbs _ _ _ _ _ _ _ _ _ _ (s .pre .1 .1 .1 .0 _ (s .pre .1 .1 .1 .1)) (down-stop t (goes .before)) (goes .if1 .left) _ _ _ _ (down-fell t (c .before .before .before .before .before .before)) (c .before .before .before .before .before .if2 .left) (down-climbed t (c .before .before .before .before))
+    (c .before .before .before .with-step2 .ensures .0) (c .before .word-at2 .ensures) (c .up-walk .ensures)
+
+-- where the walk stops
+up-stop : (t : ℕ) (o : up-walk-lts.After-or (up-calls t) (up-walk-at t) up-walk.Post) → let s = o .before .before .before .before .before .before .before in
+    o .or .result ≡ either (eqb (s .args .left) 0) (hasBit (s .args .seen) (s .args .v))
+up-stop t o = rw (o .before .has .ensures) at (o .or .ensures)
+
+up-some : (t : ℕ) (g : up-walk-lts.Else1 (up-calls t) (up-walk-at t) up-walk.Post) → g .before .before .before .before .before .before .before .before .args .left ≡ 0 → ⊥
+up-some t g = left-some _ _ _ (up-stop t (g .before)) (g .if1 .left)
+
+-- the edge that it goes on by
+up-fell : (t : ℕ) (a : up-walk-lts.After-another (up-calls t) (up-walk-at t) up-walk.Post) → let s = a .before .before .before .before .before .before .before .before .before .before .before in
+    a .another .result ≡ another (s .args .tails .now) (s .args .flows .now) (s .args .v) (s .args .x)
+up-fell t a =
+    let s = a .before .before .before .before .before .before .before .before .before .before .before in
+    a .another .ensures ∙ falls-in _ _ _ _ _ _ _ (s .pre .1 .1 .0) (search needs) (s .pre .1 .1 .1 .1) _
+
+up-climbed : (t : ℕ) (a : up-walk-lts.After-another2 (up-calls t) (up-walk-at t) up-walk.Post) → let s = a .before .before .before .before .before .before .before .before .before .before .before in
+    a .another2 .result ≡ another (s .args .heads .now) (s .args .flows .now) (s .args .v) (s .args .x)
+up-climbed t a =
+    let s = a .before .before .before .before .before .before .before .before .before .before .before in
+    a .another2 .ensures ∙ climbs-in _ _ _ _ _ _ _ (s .pre .1 .1 .0) (search needs) (s .pre .1 .1 .1 .1) _
+
+up-parted : (t : ℕ) (a : up-walk-lts.After-parts (up-calls t) (up-walk-at t) up-walk.Post) → let s = a .before .before .before .before .before .before .before .before .before in
+    a .parts .result ≡ parts (s .args .tails .now) (s .args .flows .now) (s .args .v)
+up-parted t a =
+    let s = a .before .before .before .before .before .before .before .before .before in
+    a .parts .ensures ∙ parting-in _ _ _ _ _ _ _ (s .pre .1 .1 .0) (search needs) (s .pre .1 .1 .1 .1)
+
+up-walk-has-requires : (t : ℕ) → up-walk-lts.Need-has-requires (up-calls t) (up-walk-at t) up-walk.Post
+up-walk-has-requires t c κs = search needs
+
+up-walk-or-requires : (t : ℕ) → up-walk-lts.Need-or-requires (up-calls t) (up-walk-at t) up-walk.Post
+up-walk-or-requires t c κs = search needs
+
+up-walk-since-met-requires : (t : ℕ) → up-walk-lts.Need-since-met-requires (up-calls t) (up-walk-at t) up-walk.Post
+up-walk-since-met-requires t c κs = let s = c .before .before .before .before .before .before .before .before in room-now (s .args .walk) (s .args .left) (s .pre .1 .0)
+
+up-walk-returns : (t : ℕ) → up-walk-lts.Need-returns (up-calls t) (up-walk-at t) up-walk.Post
+up-walk-returns t c =
+    let s = c .before .before .before .before .before .before .before .before .before in
+    up-stops _ _ _ _ _ _ _ _ _ _ (s .pre .1 .1 .1 .0 _ (s .pre .1 .1 .1 .1)) (up-stop t (c .before .before)) (c .before .if1 .taken) (c .since-met .ensures)
+
+up-walk-parts-requires : (t : ℕ) → up-walk-lts.Need-parts-requires (up-calls t) (up-walk-at t) up-walk.Post
+up-walk-parts-requires t c κs = search needs
+
+up-walk-another-requires : (t : ℕ) → up-walk-lts.Need-another-requires (up-calls t) (up-walk-at t) up-walk.Post
+up-walk-another-requires t c κs = search needs
+
+up-walk-cast-with-step : (t : ℕ) → up-walk-lts.Need-cast-with-step (up-calls t) (up-walk-at t) up-walk.Post
+up-walk-cast-with-step t c = search needs
+
+up-walk-with-step-requires : (t : ℕ) → up-walk-lts.Need-with-step-requires (up-calls t) (up-walk-at t) up-walk.Post
+up-walk-with-step-requires t c κs =
+    let s = c .before .before .before .before .before .before .before .before .before .before .before in
+    room-step (s .args .walk) (s .args .left) (s .pre .1 .0) _ _ _ _ _ (up-some t (c .before .before .before)) (s .pre .1 .1 .0 .all) (up-fell t (c))
+
+up-walk-meet-requires : (t : ℕ) → up-walk-lts.Need-meet-requires (up-calls t) (up-walk-at t) up-walk.Post
+up-walk-meet-requires t c κs = vertex-bit _ (c .before .before .before .before .before .before .before .before .before .before .before .before .pre .1 .1 .0 .tailed _)
+
+up-walk-cast-word-at : (t : ℕ) → up-walk-lts.Need-cast-word-at (up-calls t) (up-walk-at t) up-walk.Post
+up-walk-cast-word-at t c = search needs
+
+up-walk-word-at-requires : (t : ℕ) → up-walk-lts.Need-word-at-requires (up-calls t) (up-walk-at t) up-walk.Post
+up-walk-word-at-requires t c κs = search needs
+
+up-walk-sub-down-walk : (t : ℕ) → up-walk-lts.Need-sub-down-walk (up-calls t) (up-walk-at t) up-walk.Post
+up-walk-sub-down-walk t c = omega (arith, up-some t (c .before .before .before .before .before .before))
+
+up-walk-down-walk-requires : (t : ℕ) → up-walk-lts.Need-down-walk-requires (up-calls t) (up-walk-at t) up-walk.Post
+up-walk-down-walk-requires t c κs =
+    let s = c .before .before .before .before .before .before .before .before .before .before .before .before .before .before in
+    let some = up-some t (c .before .before .before .before .before .before) in
+    let longer = c .before .before .with-step .ensures in
+    let room = room-on (s .args .walk) (s .args .left) (s .pre .1 .0) _ some (longer .1) in
+    let met = seen-more _ _ _ _ _ _ (down (c .before .before .before .another .result)) (longer .0) (c .before .meet .ensures) (s .pre .1 .1 .1 .0) in
+    let small : c .word-at .result < maxVertices = rw (c .word-at .ensures) (s .pre .1 .1 .0 .headed _) in
+    (omega (arith, some, s .pre .0), (room, (s .pre .1 .1 .0, (met, small))))
+
+up-walk-returns-2 : (t : ℕ) → up-walk-lts.Need-returns-2 (up-calls t) (up-walk-at t) up-walk.Post
+up-walk-returns-2 t c =
+    let s = c .before .before .before .before .before .before .before .before .before .before .before .before .before .before .before in
+    let goes = c .before .before .before .before .before .before .before in
+    up-falls _ _ _ _ _ _ _ _ _ _ (s .pre .1 .1 .1 .0 _ (s .pre .1 .1 .1 .1)) (up-stop t (goes .before)) (goes .if1 .left) _ _ _ (sym (up-parted t (c .before .before .before .before .before .before)) ∙ c .before .before .before .before .before .if2 .taken) (up-fell t (c .before .before .before .before))
+    (c .before .before .before .with-step .ensures .0) (c .before .word-at .ensures) (c .down-walk .ensures)
+
+up-walk-another-requires-2 : (t : ℕ) → up-walk-lts.Need-another-requires-2 (up-calls t) (up-walk-at t) up-walk.Post
+up-walk-another-requires-2 t c κs = search needs
+
+up-walk-cast-with-step-2 : (t : ℕ) → up-walk-lts.Need-cast-with-step-2 (up-calls t) (up-walk-at t) up-walk.Post
+up-walk-cast-with-step-2 t c = search needs
+
+up-walk-with-step-requires-2 : (t : ℕ) → up-walk-lts.Need-with-step-requires-2 (up-calls t) (up-walk-at t) up-walk.Post
+up-walk-with-step-requires-2 t c κs =
+    let s = c .before .before .before .before .before .before .before .before .before .before .before in
+    room-step (s .args .walk) (s .args .left) (s .pre .1 .0) _ _ _ _ _ (up-some t (c .before .before .before)) (s .pre .1 .1 .0 .all) (up-climbed t (c))
+
+up-walk-meet-requires-2 : (t : ℕ) → up-walk-lts.Need-meet-requires-2 (up-calls t) (up-walk-at t) up-walk.Post
+up-walk-meet-requires-2 t c κs = vertex-bit _ (c .before .before .before .before .before .before .before .before .before .before .before .before .pre .1 .1 .0 .headed _)
+
+up-walk-cast-word-at-2 : (t : ℕ) → up-walk-lts.Need-cast-word-at-2 (up-calls t) (up-walk-at t) up-walk.Post
+up-walk-cast-word-at-2 t c = search needs
+
+up-walk-word-at-requires-2 : (t : ℕ) → up-walk-lts.Need-word-at-requires-2 (up-calls t) (up-walk-at t) up-walk.Post
+up-walk-word-at-requires-2 t c κs = search needs
+
+up-walk-sub-up-walk : (t : ℕ) → up-walk-lts.Need-sub-up-walk (up-calls t) (up-walk-at t) up-walk.Post
+up-walk-sub-up-walk t c = omega (arith, up-some t (c .before .before .before .before .before .before))
+
+up-walk-up-walk-requires : (t : ℕ) → up-walk-lts.Need-up-walk-requires (up-calls t) (up-walk-at t) up-walk.Post
+up-walk-up-walk-requires t c κs =
+    let s = c .before .before .before .before .before .before .before .before .before .before .before .before .before .before in
+    let some = up-some t (c .before .before .before .before .before .before) in
+    let longer = c .before .before .with-step2 .ensures in
+    let room = room-on (s .args .walk) (s .args .left) (s .pre .1 .0) _ some (longer .1) in
+    let met = seen-more _ _ _ _ _ _ (up (c .before .before .before .another2 .result)) (longer .0) (c .before .meet2 .ensures) (s .pre .1 .1 .1 .0) in
+    let small : c .word-at2 .result < maxVertices = rw (c .word-at2 .ensures) (s .pre .1 .1 .0 .tailed _) in
+    (omega (arith, some, s .pre .0), (room, (s .pre .1 .1 .0, (met, small))))
+
+up-walk-returns-3 : (t : ℕ) → up-walk-lts.Need-returns-3 (up-calls t) (up-walk-at t) up-walk.Post
+up-walk-returns-3 t c =
+    let s = c .before .before .before .before .before .before .before .before .before .before .before .before .before .before .before in
+    let goes = c .before .before .before .before .before .before .before in
+    up-climbs _ _ _ _ _ _ _ _ _ _ (s .pre .1 .1 .1 .0 _ (s .pre .1 .1 .1 .1)) (up-stop t (goes .before)) (goes .if1 .left) _ _ _ (sym (up-parted t (c .before .before .before .before .before .before)) ∙ c .before .before .before .before .before .if2 .left) (up-climbed t (c .before .before .before .before))
+    (c .before .before .before .with-step2 .ensures .0) (c .before .word-at2 .ensures) (c .up-walk .ensures)
+
+pub +down-walk+up-walk-spec : {M : Type 1} → statement M
++down-walk+up-walk-spec = close μ-down-walk μ-up-walk (λ t. down-walk-lts.spec (down-calls t)
+    (down-walk-at t)
+    down-walk.Post
+    (down-walk-has-requires t)
+    (down-walk-or-requires t)
+    (down-walk-since-met-requires t)
+    (down-walk-returns t)
+    (down-walk-another-requires t)
+    (down-walk-cast-if2 t)
+    (down-walk-cast-with-step t)
+    (down-walk-with-step-requires t)
+    (down-walk-meet-requires t)
+    (down-walk-cast-word-at t)
+    (down-walk-word-at-requires t)
+    (down-walk-sub-down-walk t)
+    (down-walk-down-walk-requires t)
+    (down-walk-returns-2 t)
+    (down-walk-another-requires-2 t)
+    (down-walk-cast-with-step-2 t)
+    (down-walk-with-step-requires-2 t)
+    (down-walk-meet-requires-2 t)
+    (down-walk-cast-word-at-2 t)
+    (down-walk-word-at-requires-2 t)
+    (down-walk-sub-up-walk t)
+    (down-walk-up-walk-requires t)
+    (down-walk-returns-3 t))
+    λ t. up-walk-lts.spec (up-calls t)
+    (up-walk-at t)
+    up-walk.Post
+    (up-walk-has-requires t)
+    (up-walk-or-requires t)
+    (up-walk-since-met-requires t)
+    (up-walk-returns t)
+    (up-walk-parts-requires t)
+    (up-walk-another-requires t)
+    (up-walk-cast-with-step t)
+    (up-walk-with-step-requires t)
+    (up-walk-meet-requires t)
+    (up-walk-cast-word-at t)
+    (up-walk-word-at-requires t)
+    (up-walk-sub-down-walk t)
+    (up-walk-down-walk-requires t)
+    (up-walk-returns-2 t)
+    (up-walk-another-requires-2 t)
+    (up-walk-cast-with-step-2 t)
+    (up-walk-with-step-requires-2 t)
+    (up-walk-meet-requires-2 t)
+    (up-walk-cast-word-at-2 t)
+    (up-walk-word-at-requires-2 t)
+    (up-walk-sub-up-walk t)
+    (up-walk-up-walk-requires t)
+    (up-walk-returns-3 t)

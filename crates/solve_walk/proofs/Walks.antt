@@ -1,0 +1,137 @@
+-- One vertex of the walk, case by case in the code's shape: the walk w stops at v, where none is left to see or v was met before; or takes one step down, or one
+-- step up.
+use mathlib.Core.Path.{_≡_, refl, sym, ap, _∙_}
+use mathlib.Core.Bool.{Bool, true, false}
+use mathlib.Core.List.{List, [], _∷_, _++_}
+use Prim.Native.Nat.{ℕ, zero, suc, _+_, _-_, _<_, _≤_}
+use native.Mathlib.Omega.{arith}
+use lib.Dec.{ltb, eqb}
+use lib.ListN.{length, getD, take, drop}
+use lib.Seq.{length-take-le}
+use borrow.Author.Tests.{lt-ltb, le-ltb, ne-eqb, eqb-false}
+use Rattle.board.specs.Limits.{maxVertices, maxEdges}
+use Rattle.lists.specs.Choice.{either}
+use Rattle.lists.proofs.Laws.{index-le, either-left, either-right}
+use Rattle.sets.specs.Sets.{setWidth, hasBit}
+use Rattle.graph_flows.specs.Trails.{Step, down, up}
+use Rattle.move_cycle.specs.Steps.{upFrom}
+use Rattle.solve_walk.specs.declared.Walk.{Walk}
+use Rattle.solve_walk.specs.Walk.{another, parts, startsOf, firstMet, downWalk, upWalk, walked, packed}
+use Rattle.solve_walk.proofs.Packed.{another-most}
+use Rattle.solve_walk.proofs.Loops.{held, steps-length, starts-length}
+
+-- a walk has as many steps as its count says
+walked-length : (t : Walk) → length (t .steps) ≡ maxEdges → t .count ≤ maxEdges → length (walked t) ≡ t .count
+walked-length t size h = steps-length (take (t .count) (t .steps)) ∙ length-take-le (t .count) (t .steps) (held (t .steps) (t .count) size h)
+
+-- v is first met among the steps, or after them
+pub met-most : (tails heads : List ℕ) (t : Walk) (v : ℕ) → length (t .steps) ≡ maxEdges → t .count ≤ maxEdges
+    → firstMet tails heads (walked t) v ≤ t .count
+unfolding firstMet
+met-most tails heads t v size h =
+    omega (arith, index-le v (startsOf tails heads (walked t)), starts-length tails heads (walked t), walked-length t size h)
+
+-- what the calls ask for: the walk t, and the vertices left, have room together
+module _ (t : Walk) (left : ℕ) (room : t .count + left ≤ maxEdges) where
+  pub room-now : t .count ≤ maxEdges
+  room-now = omega (arith, room)
+
+  pub room-step : (ends flows : List ℕ) (v x e : ℕ) → (left ≡ 0 → ⊥) → length flows ≡ maxEdges → e ≡ another ends flows v x
+      → (t .count < maxEdges) × (e < upFrom)
+  room-step ends flows v x e some few i = (omega (arith, room, some), omega (arith, few, i, another-most ends flows v x))
+
+  pub room-on : (n : ℕ) → (left ≡ 0 → ⊥) → n ≡ t .count + 1 → n + (left - 1) ≤ maxEdges
+  room-on n some i = omega (arith, room, some, i)
+
+-- a vertex has its place in a set
+pub vertex-bit : (v : ℕ) → v < maxVertices → v < setWidth
+vertex-bit v h = omega arith
+
+-- where the walk goes on, a vertex is left
+pub left-some : (left : ℕ) (seen stop : Bool) → stop ≡ either (eqb left 0) seen → stop ≡ false → left ≡ 0 → ⊥
+left-some left seen stop stops goes = eqb-false left 0 (either-left _ _ (sym stops ∙ goes))
+
+module _ (tails heads flows : List ℕ) where
+  abbrev pub downs : ℕ → List Step → ℕ → ℕ → List Step
+  downs = downWalk tails heads flows (another tails flows) (another heads flows)
+
+  abbrev pub ups : ℕ → List Step → ℕ → ℕ → List Step
+  ups = upWalk tails heads flows (another tails flows) (another heads flows)
+
+  module _ (left : ℕ) (w : List Step) (x v seen : ℕ) (stop : Bool) (r : Walk) (met : hasBit seen v ≡ ltb (firstMet tails heads w v) (length w))
+      (stops : stop ≡ either (eqb left 0) (hasBit seen v)) where
+    -- with a vertex left, the walk stops where v was met before
+    before : (k : ℕ) → left ≡ suc k → stop ≡ true → ltb (firstMet tails heads w v) (length w) ≡ true
+    unfolding either
+    before k one t = sym met ∙ (rw (ne-eqb left 0 (λ z. omega (arith, z, one))) at (sym stops ∙ t))
+
+    pub down-stops : stop ≡ true → r ≡ packed (drop (firstMet tails heads w v) w) → r ≡ packed (downs left w x v)
+    unfolding downWalk
+    down-stops t e = e ∙ go left refl
+      where
+        go : (k : ℕ) → left ≡ k → packed (drop (firstMet tails heads w v) w) ≡ packed (downs k w x v)
+        go zero one = refl
+        go (suc k) one = rw (before k one t, downWalk)
+
+    pub up-stops : stop ≡ true → r ≡ packed (drop (firstMet tails heads w v) w) → r ≡ packed (ups left w x v)
+    unfolding downWalk
+    up-stops t e = e ∙ go left refl
+      where
+        go : (k : ℕ) → left ≡ k → packed (drop (firstMet tails heads w v) w) ≡ packed (ups k w x v)
+        go zero one = refl
+        go (suc k) one = rw (before k one t, upWalk)
+
+    -- v is new: one step on, over edge e, to the vertex `next`
+    module _ (goes : stop ≡ false) (e next : ℕ) (longer : List Step) where
+      fresh : ltb (firstMet tails heads w v) (length w) ≡ false
+      fresh = sym met ∙ either-right _ _ (sym stops ∙ goes)
+
+      one : left ≡ suc (left - 1)
+      one = let some = left-some left (hasBit seen v) stop stops goes in omega (arith, some)
+
+      -- the step, as the definition and as the code name its parts
+      fallen : (k : ℕ) → e ≡ another tails flows v x → longer ≡ w ++ (down e ∷ []) → next ≡ getD heads e 0
+          → downs k longer e next ≡ downs k (w ++ (down (another tails flows v x) ∷ [])) (another tails flows v x) (getD heads (another tails flows v x) 0)
+      fallen k i l g = rw (l, g, i)
+
+      climbed : (k : ℕ) → e ≡ another heads flows v x → longer ≡ w ++ (up e ∷ []) → next ≡ getD tails e 0
+          → ups k longer e next ≡ ups k (w ++ (up (another heads flows v x) ∷ [])) (another heads flows v x) (getD tails (another heads flows v x) 0)
+      climbed k i l g = rw (l, g, i)
+
+      pub down-falls : e ≡ another tails flows v x → e < length flows → longer ≡ w ++ (down e ∷ []) → next ≡ getD heads e 0
+          → r ≡ packed (downs (left - 1) longer e next) → r ≡ packed (downs left w x v)
+      unfolding downWalk
+      down-falls i h l g q =
+          let leaves : ltb (another tails flows v x) (length flows) ≡ true = rw i at (lt-ltb e (length flows) h) in
+          let turn : downs (suc (left - 1)) w x v
+          ≡ downs (left - 1) (w ++ (down (another tails flows v x) ∷ [])) (another tails flows v x) (getD heads (another tails flows v x) 0) =
+          rw (fresh, leaves, downWalk) in
+          q ∙ ap packed (fallen (left - 1) i l g ∙ sym turn ∙ ap (λ (k : ℕ). downs k w x v) (sym one))
+
+      pub down-climbs : (b : ℕ) → b ≡ another tails flows v x → length flows ≤ b → e ≡ another heads flows v x → longer ≡ w ++ (up e ∷ [])
+          → next ≡ getD tails e 0 → r ≡ packed (ups (left - 1) longer e next) → r ≡ packed (downs left w x v)
+      unfolding downWalk
+      down-climbs b j h i l g q =
+          let stuck : ltb (another tails flows v x) (length flows) ≡ false = rw j at (le-ltb b (length flows) h) in
+          let turn : downs (suc (left - 1)) w x v
+          ≡ ups (left - 1) (w ++ (up (another heads flows v x) ∷ [])) (another heads flows v x) (getD tails (another heads flows v x) 0) =
+          rw (fresh, stuck, downWalk) in
+          q ∙ ap packed (climbed (left - 1) i l g ∙ sym turn ∙ ap (λ (k : ℕ). downs k w x v) (sym one))
+
+      pub up-falls : parts tails flows v ≡ true → e ≡ another tails flows v x → longer ≡ w ++ (down e ∷ []) → next ≡ getD heads e 0
+          → r ≡ packed (downs (left - 1) longer e next) → r ≡ packed (ups left w x v)
+      unfolding downWalk
+      up-falls p i l g q =
+          let turn : ups (suc (left - 1)) w x v
+          ≡ downs (left - 1) (w ++ (down (another tails flows v x) ∷ [])) (another tails flows v x) (getD heads (another tails flows v x) 0) =
+          rw (fresh, p, upWalk) in
+          q ∙ ap packed (fallen (left - 1) i l g ∙ sym turn ∙ ap (λ (k : ℕ). ups k w x v) (sym one))
+
+      pub up-climbs : parts tails flows v ≡ false → e ≡ another heads flows v x → longer ≡ w ++ (up e ∷ []) → next ≡ getD tails e 0
+          → r ≡ packed (ups (left - 1) longer e next) → r ≡ packed (ups left w x v)
+      unfolding downWalk
+      up-climbs p i l g q =
+          let turn : ups (suc (left - 1)) w x v
+          ≡ ups (left - 1) (w ++ (up (another heads flows v x) ∷ [])) (another heads flows v x) (getD tails (another heads flows v x) 0) =
+          rw (fresh, p, upWalk) in
+          q ∙ ap packed (climbed (left - 1) i l g ∙ sym turn ∙ ap (λ (k : ℕ). ups k w x v) (sym one))

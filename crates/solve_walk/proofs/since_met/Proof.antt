@@ -1,0 +1,20 @@
+-- A vertex is first met among the steps or after them all, so `since` takes the count that the search gives.
+use Rattle.solve_walk.proofs.Walks.{met-most}
+use borrow.Author.Needs.{needs}
+use Rattle.solve_walk.proofs.since_met.Statement.{statement}
+use Rattle.solve_walk.proofs.since_met.Tie as tie
+
+first-met-requires : tie.Need-first-met-requires
+first-met-requires c κs = search needs
+
+walk-from-requires : tie.Need-walk-from-requires
+walk-from-requires c κs =
+    let s = c .before .before .before in
+    let most = met-most (s .args .tails .now) (s .args .heads .now) (s .args .walk) (s .args .v) (search needs) (s .pre) in
+    (rw (c .first-met .ensures) most, s .pre)
+
+returns : tie.Need-returns
+returns c = rw (c .before .first-met .ensures) at (c .walk-from .ensures)
+
+pub since-met-spec : {M : Type 1} → statement M
+since-met-spec = tie.close (tie.spec first-met-requires walk-from-requires returns)

@@ -1,0 +1,33 @@
+-- What the code's walk looks at besides the lists: the edges at each vertex, the positive edges and the vertices seen, as sets.
+use mathlib.Core.Path.{_≡_}
+use mathlib.Core.Bool.{Bool}
+use mathlib.Core.List.{List}
+use Prim.Native.Nat.{ℕ, _<_}
+use lib.Dec.{ltb}
+use lib.ListN.{length, getD}
+use Rattle.lists.specs.Lists.{lowest}
+use Rattle.sets.specs.Sets.{setWidth, hasBit, dropped}
+use Rattle.board.specs.Limits.{maxVertices, maxEdges}
+use Rattle.move_edges.specs.Incidence.{Incident, PositiveSet, touchingAt}
+use Rattle.graph_flows.specs.Trails.{Step}
+use Rattle.solve_walk.specs.Walk.{firstMet}
+
+-- the sets are those of the lists, and each end of an edge is a vertex
+pub record Charted (tails heads flows leaving entering : List ℕ) (positive : ℕ) : Type 0 where
+  pub leave : Incident tails leaving
+  pub enter : Incident heads entering
+  pub is-positive : PositiveSet flows positive
+  pub all : length flows ≡ maxEdges
+  pub tailed : (e : ℕ) → getD tails e 0 < maxVertices
+  pub headed : (e : ℕ) → getD heads e 0 < maxVertices
+
+-- the set has the vertices that the walk w met
+abbrev pub Seen : List ℕ → List ℕ → List Step → ℕ → Type 0
+Seen tails heads w seen = (v : ℕ) → v < maxVertices → hasBit seen v ≡ ltb (firstMet tails heads w v) (length w)
+
+-- `another` and `parts` by the sets
+abbrev pub anotherIn : List ℕ → ℕ → ℕ → ℕ → ℕ
+anotherIn edges positive v x = lowest (hasBit (dropped (touchingAt edges positive v) x)) 0 setWidth
+
+abbrev pub partsIn : List ℕ → ℕ → ℕ → Bool
+partsIn leaving positive v = ltb 0 (dropped (touchingAt leaving positive v) (lowest (hasBit (touchingAt leaving positive v)) 0 setWidth))

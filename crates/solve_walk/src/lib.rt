@@ -1,0 +1,286 @@
+// The cycle that the solver turns.
+use board::Board;
+use board::EdgeSet;
+ghost use mathlib.Core.Path.{_≡_};
+ghost use mathlib.Core.List.{[], _∷_, _++_};
+ghost use Prim.Native.Nat.{_+_, _≤_, _<_};
+ghost use lib.ListN.{getD, set, drop};
+ghost use Rattle.board.specs.Limits.{maxVertices, maxEdges};
+ghost use Rattle.sets.specs.Sets.{setWidth, withBit};
+ghost use Rattle.move_cycle.specs.Steps.{upFrom};
+ghost use Rattle.solve_walk.specs.Walk.{another, firstMet, downWalk, upWalk, cycleOf, byteOf, walked, packed, stride};
+ghost use Rattle.solve_walk.specs.Chart.{Charted, Seen, anotherIn, partsIn};
+
+// The steps of a walk, a byte each, from the first on; 0 in the places past them.
+pub struct Walk {
+    pub count: u32,
+    pub steps: [u8; Board::MAX_EDGES],
+}
+
+// The lowest positive edge with this end at v other than x, or a number that no edge has.
+fn another(edges: &[EdgeSet], positive: EdgeSet, v: u32, x: u32) -> u32
+    ensures { λ r. ⌜ r ≡ anotherIn (now (edges .entry)) positive v x ⌝ }
+{
+    let at = move_edges::touching(edges, positive, v);
+    let others = sets::drop(at, x);
+    sets::lowest(others)
+}
+
+// Whether two or more positive edges leave v.
+fn parts(leaving: &[EdgeSet], positive: EdgeSet, v: u32) -> bool
+    ensures { λ r. ⌜ r ≡ partsIn (now (leaving .entry)) positive v ⌝ }
+{
+    let at = move_edges::touching(leaving, positive, v);
+    let e = sets::lowest(at);
+    0 < sets::drop(at, e)
+}
+
+// The vertices seen, with the one where a step over e starts.
+fn meet(starts: &[u32], seen: u64, e: u32) -> u64
+    requires { ⌜ getD (now starts) e 0 < setWidth ⌝ }
+    ensures { λ r. ⌜ r ≡ withBit seen (getD (now (starts .entry)) e 0) ⌝ }
+{
+    let v = lists::word_at(starts, e as usize);
+    sets::with(seen, true, v as usize)
+}
+
+// The byte of a step over e.
+fn byte_of(ups: bool, e: usize) -> u8
+    requires { ⌜ e < upFrom ⌝ }
+    ensures { λ r. ⌜ r ≡ byteOf (stride ups e) ⌝ }
+{
+    if ups { (e + 128) as u8 } else { e as u8 }
+}
+
+// The steps with another one at i.
+fn put_step(steps: [u8; Board::MAX_EDGES], i: usize, step: u8) -> [u8; Board::MAX_EDGES]
+    ensures { λ r. ⌜ r ≡ set steps i step ⌝ }
+{
+    let mut next = steps;
+    if i < Board::MAX_EDGES {
+        next[i] = step;
+    }
+    next
+}
+
+// The walk with one step more.
+fn with_step(walk: Walk, ups: bool, e: usize) -> Walk
+    requires { ⌜ walk .count < maxEdges ⌝ }
+    requires { ⌜ e < upFrom ⌝ }
+    ensures { λ r. ⌜ walked r ≡ walked walk ++ (stride ups e ∷ []) ⌝ }
+    ensures { λ r. ⌜ r .count ≡ walk .count + 1 ⌝ }
+{
+    let old = walk.steps;
+    let step = byte_of(ups, e);
+    let steps = put_step(old, walk.count as usize, step);
+    Walk {
+        count: walk.count + 1,
+        steps: steps,
+    }
+}
+
+// How many steps came before v was first met.
+fn first_met<'a>(tails: &'a [u32], heads: &'a [u32], walk: Walk, v: u32) -> u32
+    requires { ⌜ walk .count ≤ maxEdges ⌝ }
+    ensures { λ r. ⌜ r ≡ firstMet (now (tails .entry)) (now (heads .entry)) (walked walk) v ⌝ }
+{
+    let count = walk.count;
+    let bytes = walk.steps;
+    let mut i: u32 = 0;
+    while i < count {
+        if move_cycle::start_of(tails, heads, bytes[i as usize]) == v {
+            return i;
+        }
+        i += 1;
+    }
+    i
+}
+
+// The steps from k on, from the first place on.
+fn walk_from(walk: Walk, k: u32) -> Walk
+    requires { ⌜ k ≤ walk .count ⌝ }
+    requires { ⌜ walk .count ≤ maxEdges ⌝ }
+    ensures { λ r. ⌜ r ≡ packed (drop k (walked walk)) ⌝ }
+{
+    let bytes = walk.steps;
+    let rest = walk.count - k;
+    let mut steps: [u8; Board::MAX_EDGES] = [0; Board::MAX_EDGES];
+    let mut i: u32 = 0;
+    while i < rest {
+        steps[i as usize] = bytes[(k + i) as usize];
+        i += 1;
+    }
+    Walk {
+        count: rest,
+        steps: steps,
+    }
+}
+
+// The steps since v was first met.
+fn since_met<'a>(tails: &'a [u32], heads: &'a [u32], walk: Walk, v: u32) -> Walk
+    requires { ⌜ walk .count ≤ maxEdges ⌝ }
+    ensures { λ r. ⌜ r ≡ packed (drop (firstMet (now (tails .entry)) (now (heads .entry)) (walked walk) v) (walked walk)) ⌝ }
+{
+    let k = first_met(tails, heads, walk, v);
+    walk_from(walk, k)
+}
+
+// The walk came over edge x to v: down by the lowest edge; up where none leaves.
+fn down_walk<'a>(
+    tails: &'a [u32],
+    heads: &'a [u32],
+    flows: &'a [u32],
+    leaving: &'a [EdgeSet],
+    entering: &'a [EdgeSet],
+    positive: EdgeSet,
+    seen: u64,
+    left: u32,
+    walk: Walk,
+    x: u32,
+    v: u32,
+) -> Walk
+    requires { ⌜ walk .count + left ≤ maxEdges ⌝ }
+    requires { ⌜ Charted (now tails) (now heads) (now flows) (now leaving) (now entering) positive ⌝ }
+    requires { ⌜ Seen (now tails) (now heads) (walked walk) seen ⌝ }
+    requires { ⌜ v < maxVertices ⌝ }
+    ensures { λ r. ⌜ r ≡ packed (downWalk (now (tails .entry)) (now (heads .entry)) (now (flows .entry))
+        (another (now (tails .entry)) (now (flows .entry))) (another (now (heads .entry)) (now (flows .entry))) left (walked walk) x v) ⌝ }
+{
+    if lists::or(left == 0, sets::has(seen, v as usize)) {
+        return since_met(tails, heads, walk, v);
+    }
+    let e = another(leaving, positive, v, x);
+    if (e as usize) < flows.len() {
+        let longer = with_step(walk, false, e as usize);
+        let met = meet(tails, seen, e);
+        let next = lists::word_at(heads, e as usize);
+        return down_walk(
+            tails,
+            heads,
+            flows,
+            leaving,
+            entering,
+            positive,
+            met,
+            left - 1,
+            longer,
+            e,
+            next,
+        );
+    }
+    let c = another(entering, positive, v, x);
+    let longer = with_step(walk, true, c as usize);
+    let met = meet(heads, seen, c);
+    let next = lists::word_at(tails, c as usize);
+    up_walk(
+        tails,
+        heads,
+        flows,
+        leaving,
+        entering,
+        positive,
+        met,
+        left - 1,
+        longer,
+        c,
+        next,
+    )
+}
+
+// The walk came up over edge x to v: up while one edge leaves; down where two or more do.
+fn up_walk<'a>(
+    tails: &'a [u32],
+    heads: &'a [u32],
+    flows: &'a [u32],
+    leaving: &'a [EdgeSet],
+    entering: &'a [EdgeSet],
+    positive: EdgeSet,
+    seen: u64,
+    left: u32,
+    walk: Walk,
+    x: u32,
+    v: u32,
+) -> Walk
+    requires { ⌜ walk .count + left ≤ maxEdges ⌝ }
+    requires { ⌜ Charted (now tails) (now heads) (now flows) (now leaving) (now entering) positive ⌝ }
+    requires { ⌜ Seen (now tails) (now heads) (walked walk) seen ⌝ }
+    requires { ⌜ v < maxVertices ⌝ }
+    ensures { λ r. ⌜ r ≡ packed (upWalk (now (tails .entry)) (now (heads .entry)) (now (flows .entry))
+        (another (now (tails .entry)) (now (flows .entry))) (another (now (heads .entry)) (now (flows .entry))) left (walked walk) x v) ⌝ }
+{
+    if lists::or(left == 0, sets::has(seen, v as usize)) {
+        return since_met(tails, heads, walk, v);
+    }
+    if parts(leaving, positive, v) {
+        let e = another(leaving, positive, v, x);
+        let longer = with_step(walk, false, e as usize);
+        let met = meet(tails, seen, e);
+        let next = lists::word_at(heads, e as usize);
+        return down_walk(
+            tails,
+            heads,
+            flows,
+            leaving,
+            entering,
+            positive,
+            met,
+            left - 1,
+            longer,
+            e,
+            next,
+        );
+    }
+    let c = another(entering, positive, v, x);
+    let longer = with_step(walk, true, c as usize);
+    let met = meet(heads, seen, c);
+    let next = lists::word_at(tails, c as usize);
+    up_walk(
+        tails,
+        heads,
+        flows,
+        leaving,
+        entering,
+        positive,
+        met,
+        left - 1,
+        longer,
+        c,
+        next,
+    )
+}
+
+// The cycle that the walk from the source finds.
+pub fn cycle<'a>(
+    tails: &'a [u32],
+    heads: &'a [u32],
+    leaving: &'a [EdgeSet],
+    entering: &'a [EdgeSet],
+    positive: EdgeSet,
+    flows: &'a [u32],
+    vertices: u32,
+    source: u32,
+) -> Walk
+    requires { ⌜ vertices ≤ maxEdges ⌝ }
+    requires { ⌜ Charted (now tails) (now heads) (now flows) (now leaving) (now entering) positive ⌝ }
+    requires { ⌜ source < maxVertices ⌝ }
+    ensures { λ r. ⌜ r ≡ packed (cycleOf (now (tails .entry)) (now (heads .entry)) (now (flows .entry)) vertices source) ⌝ }
+{
+    let walk = Walk {
+        count: 0,
+        steps: [0; Board::MAX_EDGES],
+    };
+    let none = flows.len() as u32;
+    down_walk(
+        tails,
+        heads,
+        flows,
+        leaving,
+        entering,
+        positive,
+        0,
+        vertices,
+        walk,
+        none,
+        source,
+    )
+}

@@ -1,3 +1,0 @@
-pub mod Player
-pub mod Complete
-pub mod Faithful

@@ -1,0 +1,71 @@
+-- More vertices than the limit are tested one by one. Else the sums are those of each vertex (proofs/Sums.antt);
+-- they start at 0 and values are added to an array at most twice, so they stay within what `add_keyed` asks for.
+use mathlib.Core.Path.{_∙_}
+use native.Mathlib.Omega.{arith}
+use Rattle.board.specs.Limits.{maxVertices}
+use Rattle.text_judge.proofs.Sums.{all-balanced, nothing-most, added-most}
+use borrow.Author.Needs.{needs}
+use Rattle.text_judge.proofs.all_balanced.Statement.{statement}
+use Rattle.text_judge.proofs.all_balanced.Tie as tie
+
+all-keep-requires : tie.Need-all-keep-requires
+all-keep-requires c κs = search needs
+
+returns : tie.Need-returns
+returns c = search needs
+
+slice-aggregate-add-keyed : tie.Need-slice-aggregate-add-keyed
+slice-aggregate-add-keyed c = search needs
+
+add-keyed-requires : tie.Need-add-keyed-requires
+add-keyed-requires c κs = (search needs, nothing-most)
+
+slice-aggregate-add-keyed-2 : tie.Need-slice-aggregate-add-keyed-2
+slice-aggregate-add-keyed-2 c = search needs
+
+add-keyed-requires-2 : tie.Need-add-keyed-requires-2
+add-keyed-requires-2 c κs = (search needs, nothing-most)
+
+slice-aggregate-add-keyed-3 : tie.Need-slice-aggregate-add-keyed-3
+slice-aggregate-add-keyed-3 c = search needs
+
+add-keyed-requires-3 : tie.Need-add-keyed-requires-3
+add-keyed-requires-3 c κs =
+    let at-add-keyed2 = c .before .before .before .before .before .before .before .add-keyed2 in
+    (search needs, added-most (at-add-keyed2 .last .1 .1 .0) (at-add-keyed2 .ensures .1))
+
+slice-aggregate-all-even : tie.Need-slice-aggregate-all-even
+slice-aggregate-all-even c = search needs
+
+slice-aggregate-all-even-2 : tie.Need-slice-aggregate-all-even-2
+slice-aggregate-all-even-2 c = search needs
+
+all-even-requires : tie.Need-all-even-requires
+all-even-requires c κs = search needs
+
+returns-2 : tie.Need-returns-2
+returns-2 c =
+    let at-args = c .before .before .before .before .before .before .before .before .before .before .before .before .before .before .before .before .before .before .before .before .before .before .before .before .before .before .before .before .args in
+    let at-add-keyed = c .before .before .before .before .before .before .before .before .before .before .before .before .before .before .before .before .before .before .before .before .add-keyed in
+    let at-add-keyed2 = c .before .before .before .before .before .before .before .before .before .before .before .before .add-keyed2 in
+    let at-add-keyed3 = c .before .before .before .before .add-keyed3 in
+    c .all-even .ensures
+    ∙ all-balanced (at-args .t1) maxVertices (at-add-keyed .last .1 .1 .0) (at-add-keyed2 .last .1 .1 .0) (at-add-keyed3 .last .1 .1 .0)
+    (at-add-keyed .ensures .0) (at-add-keyed2 .ensures .0) (search needs) (at-add-keyed3 .ensures .0) (omega (arith, c .before .before .before .before .before .before .before .before .before .before .before .before .before .before .before .before .before .before .before .before .before .before .before .before .before .before .before .if1 .left))
+
+pub all-balanced-spec : {M : Type 1} → statement M
+all-balanced-spec =
+    tie.close
+    (tie.spec
+    all-keep-requires
+    returns
+    slice-aggregate-add-keyed
+    add-keyed-requires
+    slice-aggregate-add-keyed-2
+    add-keyed-requires-2
+    slice-aggregate-add-keyed-3
+    add-keyed-requires-3
+    slice-aggregate-all-even
+    slice-aggregate-all-even-2
+    all-even-requires
+    returns-2)

@@ -1,0 +1,164 @@
+// Which rules a network breaks first, and whether it is one that an accepted text gives.
+use board::Board;
+use board::Network;
+use text_rules::Rule;
+ghost use mathlib.Core.Path.{_≡_};
+ghost use Prim.Native.Nat.{ℕ, _+_, _*_, _≤_, _<_};
+ghost use lib.Dec.{leb};
+ghost use lib.ListN.{length, getD, set};
+ghost use Rattle.lists.specs.Choice.{both};
+ghost use Rattle.lists.specs.Lists.{all, sumAt};
+ghost use Rattle.text_rules.specs.Rules.{keeps, balanced, judged, countsFit, lawful};
+ghost use Rattle.text_judge.specs.Sums.{differAt, awayAt, evenAt};
+
+// Whether the first n places keep a rule.
+fn all_keep(rule: Rule, net: Network, n: u32) -> bool
+    ensures { λ r. ⌜ r ≡ all (keeps rule net) 0 n ⌝ }
+{
+    let mut i: u32 = 0;
+    while i < n {
+        if !text_rules::keeps(rule, net, i) {
+            return false;
+        }
+        i += 1;
+    }
+    true
+}
+
+// Whether the first n numbers of two slices differ, each from the other at its place.
+fn all_differ<'a>(xs: &'a [u32], ys: &'a [u32], n: u32) -> bool
+    ensures { λ r. ⌜ r ≡ all (differAt (now (xs .entry)) (now (ys .entry))) 0 n ⌝ }
+{
+    let mut i: u32 = 0;
+    while i < n {
+        if lists::word_at(xs, i as usize) == lists::word_at(ys, i as usize) {
+            return false;
+        }
+        i += 1;
+    }
+    true
+}
+
+// Whether none of the first n numbers is v.
+fn all_away(xs: &[u32], v: u32, n: u32) -> bool
+    ensures { λ r. ⌜ r ≡ all (awayAt (now (xs .entry)) v) 0 n ⌝ }
+{
+    let mut j: u32 = 0;
+    while j < n {
+        if lists::word_at(xs, j as usize) == v {
+            return false;
+        }
+        j += 1;
+    }
+    true
+}
+
+fn wide(x: u32) -> u64
+    ensures { λ r. ⌜ (r ≡ x) × (r < 4294967296) ⌝ }
+{
+    x as u64
+}
+
+// Adds x to the sum at k, and nothing past the end.
+fn add_at(sums: &mut [u64], k: usize, x: u64)
+    requires { ⌜ getD (now sums) k 0 + x < 18446744073709551616 ⌝ }
+    ensures { λ _. ⌜ now (sums .exit) ≡ set (now (sums .entry)) k (getD (now (sums .entry)) k 0 + x) ⌝ }
+{
+    if k < sums.len() {
+        sums[k] += x;
+    }
+}
+
+// Adds each value to the sum of its key.
+fn add_keyed<'a>(keys: &'a [u32], values: &'a [u32], sums: &mut [u64])
+    requires { ⌜ (length (now keys) ≡ length (now values)) × (length (now keys) ≤ 65536) ⌝ }
+    requires { ⌜ ((v : ℕ) → getD (now sums) v 0 ≤ 4294967296 * 65536) ⌝ }
+    ensures { λ _. ⌜ ((v : ℕ) → v < length (now (sums .entry)) → getD (now (sums .exit)) v 0 ≡ getD (now (sums .entry)) v 0 + sumAt (now (keys .entry)) (now (values .entry)) v) ⌝ }
+    ensures { λ _. ⌜ ((v : ℕ) → getD (now (sums .exit)) v 0 ≤ getD (now (sums .entry)) v 0 + 4294967296 * 65536) ⌝ }
+{
+    let mut i: usize = 0;
+    while i < keys.len() {
+        let k = keys[i] as usize;
+        let x = wide(values[i]);
+        add_at(sums, k, x);
+        i += 1;
+    }
+}
+
+// Whether the two sums of each of the first n vertices are equal, but for those of the source.
+fn all_even<'a>(xs: &'a [u64], ys: &'a [u64], source: u32, n: u32) -> bool
+    requires { ⌜ (n ≤ length (now xs)) × (n ≤ length (now ys)) ⌝ }
+    ensures { λ r. ⌜ r ≡ all (evenAt (now (xs .entry)) (now (ys .entry)) source) 0 n ⌝ }
+{
+    let mut v: u32 = 0;
+    while v < n {
+        let even = xs[v as usize] == ys[v as usize];
+        if !lists::or(v == source, even) {
+            return false;
+        }
+        v += 1;
+    }
+    true
+}
+
+// Whether each vertex but the source balances: the sums of all vertices at once, where there are as many vertices as a board can have.
+fn all_balanced(net: Network) -> bool
+    ensures { λ r. ⌜ r ≡ all (balanced net) 0 (net .vertices) ⌝ }
+{
+    if Board::MAX_VERTICES < net.vertices {
+        return all_keep(Rule::Balanced, net, net.vertices);
+    }
+    let mut inflow = [0u64; Board::MAX_VERTICES as usize];
+    let mut outflow = [0u64; Board::MAX_VERTICES as usize];
+    add_keyed(&net.heads, &net.flows, &mut inflow);
+    add_keyed(&net.tails, &net.flows, &mut outflow);
+    add_keyed(&net.homes, &net.demands, &mut outflow);
+    all_even(&inflow, &outflow, net.source, net.vertices)
+}
+
+// 3, 4 or 5, in this order, each over the whole network; 0 where it keeps the rules.
+pub fn judged(net: Network) -> u32
+    ensures { λ r. ⌜ r ≡ judged net ⌝ }
+{
+    if !all_differ(&net.tails, &net.heads, net.edges) {
+        return 3;
+    }
+    if !all_away(&net.homes, net.source, net.terminals) {
+        return 4;
+    }
+    if !all_balanced(net) {
+        return 5;
+    }
+    0
+}
+
+fn between(low: u32, n: u32, high: u32) -> bool
+    ensures { λ r. ⌜ r ≡ both (leb low n) (leb n high) ⌝ }
+{
+    lists::and(low <= n, n <= high)
+}
+
+// Whether the counts and the source are in their ranges.
+pub fn counts_fit(net: Network) -> bool
+    ensures { λ r. ⌜ r ≡ countsFit net ⌝ }
+{
+    let vertices = between(2, net.vertices, Board::MAX_VERTICES);
+    let edges = between(1, net.edges, Board::MAX_EDGES as u32);
+    let terminals = between(1, net.terminals, Board::MAX_TERMINALS as u32);
+    let source = net.source < net.vertices;
+    lists::and(vertices, lists::and(edges, lists::and(terminals, source)))
+}
+
+// Whether a network is one that an accepted text gives.
+pub fn lawful(net: Network) -> bool
+    ensures { λ r. ⌜ r ≡ lawful net ⌝ }
+{
+    let counts = counts_fit(net);
+    let edges = all_keep(Rule::EdgeFits, net, Board::MAX_EDGES as u32);
+    let terminals = all_keep(Rule::TerminalFits, net, Board::MAX_TERMINALS as u32);
+    let answer = judged(net);
+    lists::and(
+        counts,
+        lists::and(edges, lists::and(terminals, answer == 0)),
+    )
+}

@@ -1,0 +1,104 @@
+-- The rules of a network: refusals 3, 4 and 5, and all that an accepted text keeps.
+use mathlib.Core.Path.{_≡_}
+use mathlib.Core.Bool.{Bool, true, not}
+use Prim.Native.Nat.{ℕ, _+_, _-_, _<_, _≤_}
+use lib.Dec.{leb, ltb, eqb}
+use lib.ListN.{getD, length}
+use Rattle.lists.specs.Choice.{pick, both}
+use Rattle.lists.specs.Lists.{all, sumAt}
+use Rattle.board.specs.Limits.{maxVertices, maxEdges, maxTerminals, maxFlow}
+use Rattle.board.specs.declared.Network.{Network}
+use Rattle.text_rules.specs.declared.Rule.{Rule}
+use Rattle.text_rules.specs.declared.Rule.the-variants.{EdgeFits, TerminalFits, Balanced}
+
+-- the flow that enters v, the flow that leaves v, and what the terminals there need; places past the counts hold 0
+abbrev pub inflow : Network → ℕ → ℕ
+inflow net v = sumAt (net .heads) (net .flows) v
+
+abbrev pub outflow : Network → ℕ → ℕ
+outflow net v = sumAt (net .tails) (net .flows) v
+
+abbrev pub demandAt : Network → ℕ → ℕ
+demandAt net v = sumAt (net .homes) (net .demands) v
+
+-- 3: a channel's tail is its head
+abbrev pub noLoop : Network → ℕ → Bool
+noLoop net i = not (eqb (getD (net .tails) i 0) (getD (net .heads) i 0))
+
+-- 4: a mill at the spring
+abbrev pub awayFromSource : Network → ℕ → Bool
+awayFromSource net j = not (eqb (getD (net .homes) j 0) (net .source))
+
+-- 5: a pool out of balance; the spring need not balance
+unfoldable pub balanced : Network → ℕ → Bool
+unfolding sumAt
+balanced net v = pick (eqb v (net .source)) true (eqb (inflow net v) (outflow net v + demandAt net v))
+
+-- 2: the numbers of an edge are in their ranges; those of a place past the edges are 0
+abbrev pub edgeNumbersFit : Bool → ℕ → ℕ → ℕ → ℕ → Bool
+edgeNumbersFit isEdge tail head flow vertices =
+    pick isEdge (both (ltb tail vertices) (both (ltb head vertices) (leb flow maxFlow))) (both (eqb tail 0) (both (eqb head 0) (eqb flow 0)))
+
+-- the same at place i of a network
+abbrev pub edgeFits : Network → ℕ → Bool
+edgeFits net i = edgeNumbersFit (ltb i (net .edges)) (getD (net .tails) i 0) (getD (net .heads) i 0) (getD (net .flows) i 0) (net .vertices)
+
+-- 2: the numbers of a terminal are in their ranges; those of a place past the terminals are 0
+abbrev pub terminalNumbersFit : Bool → ℕ → ℕ → ℕ → Bool
+terminalNumbersFit isTerminal home demand vertices =
+    pick isTerminal (both (ltb home vertices) (both (leb 1 demand) (leb demand maxFlow))) (both (eqb home 0) (eqb demand 0))
+
+-- the same at place j of a network
+abbrev pub terminalFits : Network → ℕ → Bool
+terminalFits net j = terminalNumbersFit (ltb j (net .terminals)) (getD (net .homes) j 0) (getD (net .demands) j 0) (net .vertices)
+
+-- each rule that the code tests place by place, at one place
+abbrev pub keeps : Rule → Network → ℕ → Bool
+keeps EdgeFits net i = edgeFits net i
+keeps TerminalFits net j = terminalFits net j
+keeps Balanced net v = balanced net v
+
+-- 3, 4 or 5, in this order, each over the whole network; 0 where it keeps the rules
+unfoldable pub judged : Network → ℕ
+unfolding all balanced
+judged net =
+    pick (all (noLoop net) 0 (net .edges))
+    (pick (all (awayFromSource net) 0 (net .terminals))
+    (pick (all (balanced net) 0 (net .vertices)) 0 5)
+    4)
+    3
+
+-- 2: the counts and the source are in their ranges
+abbrev pub countsFit : Network → Bool
+countsFit net =
+    both (both (leb 2 (net .vertices)) (leb (net .vertices) maxVertices))
+    (both (both (leb 1 (net .edges)) (leb (net .edges) maxEdges))
+    (both (both (leb 1 (net .terminals)) (leb (net .terminals) maxTerminals)) (ltb (net .source) (net .vertices))))
+
+-- a network such as an accepted text gives
+unfoldable pub lawful : Network → Bool
+lawful net =
+    both (countsFit net)
+    (both (all (edgeFits net) 0 maxEdges) (both (all (terminalFits net) 0 maxTerminals) (eqb (judged net) 0)))
+
+-- what an accepted text says: numbers in their ranges, 0 in the places past the counts, and the three rules
+pub record Lawful (net : Network) : Type 0 where
+  pub tails-size : length (net .tails) ≡ maxEdges
+  pub heads-size : length (net .heads) ≡ maxEdges
+  pub flows-size : length (net .flows) ≡ maxEdges
+  pub homes-size : length (net .homes) ≡ maxTerminals
+  pub demands-size : length (net .demands) ≡ maxTerminals
+  pub vertices : (2 ≤ net .vertices) × (net .vertices ≤ maxVertices)
+  pub edges : (1 ≤ net .edges) × (net .edges ≤ maxEdges)
+  pub terminals : (1 ≤ net .terminals) × (net .terminals ≤ maxTerminals)
+  pub source : net .source < net .vertices
+  pub tail : (i : ℕ) → i < net .edges → getD (net .tails) i 0 < net .vertices
+  pub head : (i : ℕ) → i < net .edges → getD (net .heads) i 0 < net .vertices
+  pub flow : (i : ℕ) → i < net .edges → getD (net .flows) i 0 ≤ maxFlow
+  pub home : (j : ℕ) → j < net .terminals → getD (net .homes) j 0 < net .vertices
+  pub demand : (j : ℕ) → j < net .terminals → (1 ≤ getD (net .demands) j 0) × (getD (net .demands) j 0 ≤ maxFlow)
+  pub no-edge : (i : ℕ) → net .edges ≤ i → (getD (net .tails) i 0 ≡ 0) × (getD (net .heads) i 0 ≡ 0) × (getD (net .flows) i 0 ≡ 0)
+  pub no-terminal : (j : ℕ) → net .terminals ≤ j → (getD (net .homes) j 0 ≡ 0) × (getD (net .demands) j 0 ≡ 0)
+  pub no-loop : (i : ℕ) → i < net .edges → getD (net .tails) i 0 ≡ getD (net .heads) i 0 → ⊥
+  pub away : (j : ℕ) → j < net .terminals → getD (net .homes) j 0 ≡ net .source → ⊥
+  pub balance : (v : ℕ) → v < net .vertices → (v ≡ net .source → ⊥) → inflow net v ≡ outflow net v + demandAt net v

@@ -1,0 +1,35 @@
+-- A board over an accepted text's network writes that text, at every stage of play: the network of an accepted text is lawful, and the text
+-- of a network that was read is the text it was read from.
+use mathlib.Core.Path.{_≡_}
+use mathlib.Core.Bool.{true}
+use mathlib.Core.List.{List, _++_}
+use Prim.Native.Nat.{ℕ, _≤_}
+use lib.ListN.{length, drop}
+use borrow.Author.Tests.{le-leb}
+use Rattle.lists.specs.Choice.{pick}
+use Rattle.lists.proofs.Laws.{both-true}
+use Rattle.board.specs.declared.Network.{Network}
+use Rattle.board.specs.Record.{playStage, finishedStage}
+use Rattle.board.specs.declared.Board.{Board}
+use Rattle.text_rules.specs.Rules.{lawful}
+use Rattle.text_rules.proofs.Meaning.{lawful-tested}
+use Rattle.text.specs.Text.{textOf}
+use Rattle.text.specs.Results.{readText, loaded, writeText, written}
+use Rattle.text.proofs.Accepted.{acceptedAs, accepted-text}
+
+loaded-stage : (stage : ℕ) (net : Network) → (playStage ≤ stage) × (stage ≤ finishedStage) → lawful net ≡ true → loaded stage net ≡ true
+unfolding loaded
+loaded-stage stage net h l = both-true _ _ (both-true _ _ (le-leb _ _ (h .0)) (le-leb _ _ (h .1))) l
+
+writes : (b : Board) (buf : List ℕ) → loaded (b .stage) (b .network) ≡ true → length (textOf (b .network)) ≤ length buf
+    → (writeText b (length buf) ≡ record { answer = 0; used = length (textOf (b .network)) }) × (written b buf ≡ textOf (b .network) ++ drop (length (textOf (b .network))) buf)
+unfolding writeText written pick
+writes b buf l fits = let e = le-leb (length (textOf (b .network))) (length buf) fits in (rw (l, e), rw (l, e))
+
+-- at every stage of play, into any buffer that is long enough, the text that was loaded, with the bytes past it kept
+pub writes-loaded : (s : List ℕ) (b : Board) (buf : List ℕ) → readText s ≡ acceptedAs (b .network) → (playStage ≤ b .stage) × (b .stage ≤ finishedStage) → length s ≤ length buf
+    → (writeText b (length buf) ≡ record { answer = 0; used = length s }) × (written b buf ≡ s ++ drop (length s) buf)
+writes-loaded s b buf h stage fits =
+    let a = accepted-text s (b .network) h in
+    let l = loaded-stage (b .stage) (b .network) stage (lawful-tested (b .network) (a .1)) in
+    rw (a .0) (writes b buf l (rw (a .0) at fits))

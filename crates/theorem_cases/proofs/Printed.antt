@@ -1,0 +1,70 @@
+-- What the programs print for document 01's T, computed from the definitions: the sheet that it shows, and a play with lines of every kind.
+use mathlib.Core.Bool.{Bool}
+use mathlib.Core.List.{_++_}
+use Prim.Native.String.{String}
+use lib.Dec.{T}
+use Rattle.lists.specs.Choice.{pick, both, either}
+use Rattle.lists.specs.Lists.{indexOf, all, lowest, sumAt, keyed, total}
+use Rattle.lists.specs.Members.{has}
+use Rattle.sets.specs.Sets.{hasBit, withBit, collect}
+use Rattle.decimal.specs.Decimal.{numberOf, valueFrom, decimalFrom, decimal}
+use Rattle.board.specs.Record.{closedBoard}
+use Rattle.text.specs.Text.{then, letter, field, ranged, numbers, line, header, numbersText, lineText, linesText}
+use Rattle.text.specs.Results.{readText}
+use Rattle.graph.specs.Graph.{opens, pass, passes, reached, leads, onward}
+use Rattle.graph_cancel.specs.Cycles.{since, follow, onCycle, cycleVertex, cycleFrom}
+use Rattle.graph_cancel.specs.Lowering.{smallest, lowered, lowerCycle}
+use Rattle.graph_cancel.specs.Cancelling.{cancelled, acyclicFlows}
+use Rattle.load.specs.Load.{loadText}
+use Rattle.move_edges.specs.Singular.{leaves, leaving, straight}
+use Rattle.move_guard.specs.Moved.{answered}
+use Rattle.move_guard.specs.Guard.{intact, playing}
+use Rattle.move_carry.specs.Opens.{flowFits, enters, isOpen, openEdge, hasOpen, openTerminal, someOpen}
+use Rattle.move_carry.specs.Carries.{onBoard, carryRefusal, carried, carryCall}
+use Rattle.move_cycle.specs.Steps.{stepOf, stepsOf, every, leadsBack, isCycle, gather}
+use Rattle.move_edges.specs.Marking.{singular, isFresh, fresh}
+use Rattle.move_cycle.specs.Amounts.{smaller, isShort, raise, amountFrom, amount}
+use Rattle.move_cycle.specs.Shifts.{shiftedAt, shiftFrom, shifted}
+use Rattle.move_turn.specs.Turns.{turnRefusal, turned}
+use Rattle.move_undo.specs.Undone.{undoRefusal, undone, undoCall}
+use Rattle.solve_walk.specs.Walk.{touches, another, parts, firstMet, downWalk, cycleOf}
+use Rattle.solve_next.specs.Choosing.{isHome, allHome, markedOpen, markedEdge, chosenEdge, nextCycle, nextAct}
+use Rattle.solve_finish.specs.Finishes.{stepped, steppedOn, playedOut, finishRefusal, finishCall}
+use Rattle.report_routes.specs.Routes.{routeBy, route, load}
+use Rattle.solve_next.specs.Hints.{hintRefusal}
+use Rattle.report_routes.specs.Tables.{routesFit}
+use Rattle.report.specs.Reports.{reportText, started, unreported}
+use Rattle.play_lines.specs.Orders.{fieldsOf, onto, isLetter, carryOf, turnOf, byFields, orderOf}
+use Rattle.sheet_output.specs.Outputs.{reportOf, finishOutput, sheetOutput}
+use Rattle.sheet_output.specs.Inputs.{firstLines, linesOf, linesWanted, boardPart, movesPart}
+use Rattle.play_session.specs.Replies.{replied, replyText, repliesFrom, playOutput}
+use Rattle.theorem_cases.proofs.Cases.{bytes, boardT, same}
+
+-- document 01's sheet
+sheetT : String
+sheetT = "R,2,4\nM,0,2,0,2\nM,1,2,1,3\nL,0,3,2\nL,1,3,4\nL,2,3,2\nL,3,3,4\n"
+
+-- two carries, the turn, an undo and a hint; a channel too large for a step, a line of another form, the empty turn; a finish, a line after it, and one
+-- without its line feed
+lines : String
+lines = "K,0,2\nK,0,0\nT,0,D,2,D,3,U,1,U\nU\nH\nT,128,D\nK,0\nT\nF\nU\nF"
+
+answersT : String
+answersT = "0\n0\n0\n0\n0\n6\n1\n7\n0\n"
+
+pub asShown : Bool
+asShown =
+    both (same (sheetOutput (bytes boardT)) (bytes sheetT))
+    (same (playOutput (bytes boardT ++ bytes lines)) (bytes answersT ++ (bytes sheetT ++ bytes "20\n1\n")))
+
+pub printed : T asShown
+unfolding asShown lines answersT playOutput repliesFrom replyText replied hintRefusal boardPart movesPart firstLines linesWanted linesOf header line letter
+    field numbers then fieldsOf onto isLetter carryOf turnOf byFields orderOf same bytes boardT sheetT sheetOutput finishOutput reportOf reportText
+    started unreported routesFit route routeBy load decimal decimalFrom numbersText lineText linesText loadText readText both pick indexOf numberOf
+    valueFrom ranged all lowest sumAt keyed closedBoard opens pass passes reached leads onward since follow smallest lowered lowerCycle onCycle
+    cycleVertex cycleFrom cancelled acyclicFlows answered intact playing flowFits enters isOpen openEdge hasOpen openTerminal someOpen onBoard
+    carryRefusal carried carryCall hasBit withBit collect stepOf stepsOf every leadsBack isCycle gather leaves leaving straight singular isFresh fresh
+    smaller isShort raise amountFrom amount shiftedAt shiftFrom shifted turnRefusal turned undoRefusal undone undoCall total has touches another parts
+    firstMet downWalk cycleOf isHome allHome markedOpen markedEdge chosenEdge nextCycle nextAct stepped steppedOn playedOut finishRefusal finishCall
+    either
+printed = tt

@@ -1,0 +1,112 @@
+-- Boards of play: in play, with the invariant, and with moves and potential within the bound. A loaded board is one. An accepted move adds one move and lowers the
+-- potential by one or more, so its potential was above 0 and the moves were below the bound, which the journal has room for; then the board after it is one
+-- too, and undo is accepted there and gives the board of before.
+use mathlib.Core.Path.{_≡_, refl, _∙_}
+use mathlib.Core.Bool.{true}
+use mathlib.Core.List.{List}
+use Prim.Native.Nat.{ℕ, _+_, _<_, _≤_}
+use native.Mathlib.Omega.{arith}
+use lib.Dec.{eqb}
+use borrow.Author.Tests.{eq-eqb, ne-eqb}
+use Rattle.lists.proofs.Laws.{pick-yes, pick-no, both-true}
+use Rattle.board.specs.Limits.{maxMoves}
+use Rattle.board.specs.Record.{playStage}
+use Rattle.board.specs.declared.Board.{Board}
+use Rattle.text.specs.Results.{readText}
+use Rattle.load.specs.Load.{acyclicOf, opened, loadText}
+use Rattle.load.proofs.Loads.{load-accepted, loaded-lawful}
+use Rattle.graph_flows.specs.Trails.{Step}
+use Rattle.move_guard.specs.Guard.{playing}
+use Rattle.move_guard.proofs.Answers.{answered-yes}
+use Rattle.move_carry.specs.Carries.{carryRefusal, carried}
+use Rattle.move_turn.specs.Turns.{turnRefusal, turned}
+use Rattle.move_undo.specs.Undone.{undoRefusal, undone, undoCall}
+use Rattle.theorem_keep.specs.Bound.{movesBound}
+use Rattle.theorem_keep.specs.Invariant.{Invariant}
+use Rattle.theorem_keep.proofs.Opened.{opened-invariant}
+use Rattle.theorem_keep.proofs.Kept.{kept-intact}
+use Rattle.theorem_keep.proofs.Carriable.{Carriable, carry-facts}
+use Rattle.theorem_keep.proofs.Carried.{carried-invariant}
+use Rattle.theorem_keep.proofs.CarryBack.{carried-back}
+use Rattle.theorem_keep.proofs.Turnable.{Turnable, turn-facts}
+use Rattle.theorem_keep.proofs.Turned.{turned-invariant}
+use Rattle.theorem_keep.proofs.TurnBack.{turned-back}
+use Rattle.theorem_keep.proofs.Potential.{potential, carried-falls, potential-first, bound-fits}
+use Rattle.theorem_keep.proofs.Gains.{turned-falls}
+
+pub record Standing (b : Board) : Type 0 where
+  pub stage : b .stage ≡ playStage
+  pub inv : Invariant b
+  pub room : b .moves + potential b ≤ movesBound (b .network)
+
+-- a loaded board
+pub loaded-standing : (s : List ℕ) → loadText s .answer ≡ 0 → Standing (loadText s .board)
+loaded-standing s h = rw (load-accepted s h) start-standing
+  where
+    start : Board
+    start = opened (readText s .network) (acyclicOf (readText s .network))
+
+    start-inv : Invariant start
+    start-inv = opened-invariant (readText s .network) (loaded-lawful s h)
+
+    start-standing : Standing start
+    start-standing = record { stage = refl; inv = start-inv; room = omega (arith, potential-first start start-inv) }
+
+module _ (b : Board) (st : Standing b) where
+  pub never-full : b .moves ≤ movesBound (b .network)
+  never-full = omega (arith, st .room)
+
+  fits : movesBound (b .network) ≤ maxMoves
+  fits = bound-fits (b .network) (st .inv .lawful)
+
+  pub standing-playing : playing b ≡ true
+  unfolding playing
+  standing-playing = both-true _ _ (eq-eqb _ _ (st .stage)) (kept-intact b (st .inv) (omega (arith, never-full, fits)))
+
+-- undo after a move
+undo-taken : (b : Board) → Standing b → 0 < b .moves → undoRefusal b ≡ 0
+unfolding undoRefusal
+undo-taken b st some = pick-yes (playing b) _ 20 (standing-playing b st) ∙ pick-no (eqb (b .moves) 0) 27 0 (ne-eqb (b .moves) 0 (λ z. omega (arith, z, some)))
+
+undo-accepted : (b next : Board) → Standing next → next .moves ≡ b .moves + 1 → undone next ≡ b → undoCall next ≡ record { answer = 0; board = b }
+unfolding undoCall
+undo-accepted b next st more back =
+    answered-yes (undoRefusal next) next (undone next) (undo-taken next st (omega (arith, more))) ∙ (λ j. record { answer = 0; board = back j })
+
+module _ (b : Board) (i e : ℕ) (st : Standing b) (h : carryRefusal b i e ≡ 0) where
+  carries : Carriable b i e
+  carries = carry-facts b i e h .1
+
+  carry-room : b .moves < maxMoves
+  carry-room = omega (arith, st .room, fits b st, carried-falls b i e (st .inv) carries)
+
+  pub carry-standing : Standing (carried b i e)
+  unfolding carried
+  carry-standing = record {
+    stage = st .stage;
+    inv = carried-invariant b i e (st .inv) carries carry-room;
+    room = omega (arith, st .room, carried-falls b i e (st .inv) carries);
+  }
+
+  pub carry-undone : undoCall (carried b i e) ≡ record { answer = 0; board = b }
+  unfolding carried
+  carry-undone = undo-accepted b (carried b i e) carry-standing refl (carried-back b i e (st .inv) carries carry-room)
+
+module _ (b : Board) (w : List Step) (st : Standing b) (h : turnRefusal b w ≡ 0) where
+  turns : Turnable b w
+  turns = turn-facts b w h .1
+
+  turn-room : b .moves < maxMoves
+  turn-room = omega (arith, st .room, fits b st, turned-falls b w (st .inv) turns)
+
+  pub turn-standing : Standing (turned b w)
+  unfolding turned
+  turn-standing = record {
+    stage = st .stage;
+    inv = turned-invariant b w (st .inv) turns turn-room;
+    room = omega (arith, st .room, turned-falls b w (st .inv) turns);
+  }
+
+  pub turn-undone : undoCall (turned b w) ≡ record { answer = 0; board = b }
+  unfolding turned
+  turn-undone = undo-accepted b (turned b w) turn-standing refl (turned-back b w (st .inv) turns turn-room)

@@ -1,0 +1,37 @@
+-- An accepted move of either kind, a carry or a turn: the board stays one of play, the potential falls, the network and the acyclic flow stay, and the journal
+-- has one move more. Each fact is the carry's or the turn's own, by the kind of the move.
+use mathlib.Core.Path.{_≡_, refl}
+use Prim.Native.Nat.{_+_, _<_}
+use Rattle.board.specs.declared.Board.{Board}
+use Rattle.solve_next.specs.Choosing.{Act, relocate, augment, judge, acted}
+use Rattle.move_carry.specs.Carries.{carried}
+use Rattle.move_turn.specs.Turns.{turned}
+use Rattle.theorem_keep.proofs.Carriable.{carry-facts}
+use Rattle.theorem_keep.proofs.Turnable.{turn-facts}
+use Rattle.theorem_keep.proofs.Potential.{potential, carried-falls}
+use Rattle.theorem_keep.proofs.Gains.{turned-falls}
+use Rattle.theorem_keep.proofs.Standing.{Standing, carry-standing, turn-standing}
+
+module _ (b : Board) where
+  pub act-standing : (a : Act) → Standing b → judge b a ≡ 0 → Standing (acted b a)
+  act-standing (relocate i e) st h = carry-standing b i e st h
+  act-standing (augment w) st h = turn-standing b w st h
+
+  pub act-falls : (a : Act) → Standing b → judge b a ≡ 0 → potential (acted b a) < potential b
+  act-falls (relocate i e) st h = carried-falls b i e (st .inv) (carry-facts b i e h .1)
+  act-falls (augment w) st h = turned-falls b w (st .inv) (turn-facts b w h .1)
+
+  pub act-network : (a : Act) → acted b a .network ≡ b .network
+  unfolding carried turned
+  act-network (relocate i e) = refl
+  act-network (augment w) = refl
+
+  pub act-acyclic : (a : Act) → acted b a .acyclic ≡ b .acyclic
+  unfolding carried turned
+  act-acyclic (relocate i e) = refl
+  act-acyclic (augment w) = refl
+
+  pub act-moves : (a : Act) → acted b a .moves ≡ b .moves + 1
+  unfolding carried turned
+  act-moves (relocate i e) = refl
+  act-moves (augment w) = refl

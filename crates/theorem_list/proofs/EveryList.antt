@@ -1,0 +1,179 @@
+-- After every list of calls the engine stands where the reference player does: after each call its board is the board made afresh from the standing moves. An
+-- accepted move joins the list, a refused call and a hint leave board and list, and undo gives the very board that the last standing move was made on. The
+-- rest of the theorem is read off from the standing moves.
+use mathlib.Core.Path.{_≡_, refl, sym, ap, _∙_, subst}
+use mathlib.Core.Logic.{_⊎_, inl, inr, _≢_}
+use mathlib.Core.List.{List, [], _∷_, _++_}
+use Prim.Native.Nat.{ℕ}
+use native.Mathlib.Omega.{arith}
+use lib.Dec.{eqb}
+use lib.ListN.{length, length-append}
+use borrow.Author.Tests.{eq-eqb, ne-eqb}
+use Rattle.lists.specs.Choice.{pick}
+use Rattle.lists.proofs.Laws.{eq-or-ne, pick-yes, pick-no}
+use Rattle.board.specs.declared.Board.{Board}
+use Rattle.board.specs.declared.Played.{Played}
+use Rattle.load.specs.Load.{loadText}
+use Rattle.move_guard.proofs.Answers.{answered-no}
+use Rattle.move_carry.specs.Carries.{carryRefusal, carried, carryCall}
+use Rattle.move_cycle.specs.Steps.{stepsOf}
+use Rattle.move_turn.specs.Turns.{turnRefusal, turned, turnCall}
+use Rattle.move_undo.specs.Undone.{undoRefusal, undone, undoCall}
+use Rattle.solve_next.specs.declared.Suggestion.{Suggestion}
+use Rattle.solve_next.specs.Hints.{hintRefusal}
+use Rattle.theorem_keep.proofs.Standing.{Standing, standing-playing}
+use Rattle.move_list.specs.Calls.{Call, carry, turn, undo, hint, made, played, answers, HintsKept}
+use Rattle.theorem_list.specs.Player.{listedAll, afresh, saysTo, standingAfter, standingMoves, says, HintsKeptBy}
+use Rattle.theorem_list.specs.Faithful.{Faithful}
+use Rattle.theorem_list.proofs.Finish.{finish-completes, hint-taken}
+use Rattle.theorem_list.proofs.Stands.{
+  AcceptedMove,
+  carry-accepted,
+  turn-accepted,
+  without-last,
+  afresh-more,
+  afresh-network,
+  afresh-acyclic,
+  Stands,
+  none,
+  more,
+  Follows,
+  stands-follows,
+}
+
+-- one call, on the engine's board and by the player
+record Same (text : List ℕ) (ms : List Call) (c : Call) : Type 0 where
+  answer : made (afresh text ms) c .answer ≡ saysTo text ms c
+  board : made (afresh text ms) c .board ≡ afresh text (standingAfter text ms c)
+  stands : Stands text (standingAfter text ms c)
+
+module _ (text : List ℕ) (ms : List Call) (s : Stands text ms) where
+  -- a move that is accepted and joins the list
+  joins : (c : Call) → AcceptedMove (afresh text ms) c → saysTo text ms c ≡ 0 → standingAfter text ms c ≡ ms ++ (c ∷ []) → Same text ms c
+  joins c a said kept = record {
+    answer = ap (λ (p : Played). p .answer) (a .called) ∙ sym said;
+    board = rw kept (ap (λ (p : Played). p .board) (a .called) ∙ sym (afresh-more text ms c));
+    stands = more ms c s a kept;
+  }
+
+  -- a call that leaves board and list
+  leaves : (c : Call) → made (afresh text ms) c ≡ record { answer = saysTo text ms c; board = afresh text ms } → standingAfter text ms c ≡ ms → Same text ms c
+  leaves c m kept = record {
+    answer = ap (λ (p : Played). p .answer) m;
+    board = rw kept (ap (λ (p : Played). p .board) m);
+    stands = rw kept s;
+  }
+
+  same-carry : (i e : ℕ) → Standing (afresh text ms) → Same text ms (carry i e)
+  unfolding saysTo standingAfter carryCall
+  same-carry i e st = go (eq-or-ne (carryRefusal (afresh text ms) i e) 0)
+    where
+      go : (carryRefusal (afresh text ms) i e ≡ 0) ⊎ (carryRefusal (afresh text ms) i e ≢ 0) → Same text ms (carry i e)
+      go (inl h) = joins (carry i e) (carry-accepted (afresh text ms) i e st h) h (pick-yes _ _ _ (eq-eqb _ 0 h))
+      go (inr n) = leaves (carry i e) (answered-no _ (afresh text ms) (carried (afresh text ms) i e) n) (pick-no _ _ _ (ne-eqb _ 0 n))
+
+  same-turn : (w : List ℕ) → Standing (afresh text ms) → Same text ms (turn w)
+  unfolding saysTo standingAfter turnCall
+  same-turn w st = go (eq-or-ne (turnRefusal (afresh text ms) (stepsOf w)) 0)
+    where
+      go : (turnRefusal (afresh text ms) (stepsOf w) ≡ 0) ⊎ (turnRefusal (afresh text ms) (stepsOf w) ≢ 0) → Same text ms (turn w)
+      go (inl h) = joins (turn w) (turn-accepted (afresh text ms) w st h) h (pick-yes _ _ _ (eq-eqb _ 0 h))
+      go (inr n) = leaves (turn w) (answered-no _ (afresh text ms) (turned (afresh text ms) (stepsOf w)) n) (pick-no _ _ _ (ne-eqb _ 0 n))
+
+  -- a hint that is taken
+  same-hint : hintRefusal (afresh text ms) ≡ 0 → Same text ms hint
+  unfolding saysTo standingAfter
+  same-hint h = leaves hint (λ j. record { answer = h j; board = afresh text ms }) refl
+
+-- undo on a board with no move: 27
+undo-nothing : (b : Board) → Standing b → b .moves ≡ 0 → undoCall b ≡ record { answer = 27; board = b }
+unfolding undoCall undoRefusal
+undo-nothing b st none-made =
+    let r : undoRefusal b ≡ 27 = pick-yes _ _ 20 (standing-playing b st) ∙ pick-yes (eqb (b .moves) 0) 27 0 (eq-eqb (b .moves) 0 none-made) in
+    answered-no (undoRefusal b) b (undone b) (λ z. omega (arith, r, z)) ∙ (λ j. record { answer = r j; board = b })
+
+module _ (text : List ℕ) where
+  undo-none : Follows text [] → Same text [] undo
+  unfolding saysTo standingAfter pick
+  undo-none f = leaves text [] none undo (undo-nothing (afresh text []) (f .standing) (f .moves)) refl
+
+  -- undo after the last move c
+  undo-last : (ms : List Call) (c : Call) → Stands text ms → AcceptedMove (afresh text ms) c → Same text (ms ++ (c ∷ [])) undo
+  unfolding saysTo standingAfter
+  undo-last ms c s a =
+      let back : undoCall (afresh text (ms ++ (c ∷ []))) ≡ record { answer = 0; board = afresh text ms } = rw (afresh-more text ms c) (a .back) in
+      record {
+        answer =
+            ap (λ (p : Played). p .answer) back
+            ∙ sym (pick-no (eqb (length (ms ++ (c ∷ []))) 0) 27 0 (ne-eqb (length (ms ++ (c ∷ []))) 0 (λ z. omega (arith, z, length-append ms (c ∷ [])))));
+        board = rw (without-last ms c) (ap (λ (p : Played). p .board) back);
+        stands = rw (without-last ms c) s;
+      }
+
+  same-undo : (ms : List Call) → Stands text ms → Follows text ms → Same text ms undo
+  same-undo ms none f = undo-none f
+  same-undo all (more ms c s a q) f = rw q (undo-last ms c s a)
+
+module _ (text : List ℕ) (loads : loadText text .answer ≡ 0) where
+  same : (ms : List Call) (c : Call) → Stands text ms → Same text ms c
+  same ms (carry i e) s = same-carry text ms s i e (stands-follows text loads ms s .standing)
+  same ms (turn w) s = same-turn text ms s w (stands-follows text loads ms s .standing)
+  same ms undo s = same-undo text ms s (stands-follows text loads ms s)
+  same ms hint s = same-hint text ms s (hint-taken (afresh text ms) (stands-follows text loads ms s .standing))
+
+  -- a list of calls, from standing moves on
+  pub all-stand : (ms cs : List Call) → Stands text ms → Stands text (standingMoves text ms cs)
+  unfolding standingMoves
+  all-stand ms [] s = s
+  all-stand ms (c ∷ cs) s = all-stand (standingAfter text ms c) cs (same ms c s .stands)
+
+  same-board : (ms cs : List Call) → Stands text ms → played (afresh text ms) cs ≡ afresh text (standingMoves text ms cs)
+  unfolding played standingMoves
+  same-board ms [] s = refl
+  same-board ms (c ∷ cs) s = let q = same ms c s in rw (q .board) (same-board (standingAfter text ms c) cs (q .stands))
+
+  same-answers : (ms cs : List Call) → Stands text ms → answers (afresh text ms) cs ≡ says text ms cs
+  unfolding answers says
+  same-answers ms [] s = refl
+  same-answers ms (c ∷ cs) s = let q = same ms c s in rw (q .board, q .answer, same-answers (standingAfter text ms c) cs (q .stands))
+
+  same-hints : (ms cs : List Call) (hs : List Suggestion) → Stands text ms → HintsKept (afresh text ms) cs hs → HintsKeptBy text ms cs hs
+  same-hints ms [] hs s k = k
+  same-hints ms (hint ∷ cs) [] s k = k
+  same-hints ms (hint ∷ cs) (h ∷ hs) s k =
+      let taken : h .answer ≡ 0 = k .0 .number ∙ hint-taken (afresh text ms) (stands-follows text loads ms s .standing) in
+      (record { number = taken; move = k .0 .move taken }, same-hints ms cs hs s (k .1))
+  same-hints ms (carry i e ∷ cs) hs s k =
+      let q = same ms (carry i e) s in
+      same-hints (standingAfter text ms (carry i e)) cs hs (q .stands) (subst (λ (b : Board). HintsKept b cs hs) (q .board) k)
+  same-hints ms (turn w ∷ cs) hs s k =
+      let q = same ms (turn w) s in
+      same-hints (standingAfter text ms (turn w)) cs hs (q .stands) (subst (λ (b : Board). HintsKept b cs hs) (q .board) k)
+  same-hints ms (undo ∷ cs) hs s k =
+      let q = same ms undo s in
+      same-hints (standingAfter text ms undo) cs hs (q .stands) (subst (λ (b : Board). HintsKept b cs hs) (q .board) k)
+
+  -- the player's board, after every list of calls
+  faithful : (cs : List Call) → Faithful text cs (afresh text (standingMoves text [] cs))
+  unfolding afresh listedAll
+  faithful cs =
+      let f = stands-follows text loads (standingMoves text [] cs) (all-stand [] cs none) in
+      record {
+        network = afresh-network text (standingMoves text [] cs);
+        acyclic = afresh-acyclic text (standingMoves text [] cs);
+        board = refl;
+        routes = f .routes;
+        again = sym (f .again);
+        moves = f .moves;
+        same-answers = same-answers [] cs none;
+        hinted = λ hs k. same-hints [] cs hs none k;
+        finish = finish-completes (afresh text (standingMoves text [] cs)) (f .standing);
+      }
+
+  -- the board that the text gave is the player's before any call
+  start : played (loadText text .board) ≡ played (afresh text [])
+  unfolding afresh listedAll
+  start = refl
+
+pub every-list : (text : List ℕ) (cs : List Call) → loadText text .answer ≡ 0 → Faithful text cs (played (loadText text .board) cs)
+every-list text cs loads = rw (start text loads, same-board text loads [] cs none) (faithful text loads cs)

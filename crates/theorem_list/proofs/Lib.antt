@@ -1,0 +1,12 @@
+pub mod Degrees
+pub mod NextCarry
+pub mod Walks
+pub mod NextCycle
+pub mod Next
+pub mod Ends
+pub mod Acts
+pub mod Finish
+pub mod Stands
+pub mod EveryList
+pub mod Rooms
+pub mod Reports

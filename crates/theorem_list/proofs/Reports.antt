@@ -1,0 +1,85 @@
+-- A board reached by play keeps the invariant, so it is intact and its routes have room in their rows: all that it lacks for a report is that play is over. Finish
+-- plays on by accepted moves, so the board at its end keeps the invariant too, and to end play changes nothing that the two tests look at.
+use mathlib.Core.Path.{_≡_, refl, _∙_}
+use mathlib.Core.Bool.{true}
+use mathlib.Core.List.{List, []}
+use Prim.Native.Nat.{ℕ, _≤_}
+use native.Mathlib.Omega.{arith}
+use lib.Dec.{eqb}
+use borrow.Author.Tests.{le-leb, eq-eqb, ne-eqb}
+use Rattle.lists.proofs.Laws.{pick-yes, pick-no, both-right, both-true}
+use Rattle.board.specs.Record.{playStage, finishedStage}
+use Rattle.board.specs.declared.Board.{Board}
+use Rattle.load.specs.Load.{loadText}
+use Rattle.move_guard.specs.Guard.{intact, playing}
+use Rattle.report_routes.specs.Routes.{route}
+use Rattle.report_routes.specs.Tables.{routesFit}
+use Rattle.report.specs.Reports.{started, unreported, reportText}
+use Rattle.sheet_output.specs.Outputs.{reportOf, finishOutput, sheetOutput}
+use Rattle.solve_finish.specs.declared.Finished.{Finished}
+use Rattle.solve_finish.specs.Finishes.{playedOut, ended, finishCall}
+use Rattle.move_list.specs.Calls.{Call, played}
+use Rattle.theorem_keep.proofs.Standing.{Standing, loaded-standing, standing-playing}
+use Rattle.theorem_list.specs.Player.{standingMoves}
+use Rattle.theorem_list.proofs.Finish.{over, finish-result, finish-completes}
+use Rattle.theorem_list.proofs.Stands.{none, stands-follows}
+use Rattle.theorem_list.proofs.EveryList.{every-list, all-stand}
+use Rattle.theorem_list.specs.Reported.{Reported, Printed}
+use Rattle.theorem_list.proofs.Rooms.{routes-fit}
+
+-- the test of a board, from its parts
+all-started : (b : Board) → playStage ≤ b .stage → b .stage ≤ finishedStage → intact b ≡ true → routesFit b ≡ true → started b ≡ true
+unfolding started
+all-started b from to whole room = both-true _ _ (both-true _ _ (le-leb _ _ from) (le-leb _ _ to)) (both-true _ _ whole room)
+
+-- a board of play, and the same once play is over
+module _ (b : Board) (st : Standing b) where
+  standing-intact : intact b ≡ true
+  unfolding playing
+  standing-intact = both-right _ _ (standing-playing b st)
+
+  standing-unreported : unreported b ≡ 28
+  unfolding unreported
+  standing-unreported =
+      let loaded = all-started b (omega (arith, st .stage)) (omega (arith, st .stage)) standing-intact (routes-fit b (st .inv)) in
+      pick-yes (started b) _ 29 loaded ∙ pick-no (eqb (b .stage) finishedStage) 0 28 (ne-eqb (b .stage) finishedStage (λ q. omega (arith, st .stage, q)))
+
+  ended-reported : (from : ℕ) → unreported (ended from b) ≡ 0
+  unfolding unreported intact routesFit route
+  ended-reported from =
+      let loaded = all-started (ended from b) (omega arith) (omega arith) standing-intact (routes-fit b (st .inv)) in
+      pick-yes (started (ended from b)) _ 29 loaded ∙ pick-yes (eqb finishedStage finishedStage) 0 28 (eq-eqb finishedStage finishedStage refl)
+
+finished-reported : (b : Board) → Standing b → unreported (finishCall b .board) ≡ 0
+finished-reported b st = rw (finish-result b st) (ended-reported (playedOut b) (over b st .standing) (b .moves))
+
+-- a finish that is accepted and leaves a report prints it
+report-printed : (f : Finished) → f .answer ≡ 0 → unreported (f .board) ≡ 0 → finishOutput f ≡ reportText (f .board)
+unfolding finishOutput reportOf
+report-printed f taken there = pick-yes (eqb (f .answer) 0) _ _ (eq-eqb _ 0 taken) ∙ pick-yes (eqb (unreported (f .board)) 0) _ _ (eq-eqb _ 0 there)
+
+-- the board after any calls is one of play
+played-standing : (text : List ℕ) (cs : List Call) → loadText text .answer ≡ 0 → Standing (played (loadText text .board) cs)
+played-standing text cs loads =
+    rw (every-list text cs loads .board) (stands-follows text loads (standingMoves text [] cs) (all-stand text loads [] cs none) .standing)
+
+pub every-report : (text : List ℕ) (cs : List Call) → loadText text .answer ≡ 0 → Reported (played (loadText text .board) cs)
+every-report text cs loads =
+    let st = played-standing text cs loads in
+    record {
+      before = standing-unreported (played (loadText text .board) cs) st;
+      complete = every-list text cs loads .finish;
+      after = finished-reported (played (loadText text .board) cs) st;
+    }
+
+pub sheet-printed : (text : List ℕ) → loadText text .answer ≡ 0 → Printed text (loadText text .board)
+unfolding sheetOutput
+sheet-printed text loads =
+    let st = loaded-standing text loads in
+    let done = finish-completes (loadText text .board) st in
+    record {
+      complete = done;
+      printed =
+          pick-yes (eqb (loadText text .answer) 0) _ _ (eq-eqb _ 0 loads)
+          ∙ report-printed (finishCall (loadText text .board)) (done .accepted) (finished-reported (loadText text .board) st);
+    }

@@ -1,0 +1,52 @@
+-- Every route has room in its row on a board that keeps the invariant. Ranks in the acyclic flow rise along a route, so the vertices it passes are distinct; they
+-- are one more than its edges, and there are no more of them than vertices, which are at most as many as a row holds.
+use mathlib.Core.Path.{_≡_, refl, ap}
+use mathlib.Core.Bool.{true}
+use mathlib.Core.Logic.{_⊎_, inl, inr}
+use mathlib.Core.List.{List, [], _∷_}
+use Prim.Native.Nat.{ℕ, suc, _<_, _≤_}
+use native.Mathlib.Omega.{arith}
+use lib.ListN.{length, getD}
+use borrow.Author.Tests.{le-leb}
+use Rattle.lists.specs.Members.{Below}
+use Rattle.lists.proofs.Laws.{lt-or-ge, all-zero}
+use Rattle.lists.proofs.Pigeon.{pigeon}
+use Rattle.board.specs.Limits.{maxVertices}
+use Rattle.board.specs.declared.Board.{Board}
+use Rattle.move_guard.specs.Parts.{head, place}
+use Rattle.report_routes.specs.Routes.{route}
+use Rattle.report_routes.specs.Tables.{routesFit}
+use Rattle.theorem_keep.specs.Invariant.{Invariant}
+use Rattle.theorem_keep.proofs.Potential.{level, acyclic-rises}
+use Rattle.theorem_list.specs.Complete.{verticesAlong}
+use Rattle.theorem_list.proofs.Ends.{rising-once}
+
+-- the vertices that edges lead over: one more than the edges, and all vertices of the board
+vertices-along-length : (heads : List ℕ) (v : ℕ) (es : List ℕ) → length (verticesAlong heads v es) ≡ suc (length es)
+vertices-along-length heads v [] = refl
+vertices-along-length heads v (e ∷ es) = ap suc (vertices-along-length heads (getD heads e 0) es)
+
+vertices-along-below : (heads : List ℕ) (n v : ℕ) (es : List ℕ) → v < n → ((e : ℕ) → getD heads e 0 < n) → Below n (verticesAlong heads v es)
+vertices-along-below heads n v [] h ends = (h, tt)
+vertices-along-below heads n v (e ∷ es) h ends = (h, vertices-along-below heads n (getD heads e 0) es (ends e) ends)
+
+module _ (b : Board) (inv : Invariant b) where
+  -- a place past the edges holds 0, which is a vertex
+  head-below : (e : ℕ) → head b e < b .network .vertices
+  head-below e = go (lt-or-ge e (b .network .edges))
+    where
+      go : (e < b .network .edges) ⊎ (b .network .edges ≤ e) → head b e < b .network .vertices
+      go (inl h) = inv .lawful .head e h
+      go (inr h) = omega (arith, inv .lawful .no-edge e h .1, inv .lawful .vertices)
+
+  route-short : (i : ℕ) → i < b .network .terminals → length (route b i) ≤ maxVertices
+  route-short i h =
+      let once =
+      rising-once (b .network .tails) (b .network .heads) (level b) (route b i) (inv .routes i h) (λ e t. acyclic-rises b inv e (inv .on-routes i e h t)) in
+      let below = vertices-along-below (b .network .heads) (b .network .vertices) (place b i) (route b i) (inv .placed i h) head-below in
+      let few = pigeon (b .network .vertices) (verticesAlong (b .network .heads) (place b i) (route b i)) once below in
+      omega (arith, few, vertices-along-length (b .network .heads) (place b i) (route b i), inv .lawful .vertices)
+
+  pub routes-fit : routesFit b ≡ true
+  unfolding routesFit
+  routes-fit = all-zero _ (b .network .terminals) (λ i h. le-leb _ _ (route-short i h))

@@ -1,0 +1,45 @@
+-- "Finish completes a board when it is accepted and brings every mill to the spring", with simple routes, below the bound and within the moves.
+use mathlib.Core.Path.{_≡_}
+use mathlib.Core.Bool.{true}
+use mathlib.Core.List.{List, [], _∷_}
+use Prim.Native.Nat.{ℕ, _+_, _<_, _≤_}
+use lib.ListN.{getD}
+use Rattle.lists.specs.Members.{has, Distinct}
+use Rattle.board.specs.Limits.{maxMoves}
+use Rattle.board.specs.declared.Board.{Board}
+use Rattle.move_guard.specs.Parts.{acyclicFlow, place}
+use Rattle.graph_flows.specs.Trails.{Trail, downs}
+use Rattle.solve_finish.specs.declared.Finished.{Finished}
+use Rattle.report_routes.specs.Routes.{route, load, largest}
+use Rattle.theorem_keep.specs.Bound.{movesBound}
+
+-- the vertices that edges lead over, from v on
+abbrev pub verticesAlong : List ℕ → ℕ → List ℕ → List ℕ
+verticesAlong heads v [] = v ∷ []
+verticesAlong heads v (e ∷ es) = v ∷ verticesAlong heads (getD heads e 0) es
+
+-- "it starts at the spring, each next channel starts where the one before ended, it ends at the mill's pool in the text, and no pool comes twice"
+pub record Simple (b : Board) (i : ℕ) : Type 0 where
+  pub trail : Trail (b .network .tails) (b .network .heads) (b .network .source) (downs (route b i)) (getD (b .network .homes) i 0)
+  pub once : Distinct (verticesAlong (b .network .heads) (b .network .source) (route b i))
+
+-- "A channel is in use when some route holds it"
+pub record InUse (b : Board) (e : ℕ) : Type 0 where
+  pub terminal : ℕ
+  pub on-board : terminal < b .network .terminals
+  pub holds : has e (route b terminal) ≡ true
+
+-- what finish gave on board b
+pub record Complete (b : Board) (f : Finished) : Type 0 where
+  pub accepted : f .answer ≡ 0
+  pub network : f .board .network ≡ b .network
+  pub acyclic : f .board .acyclic ≡ b .acyclic
+  -- every terminal is at the source, by a simple route
+  pub home : (i : ℕ) → i < b .network .terminals → place (f .board) i ≡ b .network .source
+  pub simple : (i : ℕ) → i < b .network .terminals → Simple (f .board) i
+  -- the load of an edge in use, less its largest demand, is strictly below its flow in the acyclic flow
+  pub below : (e : ℕ) → InUse (f .board) e → load (f .board) e < acyclicFlow (f .board) e + largest (f .board) e
+  -- the moves that stood and those of finish are in the journal, within the bound, which the journal has room for
+  pub moves : f .board .moves ≡ b .moves + f .count
+  pub few : b .moves + f .count ≤ movesBound (b .network)
+  pub room : movesBound (b .network) ≤ maxMoves

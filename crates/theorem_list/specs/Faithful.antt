@@ -1,0 +1,30 @@
+-- Demand 3: document 01, "one claim about a whole list of carries, turns, hints and undos, of any length".
+use mathlib.Core.Path.{_≡_}
+use mathlib.Core.List.{List, []}
+use Prim.Native.Nat.{ℕ}
+use lib.ListN.{length}
+use Rattle.board.specs.declared.Board.{Board}
+use Rattle.load.specs.Load.{loadText}
+use Rattle.solve_finish.specs.Finishes.{finishCall}
+use Rattle.solve_next.specs.declared.Suggestion.{Suggestion}
+use Rattle.report_routes.specs.Routes.{route}
+use Rattle.move_list.specs.Calls.{Call, played, answers, HintsKept}
+use Rattle.theorem_list.specs.Player.{afresh, standingMoves, says, HintsKeptBy, routeOf}
+use Rattle.theorem_list.specs.Complete.{Complete}
+
+-- b, the board after the calls cs on the board that the text gave, is the reference player's, and so were the answers; and finish completes it
+pub record Faithful (text : List ℕ) (cs : List Call) (b : Board) : Type 0 where
+  -- the network and the acyclic flow are those of the load
+  pub network : b .network ≡ loadText text .board .network
+  pub acyclic : b .acyclic ≡ loadText text .board .acyclic
+  -- "the board's flows, marks, places of mills and routes are those of this player's board": the whole record is; the routes by the player's list, too
+  pub board : b ≡ afresh text (standingMoves text [] cs)
+  pub routes : (i : ℕ) → route b i ≡ routeOf i (standingMoves text [] cs)
+  -- "equals the one that a fresh load of the same text gives once the standing moves alone are called in order"
+  pub again : b ≡ played (loadText text .board) (standingMoves text [] cs)
+  pub moves : b .moves ≡ length (standingMoves text [] cs)
+  -- "Each carry, turn and undo answered this player's number; each hint kept the hint's rule on this player's board at that point"
+  pub same-answers : answers (loadText text .board) cs ≡ says text [] cs
+  pub hinted : (hs : List Suggestion) → HintsKept (loadText text .board) cs hs → HintsKeptBy text [] cs hs
+  -- finish completes the board
+  pub finish : Complete b (finishCall b)

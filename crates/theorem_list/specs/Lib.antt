@@ -1,0 +1,4 @@
+pub mod Player
+pub mod Complete
+pub mod Faithful
+pub mod Reported

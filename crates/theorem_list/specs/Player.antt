@@ -1,0 +1,81 @@
+-- The reference player: document 01, "The player who never strayed".
+use mathlib.Core.Path.{_≡_}
+use mathlib.Core.Bool.{true}
+use mathlib.Core.List.{List, [], _∷_, _++_}
+use Prim.Native.Nat.{ℕ, _-_}
+use lib.Dec.{eqb}
+use lib.ListN.{length, take}
+use Rattle.lists.specs.Choice.{pick}
+use Rattle.board.specs.declared.Board.{Board}
+use Rattle.move_carry.specs.Carries.{carryRefusal, carried}
+use Rattle.move_cycle.specs.Steps.{stepsOf}
+use Rattle.move_turn.specs.Turns.{turnRefusal, turned}
+use Rattle.load.specs.Load.{loadText}
+use Rattle.solve_next.specs.declared.Suggestion.{Suggestion}
+use Rattle.solve_next.specs.Hints.{offers}
+use Rattle.move_list.specs.Calls.{Call, carry, turn, undo, hint}
+
+-- what a listed move does to the player's board, "as under Moves"; only carries and turns are listed
+abbrev pub listed : Board → Call → Board
+listed b (carry i e) = carried b i e
+listed b (turn s) = turned b (stepsOf s)
+listed b undo = b
+listed b hint = b
+
+-- "then the listed moves in order"
+unfoldable pub listedAll : Board → List Call → Board
+listedAll b [] = b
+listedAll b (c ∷ cs) = listedAll (listed b c) cs
+
+-- a hint that is not refused gives "some move that would be accepted. It gives none only if every mill is at the spring"
+pub record Offered (b : Board) (h : Suggestion) : Type 0 where
+  pub number : h .answer ≡ 0
+  pub move : offers b (h .advice) ≡ true
+
+-- "This player is fed the loaded text": the board is made afresh each time, from the text and the standing moves
+module _ (text : List ℕ) where
+  unfoldable pub afresh : List Call → Board
+  afresh ms = listedAll (loadText text .board) ms
+
+  -- "Each call is judged on that board"; undo: "27 on an empty list. Else 0"; a hint is not refused
+  unfoldable pub saysTo : List Call → Call → ℕ
+  saysTo ms (carry i e) = carryRefusal (afresh ms) i e
+  saysTo ms (turn s) = turnRefusal (afresh ms) (stepsOf s)
+  saysTo ms undo = pick (eqb (length ms) 0) 27 0
+  saysTo ms hint = 0
+
+  -- "if refused .. the list stays. Else .. the move joins the list's end"; undo: "the last move leaves the list"; "Hint: the list stays"
+  unfoldable pub standingAfter : List Call → Call → List Call
+  standingAfter ms (carry i e) = pick (eqb (saysTo ms (carry i e)) 0) (ms ++ (carry i e ∷ [])) ms
+  standingAfter ms (turn s) = pick (eqb (saysTo ms (turn s)) 0) (ms ++ (turn s ∷ [])) ms
+  standingAfter ms undo = take (length ms - 1) ms
+  standingAfter ms hint = ms
+
+  -- a list of calls: the standing moves after it, and the answers
+  unfoldable pub standingMoves : List Call → List Call → List Call
+  standingMoves ms [] = ms
+  standingMoves ms (c ∷ cs) = standingMoves (standingAfter ms c) cs
+
+  unfoldable pub says : List Call → List Call → List ℕ
+  says ms [] = []
+  says ms (c ∷ cs) = saysTo ms c ∷ says (standingAfter ms c) cs
+
+  -- each hint "kept the hint's rule on this player's board at that point"
+  abbrev pub HintsKeptBy : List Call → List Call → List Suggestion → Type 0
+  HintsKeptBy ms [] hs = hs ≡ []
+  HintsKeptBy ms (hint ∷ cs) [] = ⊥
+  HintsKeptBy ms (hint ∷ cs) (h ∷ hs) = Offered (afresh ms) h × HintsKeptBy ms cs hs
+  HintsKeptBy ms (carry i e ∷ cs) hs = HintsKeptBy (standingAfter ms (carry i e)) cs hs
+  HintsKeptBy ms (turn s ∷ cs) hs = HintsKeptBy (standingAfter ms (turn s)) cs hs
+  HintsKeptBy ms (undo ∷ cs) hs = HintsKeptBy (standingAfter ms undo) cs hs
+
+-- the edge that a call carries terminal i over; and the player's route of it, "last one first"
+abbrev pub goesOver : ℕ → Call → List ℕ
+goesOver i (carry j e) = pick (eqb j i) (e ∷ []) []
+goesOver i (turn s) = []
+goesOver i undo = []
+goesOver i hint = []
+
+unfoldable pub routeOf : ℕ → List Call → List ℕ
+routeOf i [] = []
+routeOf i (c ∷ cs) = routeOf i cs ++ goesOver i c

@@ -1,0 +1,20 @@
+-- What the report and the program `sheet` say of a board that a load gave.
+use mathlib.Core.Path.{_≡_}
+use mathlib.Core.List.{List}
+use Prim.Native.Nat.{ℕ}
+use Rattle.board.specs.declared.Board.{Board}
+use Rattle.solve_finish.specs.Finishes.{finishCall}
+use Rattle.report.specs.Reports.{reportText, unreported}
+use Rattle.sheet_output.specs.Outputs.{sheetOutput}
+use Rattle.theorem_list.specs.Complete.{Complete}
+
+-- b, a board reached by play, has no report yet; once it is finished, complete, it has one
+pub record Reported (b : Board) : Type 0 where
+  pub before : unreported b ≡ 28
+  pub complete : Complete b (finishCall b)
+  pub after : unreported (finishCall b .board) ≡ 0
+
+-- the program `sheet` prints the report of that board
+pub record Printed (text : List ℕ) (b : Board) : Type 0 where
+  pub complete : Complete b (finishCall b)
+  pub printed : sheetOutput text ≡ reportText (finishCall b .board)
