@@ -65,8 +65,9 @@ pub fn counts(text: &str) -> [usize; 5] {
     [network.vertices, network.edges.len(), network.terminals.len(), carries, moves.len() - carries]
 }
 
-/// The program `listing`: for each board a line with its number and its counts, its text and its sheet; then the answers to the two numbers behind the last.
-pub fn listing() -> Vec<u8> {
+/// How many numbers `replay` is asked for, and what it prints: for each board a line with its number and its counts, its text and its sheet; then the
+/// answers to the two numbers behind the last.
+pub fn listing() -> (usize, Vec<u8>) {
     let mut output = Vec::new();
     for (number, text) in BOARDS.iter().enumerate() {
         let counts = counts(text).map(|count| count.to_string()).join(",");
@@ -74,5 +75,5 @@ pub fn listing() -> Vec<u8> {
         output.extend(sheet(text.as_bytes()));
     }
     output.extend(b"2\n2\n");
-    output
+    (BOARDS.len() + 2, output)
 }

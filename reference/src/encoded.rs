@@ -1,4 +1,4 @@
-//! Calls and journals in numbers, as the engine's exported functions and the program `trials` take and give them.
+//! Calls and journals in numbers, as the engine's exported functions and the program `replay` take and give them.
 
 use crate::calls::{habits, random_call, Habits};
 use crate::moves::{amount, Board, Move, Step};

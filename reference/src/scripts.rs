@@ -1,4 +1,4 @@
-//! Inputs of the programs, made by hand and at random, for the program `scripts`, which does with each what `sheet`, `play` or a caller does.
+//! Inputs of the programs, made by hand and at random, for the program `replay`, which does with each what `sheet`, `play` or a caller does.
 
 use crate::boards::random_board;
 use crate::calls::random_input;
@@ -107,11 +107,13 @@ fn calls(text: &[u8]) -> Vec<u8> {
     [output.into_bytes(), player.sheet_text().unwrap_or_default()].concat()
 }
 
-/// The input of the program `scripts`: for each a letter, the size of its pieces, its length in four bytes, the high byte first, and its bytes; and what it
+/// How many scripts there are; their bytes in the input of `replay`: for each a letter, the size of its pieces, its length in four bytes, the high byte first, and its bytes; and what it
 /// prints: what was printed for each, and a line with a dash behind it.
-pub fn stored() -> (Vec<u8>, Vec<u8>) {
+pub fn stored() -> (usize, Vec<u8>, Vec<u8>) {
+    let scripts = scripts();
+    let count = scripts.len();
     let (mut input, mut output) = (Vec::new(), Vec::new());
-    for (made_for, bytes) in scripts() {
+    for (made_for, bytes) in scripts {
         let (letter, piece, printed) = match made_for {
             Use::Sheet => (b'S', 0, sheet(&bytes)),
             Use::Play(piece) => (b'P', piece, play(&bytes)),
@@ -123,5 +125,5 @@ pub fn stored() -> (Vec<u8>, Vec<u8>) {
         output.extend(printed);
         output.extend(b"-\n");
     }
-    (input, output)
+    (count, input, output)
 }

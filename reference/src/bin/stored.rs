@@ -13,15 +13,18 @@ use reference::scripts;
 use reference::text::write;
 use std::path::Path;
 
-/// The program `corpus`: for each text its length in two bytes, the high byte first, and the text; what loading it answers, and after a 0 the
-/// text written back.
-fn corpus() -> (Vec<u8>, Vec<u8>) {
+/// A part of the input of `replay`: its letter, how many pieces it has, their bytes, and what is printed for them.
+type Part = (u8, usize, Vec<u8>, Vec<u8>);
+
+/// Texts: for each its length in two bytes, the high byte first, and the text; what loading it answers, and after a 0 the text written back.
+fn corpus() -> Part {
+    let texts = texts();
     let (mut input, mut output) = (Vec::new(), Vec::new());
-    for text in texts() {
+    for text in &texts {
         assert!(text.len() <= GREATEST);
         input.extend((text.len() as u16).to_be_bytes());
-        input.extend(&text);
-        let (refusal, player) = Player::load(&text);
+        input.extend(text);
+        let (refusal, player) = Player::load(text);
         output.extend(format!("{refusal}\n").bytes());
         if refusal == 0 {
             let mut buffer = vec![0; text.len()];
@@ -29,10 +32,10 @@ fn corpus() -> (Vec<u8>, Vec<u8>) {
             output.extend(buffer);
         }
     }
-    (input, output)
+    (b'T', texts.len(), input, output)
 }
 
-/// A board text and a list of calls for the program `trials`.
+/// A board text and a list of calls.
 type Trial = (Vec<u8>, Vec<EngineCall>);
 
 /// Document 01's calls on T and S, a text that is refused, and random lists on random boards.
@@ -57,13 +60,14 @@ fn made_trials() -> Vec<Trial> {
     trials
 }
 
-/// The program `trials`: for each trial the text, the steps and the calls, each behind its length or count in two bytes; a call is its kind and
+/// Lists of calls: for each the text, the steps and the calls, each behind its length or count in two bytes; a call is its kind and
 /// two numbers of four bytes. The answers of load, calls and finish, the count of the finish, and the journal, a move a line.
-fn trials() -> (Vec<u8>, Vec<u8>) {
+fn trials() -> Part {
+    let trials = made_trials();
     let (mut input, mut output) = (Vec::new(), String::new());
-    for (text, calls) in made_trials() {
-        let (codes, steps) = codes_of(&calls);
-        for bytes in [&text, &steps] {
+    for (text, calls) in &trials {
+        let (codes, steps) = codes_of(calls);
+        for bytes in [text, &steps] {
             input.extend((bytes.len() as u16).to_be_bytes());
             input.extend(bytes);
         }
@@ -72,7 +76,7 @@ fn trials() -> (Vec<u8>, Vec<u8>) {
             input.push(code[0] as u8);
             input.extend([code[1].to_be_bytes(), code[2].to_be_bytes()].concat());
         }
-        let (loading, mut player) = Player::load(&text);
+        let (loading, mut player) = Player::load(text);
         let mut numbers = vec![loading];
         numbers.extend(calls.iter().map(|call| call_by_reference(&mut player, call)));
         numbers.extend(match player.finish() {
@@ -87,7 +91,21 @@ fn trials() -> (Vec<u8>, Vec<u8>) {
             output.push('\n');
         }
     }
-    (input, output.into_bytes())
+    (b'L', trials.len(), input, output.into_bytes())
+}
+
+/// The program `replay`: parts of four kinds, each behind its letter and its count in four bytes, the highest first.
+fn replay() -> (Vec<u8>, Vec<u8>) {
+    let (scripts, played, printed) = scripts::stored();
+    let (boards, listed) = listing();
+    let (mut input, mut output) = (Vec::new(), Vec::new());
+    for (letter, count, bytes, answers) in [corpus(), trials(), (b'P', scripts, played, printed), (b'C', boards, Vec::new(), listed)] {
+        input.push(letter);
+        input.extend((count as u32).to_be_bytes());
+        input.extend(bytes);
+        output.extend(answers);
+    }
+    (input, output)
 }
 
 /// The program `play`: a long run on a great board, lines of another form among the calls; a finish, lines after it, and one without its line feed.
@@ -106,10 +124,7 @@ fn main() -> std::io::Result<()> {
     let folder = std::env::args().nth(1).expect("usage: stored FOLDER");
     let run = long_run();
     let programs = [
-        ("corpus", corpus()),
-        ("trials", trials()),
-        ("scripts", scripts::stored()),
-        ("listing", (Vec::new(), listing())),
+        ("replay", replay()),
         ("sheet", (T.into(), sheet(T.as_bytes()))),
         ("play", (run.clone(), play(&run))),
     ];
