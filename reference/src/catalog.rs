@@ -32,7 +32,8 @@ pub fn source_table() -> String {
     let numbers: Vec<&str> = BOARDS.iter().flat_map(|text| rows(text).concat()).collect();
     let lines: String = numbers.iter().map(|number| format!("    {number},\n")).collect();
     format!(
-        "// The boards of the catalog, one after the other. `tools/stored` makes this file from `boards/catalog/`; `specs/Table.antt` has the same numbers line by line.\n\
+        "// The boards of the catalog, one after the other. `tools/stored` makes this file from `boards/catalog/`;\n\
+         // `specs/Table.antt` has the same numbers line by line.\n\
          pub const TABLE: [u32; {}] = [\n{lines}];\n",
         numbers.len()
     )

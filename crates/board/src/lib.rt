@@ -11,7 +11,8 @@ pub struct Relocation {
     pub edge: u32,
 }
 
-// An accepted turn: along a cycle the flow fell by the amount on `down` and rose on `up`; `marked` are the edges it newly marked.
+// An accepted turn: along a cycle the flow fell by the amount on `down` and rose on `up`; `marked` are the edges it
+// newly marked.
 pub struct Augmentation {
     pub amount: u32,
     pub down: EdgeSet,
@@ -42,8 +43,8 @@ pub struct Network {
     pub demands: [u32; Board::MAX_TERMINALS],
 }
 
-// A board in play: the network, the flow without its cycles, the flow now, the marked edges, where each terminal is, and the
-// standing moves.
+// A board in play: the network, the flow without its cycles, the flow now, the marked edges, where each terminal is,
+// and the standing moves.
 pub struct Board {
     pub stage: u32,
     pub network: Network,
@@ -57,7 +58,8 @@ pub struct Board {
     pub finish_from: u32,
 }
 
-// What a call on a board gives: 0 and the board after it; or the number that the call is refused with, and the board as it was.
+// What a call on a board gives: 0 and the board after it; or the number that the call is refused with, and the board as
+// it was.
 pub struct Played {
     pub answer: u32,
     pub board: Board,

@@ -12,8 +12,8 @@ ghost use Rattle.report.specs.Reports.{sheetCall, sheeted};
 ghost use Rattle.catalog.specs.Catalog.{catalogCall, catalogued};
 ghost use Rattle.boundary.specs.Ends.{after, finished, lastBoard};
 
-// Loads a text, and writes the board that it gave into the buffer. Answers what the load answered; `writing` and `used` get what the
-// writer answered: its number and the length of the text.
+// Loads a text, and writes the board that it gave into the buffer. Answers what the load answered; `writing` and `used`
+// get what the writer answered: its number and the length of the text.
 #[no_mangle]
 pub extern "C" fn vulprow_copy(
     text: &[u8],
@@ -22,8 +22,10 @@ pub extern "C" fn vulprow_copy(
     used: &mut usize,
 ) -> u32
     ensures { λ r. ⌜ r ≡ loadText (now (text .entry)) .answer ⌝ }
-    ensures { λ _. ⌜ now (writing .exit) ≡ writeText (loadText (now (text .entry)) .board) (length (now (buf .entry))) .answer ⌝ }
-    ensures { λ _. ⌜ now (used .exit) ≡ writeText (loadText (now (text .entry)) .board) (length (now (buf .entry))) .used ⌝ }
+    ensures { λ _. ⌜ now (writing .exit) ≡ writeText (loadText (now (text .entry)) .board)
+        (length (now (buf .entry))) .answer ⌝ }
+    ensures { λ _. ⌜ now (used .exit) ≡ writeText (loadText (now (text .entry)) .board)
+        (length (now (buf .entry))) .used ⌝ }
     ensures { λ _. ⌜ now (buf .exit) ≡ written (loadText (now (text .entry)) .board) (now (buf .entry)) ⌝ }
 {
     let loaded = load::load(text);
@@ -34,7 +36,8 @@ pub extern "C" fn vulprow_copy(
     loaded.answer
 }
 
-// Loads a text. Answers what the load answered; `flows` gets the flows of the board, without cycles, 0 in the places past its edges.
+// Loads a text. Answers what the load answered; `flows` gets the flows of the board, without cycles, 0 in the places
+// past its edges.
 #[no_mangle]
 pub extern "C" fn vulprow_acyclic(text: &[u8], flows: &mut [u32; Board::MAX_EDGES]) -> u32
     ensures { λ r. ⌜ r ≡ loadText (now (text .entry)) .answer ⌝ }
@@ -48,9 +51,9 @@ pub extern "C" fn vulprow_acyclic(text: &[u8], flows: &mut [u32; Board::MAX_EDGE
     answer
 }
 
-// Loads a text and makes calls on the board that it gave, three numbers a call (crates/calls). Answers what the load answered. `given` gets the
-// calls' answers, `hints` the moves that hints gave; `flows`, `places`, `marks`, `moves` and `journal`, five numbers a place, are those of the
-// board after them.
+// Loads a text and makes calls on the board that it gave, three numbers a call (crates/calls). Answers what the load
+// answered. `given` gets the calls' answers, `hints` the moves that hints gave; `flows`, `places`, `marks`, `moves` and
+// `journal`, five numbers a place, are those of the board after them.
 #[no_mangle]
 pub extern "C" fn vulprow_play(
     text: &[u8],
@@ -65,13 +68,19 @@ pub extern "C" fn vulprow_play(
     journal: &mut [u64],
 ) -> u32
     ensures { λ r. ⌜ r ≡ loadText (now (text .entry)) .answer ⌝ }
-    ensures { λ _. ⌜ now (given .exit) ≡ sets (now (given .entry)) 0 (answers (loadText (now (text .entry)) .board) (callsOf (now (steps .entry)) (now (codes .entry)))) ⌝ }
-    ensures { λ _. ⌜ Told (now (hints .entry)) 0 (loadText (now (text .entry)) .board) (callsOf (now (steps .entry)) (now (codes .entry))) (now (hints .exit)) ⌝ }
+    ensures { λ _. ⌜ now (given .exit) ≡
+        sets (now (given .entry)) 0 (answers (loadText (now (text .entry)) .board)
+        (callsOf (now (steps .entry)) (now (codes .entry)))) ⌝ }
+    ensures { λ _. ⌜ Told (now (hints .entry)) 0 (loadText (now (text .entry)) .board)
+        (callsOf (now (steps .entry)) (now (codes .entry))) (now (hints .exit)) ⌝ }
     ensures { λ _. ⌜ now (flows .exit) ≡ after (now (text .entry)) (now (steps .entry)) (now (codes .entry)) .flows ⌝ }
-    ensures { λ _. ⌜ now (places .exit) ≡ after (now (text .entry)) (now (steps .entry)) (now (codes .entry)) .places ⌝ }
+    ensures { λ _. ⌜ now (places .exit) ≡
+        after (now (text .entry)) (now (steps .entry)) (now (codes .entry)) .places ⌝ }
     ensures { λ _. ⌜ now (marks .exit) ≡ after (now (text .entry)) (now (steps .entry)) (now (codes .entry)) .marks ⌝ }
     ensures { λ _. ⌜ now (moves .exit) ≡ after (now (text .entry)) (now (steps .entry)) (now (codes .entry)) .moves ⌝ }
-    ensures { λ _. ⌜ now (journal .exit) ≡ journalCoded (now (journal .entry)) 0 (after (now (text .entry)) (now (steps .entry)) (now (codes .entry)) .journal) ⌝ }
+    ensures { λ _. ⌜ now (journal .exit) ≡
+        journalCoded (now (journal .entry)) 0 (after (now (text .entry)) (now (steps .entry))
+        (now (codes .entry)) .journal) ⌝ }
 {
     let loaded = load::load(text);
     let board = loaded.board;
@@ -88,8 +97,9 @@ pub extern "C" fn vulprow_play(
     loading
 }
 
-// Loads a text, makes calls on the board that it gave, and finishes it (crates/playthrough). Answers what the finish answered. `given` and `hints` are as
-// above; `count` gets how many moves the finish made, and the others are those of the board at the end.
+// Loads a text, makes calls on the board that it gave, and finishes it (crates/playthrough). Answers what the finish
+// answered. `given` and `hints` are as above; `count` gets how many moves the finish made, and the others are those of
+// the board at the end.
 #[no_mangle]
 pub extern "C" fn vulprow_finish(
     text: &[u8],
@@ -105,14 +115,24 @@ pub extern "C" fn vulprow_finish(
     journal: &mut [u64],
 ) -> u32
     ensures { λ r. ⌜ r ≡ finished (now (text .entry)) (now (steps .entry)) (now (codes .entry)) .answer ⌝ }
-    ensures { λ _. ⌜ now (given .exit) ≡ sets (now (given .entry)) 0 (answers (loadText (now (text .entry)) .board) (callsOf (now (steps .entry)) (now (codes .entry)))) ⌝ }
-    ensures { λ _. ⌜ Told (now (hints .entry)) 0 (loadText (now (text .entry)) .board) (callsOf (now (steps .entry)) (now (codes .entry))) (now (hints .exit)) ⌝ }
-    ensures { λ _. ⌜ now (count .exit) ≡ finished (now (text .entry)) (now (steps .entry)) (now (codes .entry)) .count ⌝ }
-    ensures { λ _. ⌜ now (flows .exit) ≡ finished (now (text .entry)) (now (steps .entry)) (now (codes .entry)) .board .flows ⌝ }
-    ensures { λ _. ⌜ now (places .exit) ≡ finished (now (text .entry)) (now (steps .entry)) (now (codes .entry)) .board .places ⌝ }
-    ensures { λ _. ⌜ now (marks .exit) ≡ finished (now (text .entry)) (now (steps .entry)) (now (codes .entry)) .board .marks ⌝ }
-    ensures { λ _. ⌜ now (moves .exit) ≡ finished (now (text .entry)) (now (steps .entry)) (now (codes .entry)) .board .moves ⌝ }
-    ensures { λ _. ⌜ now (journal .exit) ≡ journalCoded (now (journal .entry)) 0 (finished (now (text .entry)) (now (steps .entry)) (now (codes .entry)) .board .journal) ⌝ }
+    ensures { λ _. ⌜ now (given .exit) ≡
+        sets (now (given .entry)) 0 (answers (loadText (now (text .entry)) .board)
+        (callsOf (now (steps .entry)) (now (codes .entry)))) ⌝ }
+    ensures { λ _. ⌜ Told (now (hints .entry)) 0 (loadText (now (text .entry)) .board)
+        (callsOf (now (steps .entry)) (now (codes .entry))) (now (hints .exit)) ⌝ }
+    ensures { λ _. ⌜ now (count .exit) ≡ finished (now (text .entry)) (now (steps .entry))
+        (now (codes .entry)) .count ⌝ }
+    ensures { λ _. ⌜ now (flows .exit) ≡ finished (now (text .entry)) (now (steps .entry))
+        (now (codes .entry)) .board .flows ⌝ }
+    ensures { λ _. ⌜ now (places .exit) ≡ finished (now (text .entry)) (now (steps .entry))
+        (now (codes .entry)) .board .places ⌝ }
+    ensures { λ _. ⌜ now (marks .exit) ≡ finished (now (text .entry)) (now (steps .entry))
+        (now (codes .entry)) .board .marks ⌝ }
+    ensures { λ _. ⌜ now (moves .exit) ≡ finished (now (text .entry)) (now (steps .entry))
+        (now (codes .entry)) .board .moves ⌝ }
+    ensures { λ _. ⌜ now (journal .exit) ≡
+        journalCoded (now (journal .entry)) 0 (finished (now (text .entry)) (now (steps .entry))
+        (now (codes .entry)) .board .journal) ⌝ }
 {
     let through = playthrough::play_through(text, codes, steps, given, hints);
     let finish = through.finish;
@@ -130,7 +150,8 @@ pub extern "C" fn vulprow_finish(
     answer
 }
 
-// Loads a text and finishes the board that it gave. Answers what the finish answered; `count` gets how many moves it made.
+// Loads a text and finishes the board that it gave. Answers what the finish answered; `count` gets how many moves it
+// made.
 #[no_mangle]
 pub extern "C" fn vulprow_solve(text: &[u8], count: &mut u32) -> u32
     ensures { λ r. ⌜ r ≡ finishCall (loadText (now (text .entry)) .board) .answer ⌝ }
@@ -154,8 +175,8 @@ fn last_board(board: Board, finishes: u32) -> Board
     finish.board
 }
 
-// Loads a text, makes calls on the board that it gave, finishes it where `finishes` is not 0, and writes its report into the buffer. Answers what the report
-// answered; `used` gets the length of the text.
+// Loads a text, makes calls on the board that it gave, finishes it where `finishes` is not 0, and writes its report
+// into the buffer. Answers what the report answered; `used` gets the length of the text.
 #[no_mangle]
 pub extern "C" fn vulprow_sheet(
     text: &[u8],
@@ -165,9 +186,15 @@ pub extern "C" fn vulprow_sheet(
     buf: &mut [u8],
     used: &mut usize,
 ) -> u32
-    ensures { λ r. ⌜ r ≡ sheetCall (lastBoard finishes (after (now (text .entry)) (now (steps .entry)) (now (codes .entry)))) (length (now (buf .entry))) .answer ⌝ }
-    ensures { λ _. ⌜ now (used .exit) ≡ sheetCall (lastBoard finishes (after (now (text .entry)) (now (steps .entry)) (now (codes .entry)))) (length (now (buf .entry))) .used ⌝ }
-    ensures { λ _. ⌜ now (buf .exit) ≡ sheeted (lastBoard finishes (after (now (text .entry)) (now (steps .entry)) (now (codes .entry)))) (now (buf .entry)) ⌝ }
+    ensures { λ r. ⌜ r ≡ sheetCall
+        (lastBoard finishes (after (now (text .entry)) (now (steps .entry)) (now (codes .entry))))
+        (length (now (buf .entry))) .answer ⌝ }
+    ensures { λ _. ⌜ now (used .exit) ≡
+        sheetCall (lastBoard finishes (after (now (text .entry)) (now (steps .entry)) (now (codes .entry))))
+        (length (now (buf .entry))) .used ⌝ }
+    ensures { λ _. ⌜ now (buf .exit) ≡
+        sheeted (lastBoard finishes (after (now (text .entry)) (now (steps .entry)) (now (codes .entry))))
+        (now (buf .entry)) ⌝ }
 {
     let loaded = load::load(text);
     let start = loaded.board;
@@ -180,7 +207,8 @@ pub extern "C" fn vulprow_sheet(
     written.answer
 }
 
-// Writes the text of a board of the catalog. Answers what `catalog::write` answered; `used` gets the length of the text.
+// Writes the text of a board of the catalog. Answers what `catalog::write` answered; `used` gets the length of the
+// text.
 #[no_mangle]
 pub extern "C" fn vulprow_catalog(number: u32, buf: &mut [u8], used: &mut usize) -> u32
     ensures { λ r. ⌜ r ≡ catalogCall number (length (now (buf .entry))) .answer ⌝ }

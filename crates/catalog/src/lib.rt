@@ -43,7 +43,8 @@ fn put_rows(buf: &mut [u8], at: usize, letter: u8, t: &[u32], width: usize, coun
     requires { ⌜ (width ≤ 4) × ((width * count ≤ length (now t)) × (at + 46 * count ≤ 131072)) ⌝ }
     ensures { λ r. ⌜ r ≡ at + length (linesText letter (tableRow width (now (t .entry))) 0 count) ⌝ }
     ensures { λ r. ⌜ r ≤ at + 46 * count ⌝ }
-    ensures { λ r. ⌜ now (buf .exit) ≡ sets (now (buf .entry)) at (linesText letter (tableRow width (now (t .entry))) 0 count) ⌝ }
+    ensures { λ r. ⌜ now (buf .exit) ≡
+        sets (now (buf .entry)) at (linesText letter (tableRow width (now (t .entry))) 0 count) ⌝ }
 {
     let mut to = at;
     let mut i: usize = 0;
@@ -68,7 +69,8 @@ fn put_board(buf: &mut [u8], t: &[u32]) -> usize
     put_rows(buf, to, b'W', &t[4 + 3 * edges..], 2, terminals)
 }
 
-// Writes the text of a board of the catalog: 2 where there is no board of that number, then 8 where the buffer is too short for the text.
+// Writes the text of a board of the catalog: 2 where there is no board of that number, then 8 where the buffer is too
+// short for the text.
 pub fn write(number: u32, buf: &mut [u8]) -> Written
     ensures { λ r. ⌜ r ≡ catalogCall number (length (now (buf .entry))) ⌝ }
     ensures { λ _. ⌜ now (buf .exit) ≡ catalogued number (now (buf .entry)) ⌝ }

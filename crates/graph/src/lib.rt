@@ -1,4 +1,5 @@
-// Reachability over positive edges, over plain slices: edge e leads from from[e] to to[e]. A set of vertices has a bool for each; a bitset has a bit.
+// Reachability over positive edges, over plain slices: edge e leads from from[e] to to[e]. A set of vertices has a bool
+// for each; a bitset has a bit.
 ghost use mathlib.Core.Path.{_≡_};
 ghost use mathlib.Core.Bool.{true, false};
 ghost use Prim.Native.Nat.{ℕ, _<_, _≤_};
@@ -28,7 +29,9 @@ fn put_bitset(bitsets: &mut [u64], v: usize, bitset: u64)
 
 // The bitset of `end` takes in the bitset of `start`. Answers whether the bitsets changed.
 fn join(bitsets: &mut [u64], start: usize, end: usize) -> bool
-    ensures { λ _. ⌜ now (bitsets .exit) ≡ set (now (bitsets .entry)) end (joined (getD (now (bitsets .entry)) end 0) (getD (now (bitsets .entry)) start 0)) ⌝ }
+    ensures { λ _. ⌜ now (bitsets .exit) ≡
+        set (now (bitsets .entry)) end (joined (getD (now (bitsets .entry)) end 0)
+        (getD (now (bitsets .entry)) start 0)) ⌝ }
     ensures { λ r. ⌜ (r ≡ false → now (bitsets .exit) ≡ now (bitsets .entry)) ⌝ }
 {
     let old = bitset_at(&*bitsets, end);
@@ -38,7 +41,8 @@ fn join(bitsets: &mut [u64], start: usize, end: usize) -> bool
     new != old
 }
 
-// Where edge e is positive, the bitset of its end takes in the bitset of its start. Answers whether the bitsets changed.
+// Where edge e is positive, the bitset of its end takes in the bitset of its start. Answers whether the bitsets
+// changed.
 fn cross<'a>(
     from: &'a [u32],
     to: &'a [u32],
@@ -46,7 +50,10 @@ fn cross<'a>(
     bitsets: &mut [u64],
     e: usize,
 ) -> bool
-    ensures { λ _. ⌜ now (bitsets .exit) ≡ pick (ltb 0 (getD (now (flows .entry)) e 0)) (set (now (bitsets .entry)) (getD (now (to .entry)) e 0) (joined (getD (now (bitsets .entry)) (getD (now (to .entry)) e 0) 0) (getD (now (bitsets .entry)) (getD (now (from .entry)) e 0) 0))) (now (bitsets .entry)) ⌝ }
+    ensures { λ _. ⌜ now (bitsets .exit) ≡
+        pick (ltb 0 (getD (now (flows .entry)) e 0)) (set (now (bitsets .entry)) (getD (now (to .entry)) e 0)
+        (joined (getD (now (bitsets .entry)) (getD (now (to .entry)) e 0) 0)
+        (getD (now (bitsets .entry)) (getD (now (from .entry)) e 0) 0))) (now (bitsets .entry)) ⌝ }
     ensures { λ r. ⌜ (r ≡ false → now (bitsets .exit) ≡ now (bitsets .entry)) ⌝ }
 {
     if lists::word_at(flows, e) == 0 {
@@ -59,7 +66,9 @@ fn cross<'a>(
 
 // One pass over the edges, for every vertex at once. Answers whether the bitsets changed.
 fn pass<'a>(from: &'a [u32], to: &'a [u32], flows: &'a [u32], bitsets: &mut [u64]) -> bool
-    ensures { λ _. ⌜ ((v : ℕ) → column (now (bitsets .exit)) v ≡ pass (now (from .entry)) (now (to .entry)) (now (flows .entry)) 0 (length (now (flows .entry))) (column (now (bitsets .entry)) v)) ⌝ }
+    ensures { λ _. ⌜ ((v : ℕ) → column (now (bitsets .exit)) v ≡
+        pass (now (from .entry)) (now (to .entry)) (now (flows .entry)) 0 (length (now (flows .entry)))
+        (column (now (bitsets .entry)) v)) ⌝ }
     ensures { λ r. ⌜ (r ≡ false → now (bitsets .exit) ≡ now (bitsets .entry)) ⌝ }
 {
     let mut any_changed = false;
@@ -75,7 +84,8 @@ fn pass<'a>(from: &'a [u32], to: &'a [u32], flows: &'a [u32], bitsets: &mut [u64
 // The bitset of each vertex is the vertex alone.
 fn clear(bitsets: &mut [u64])
     requires { ⌜ length (now bitsets) ≤ setWidth ⌝ }
-    ensures { λ _. ⌜ ((v : ℕ) → v < length (now (bitsets .entry)) → column (now (bitsets .exit)) v ≡ set (replicate (length (now (bitsets .entry))) false) v true) ⌝ }
+    ensures { λ _. ⌜ ((v : ℕ) → v < length (now (bitsets .entry)) → column (now (bitsets .exit)) v ≡
+        set (replicate (length (now (bitsets .entry))) false) v true) ⌝ }
 {
     let mut v: usize = 0;
     while v < bitsets.len() {
@@ -86,7 +96,9 @@ fn clear(bitsets: &mut [u64])
 
 // Passes over the edges until the bitsets no longer change.
 fn spread<'a>(from: &'a [u32], to: &'a [u32], flows: &'a [u32], bitsets: &mut [u64])
-    ensures { λ _. ⌜ ((v : ℕ) → column (now (bitsets .exit)) v ≡ passes (now (from .entry)) (now (to .entry)) (now (flows .entry)) (length (now (bitsets .entry))) (column (now (bitsets .entry)) v)) ⌝ }
+    ensures { λ _. ⌜ ((v : ℕ) → column (now (bitsets .exit)) v ≡
+        passes (now (from .entry)) (now (to .entry)) (now (flows .entry)) (length (now (bitsets .entry)))
+        (column (now (bitsets .entry)) v)) ⌝ }
 {
     let mut k: usize = 0;
     while k < bitsets.len() {
@@ -100,7 +112,8 @@ fn spread<'a>(from: &'a [u32], to: &'a [u32], flows: &'a [u32], bitsets: &mut [u
 // The bitsets in which a vertex u has v where u can be reached from v over positive edges.
 pub fn reach<'a>(from: &'a [u32], to: &'a [u32], flows: &'a [u32], bitsets: &mut [u64])
     requires { ⌜ length (now bitsets) ≤ setWidth ⌝ }
-    ensures { λ _. ⌜ ((v : ℕ) → v < length (now (bitsets .entry)) → column (now (bitsets .exit)) v ≡ reached (now (from .entry)) (now (to .entry)) (now (flows .entry)) (length (now (bitsets .entry))) v) ⌝ }
+    ensures { λ _. ⌜ ((v : ℕ) → v < length (now (bitsets .entry)) → column (now (bitsets .exit)) v ≡
+        reached (now (from .entry)) (now (to .entry)) (now (flows .entry)) (length (now (bitsets .entry))) v) ⌝ }
 {
     clear(bitsets);
     spread(from, to, flows, bitsets);
@@ -139,7 +152,9 @@ fn leave<'a>(
     e: usize,
 )
     requires { ⌜ e < setWidth ⌝ }
-    ensures { λ _. ⌜ ((v : ℕ) → v < length (now (bitsets .entry)) → getD (now (bitsets .exit)) v 0 ≡ pick (leads (now (from .entry)) (now (to .entry)) (now (flows .entry)) (now (seen .entry)) v e) (withBit (getD (now (bitsets .entry)) v 0) e) (getD (now (bitsets .entry)) v 0)) ⌝ }
+    ensures { λ _. ⌜ ((v : ℕ) → v < length (now (bitsets .entry)) → getD (now (bitsets .exit)) v 0 ≡
+        pick (leads (now (from .entry)) (now (to .entry)) (now (flows .entry)) (now (seen .entry)) v e)
+        (withBit (getD (now (bitsets .entry)) v 0) e) (getD (now (bitsets .entry)) v 0)) ⌝ }
 {
     if lists::word_at(flows, e) == 0 {
         return;
@@ -162,7 +177,9 @@ pub fn leaving<'a>(
     bitsets: &mut [u64],
 )
     requires { ⌜ length (now flows) ≤ setWidth ⌝ }
-    ensures { λ _. ⌜ ((v : ℕ) → v < length (now (bitsets .entry)) → getD (now (bitsets .exit)) v 0 ≡ collect (leads (now (from .entry)) (now (to .entry)) (now (flows .entry)) (now (seen .entry)) v) 0 0 (length (now (flows .entry)))) ⌝ }
+    ensures { λ _. ⌜ ((v : ℕ) → v < length (now (bitsets .entry)) → getD (now (bitsets .exit)) v 0 ≡
+        collect (leads (now (from .entry)) (now (to .entry)) (now (flows .entry)) (now (seen .entry)) v) 0 0
+        (length (now (flows .entry)))) ⌝ }
 {
     empty(bitsets);
     let mut e: usize = 0;
@@ -174,7 +191,8 @@ pub fn leaving<'a>(
 
 // The lowest edge of a bitset, or the count of edges.
 pub fn lowest_edge(bitset: u64, count: usize) -> usize
-    ensures { λ r. ⌜ r ≡ pick (ltb (lowest (hasBit bitset) 0 setWidth) count) (lowest (hasBit bitset) 0 setWidth) count ⌝ }
+    ensures { λ r. ⌜ r ≡ pick (ltb (lowest (hasBit bitset) 0 setWidth) count)
+        (lowest (hasBit bitset) 0 setWidth) count ⌝ }
 {
     let e = sets::lowest(bitset) as usize;
     if e < count { e } else { count }

@@ -1,4 +1,5 @@
-// Cycle cancelling, over plain slices: edge e goes from tails[e] to heads[e], and a set of vertices has a bool for each, a row a bit.
+// Cycle cancelling, over plain slices: edge e goes from tails[e] to heads[e], and a set of vertices has a bool for
+// each, a row a bit.
 ghost use mathlib.Core.Path.{_≡_};
 ghost use mathlib.Core.Bool.{true};
 ghost use mathlib.Core.List.{[]};
@@ -31,7 +32,9 @@ fn with_vertex(m: u64, joins: bool, v: usize) -> u64
 
 // The set of the vertices that a positive edge leaves from whose head they can be reached: the head's bitset has them.
 fn on_cycles<'a>(tails: &'a [u32], heads: &'a [u32], flows: &'a [u32], bitsets: &'a [u64]) -> u64
-    ensures { λ r. ⌜ ((v : ℕ) → hasBit r v ≡ ltb (onward (now (tails .entry)) (now (heads .entry)) (now (flows .entry)) (column (now (bitsets .entry)) v) v) (length (now (flows .entry)))) ⌝ }
+    ensures { λ r. ⌜ ((v : ℕ) → hasBit r v ≡
+        ltb (onward (now (tails .entry)) (now (heads .entry)) (now (flows .entry)) (column (now (bitsets .entry)) v) v)
+        (length (now (flows .entry)))) ⌝ }
 {
     let mut m: u64 = 0;
     let mut e: usize = 0;
@@ -46,8 +49,9 @@ fn on_cycles<'a>(tails: &'a [u32], heads: &'a [u32], flows: &'a [u32], bitsets: 
     m
 }
 
-// The lowest vertex on a cycle of positive edges, or the count of vertices. The bitsets are left as the vertices that each vertex reaches.
-pub fn cycle_vertex<'a>(
+// The lowest vertex on a cycle of positive edges, or the count of vertices. The bitsets are left as the vertices that
+// each vertex reaches.
+fn cycle_vertex<'a>(
     tails: &'a [u32],
     heads: &'a [u32],
     flows: &'a [u32],
@@ -56,7 +60,8 @@ pub fn cycle_vertex<'a>(
 ) -> u32
     requires { ⌜ (n ≡ length (now bitsets)) × (n ≤ setWidth) ⌝ }
     ensures { λ r. ⌜ r ≡ cycleVertex (now (tails .entry)) (now (heads .entry)) n (now (flows .entry)) ⌝ }
-    ensures { λ _. ⌜ ((v : ℕ) → v < n → column (now (bitsets .exit)) v ≡ reached (now (heads .entry)) (now (tails .entry)) (now (flows .entry)) n v) ⌝ }
+    ensures { λ _. ⌜ ((v : ℕ) → v < n → column (now (bitsets .exit)) v ≡
+        reached (now (heads .entry)) (now (tails .entry)) (now (flows .entry)) n v) ⌝ }
 {
     graph::reach(heads, tails, flows, bitsets);
     let on = on_cycles(tails, heads, flows, &*bitsets);
@@ -79,9 +84,9 @@ fn since<'a>(tails: &'a [u32], v: u32, walk: &'a [usize]) -> usize
     i
 }
 
-// Walks from `start` until a vertex comes a second time, filling `walk` from its end; answers the part since that vertex was left. The bitsets are for
-// its use.
-pub fn follow<'a>(
+// Walks from `start` until a vertex comes a second time, filling `walk` from its end; answers the part since that
+// vertex was left. The bitsets are for its use.
+fn follow<'a>(
     tails: &'a [u32],
     heads: &'a [u32],
     flows: &'a [u32],
@@ -93,7 +98,9 @@ pub fn follow<'a>(
     requires { ⌜ (length (now heads) ≤ length (now flows)) × (length (now flows) ≤ setWidth) ⌝ }
     requires { ⌜ (length (now seen) ≡ length (now bitsets)) × (start < length (now bitsets)) ⌝ }
     ensures { λ r. ⌜ r .from + r .count ≤ length (now (walk .exit)) ⌝ }
-    ensures { λ r. ⌜ take (r .count) (drop (r .from) (now (walk .exit))) ≡ follow (now (tails .entry)) (now (heads .entry)) (now (flows .entry)) (now (seen .entry)) (length (now (walk .entry))) [] start ⌝ }
+    ensures { λ r. ⌜ take (r .count) (drop (r .from) (now (walk .exit))) ≡
+        follow (now (tails .entry)) (now (heads .entry)) (now (flows .entry)) (now (seen .entry))
+        (length (now (walk .entry))) [] start ⌝ }
 {
     graph::leaving(tails, heads, flows, seen, bitsets);
     let mut v = start;
@@ -125,7 +132,8 @@ fn lesser(a: u32, b: u32) -> u32
 
 // The smallest flow on a cycle.
 fn smallest<'a>(flows: &'a [u32], cycle: &'a [usize]) -> u32
-    ensures { λ r. ⌜ r ≡ smallest (now (flows .entry)) (getD (now (flows .entry)) (getD (now (cycle .entry)) 0 0) 0) (now (cycle .entry)) ⌝ }
+    ensures { λ r. ⌜ r ≡ smallest (now (flows .entry)) (getD (now (flows .entry)) (getD (now (cycle .entry)) 0 0) 0)
+        (now (cycle .entry)) ⌝ }
 {
     let first = lists::index_at(cycle, 0);
     let mut least = lists::word_at(flows, first);
@@ -152,7 +160,7 @@ fn lower(flows: &mut [u32], x: u32, cycle: &[usize])
 }
 
 // Lowers each edge of a cycle by the smallest flow among them.
-pub fn lower_cycle(flows: &mut [u32], cycle: &[usize])
+fn lower_cycle(flows: &mut [u32], cycle: &[usize])
     ensures { λ _. ⌜ now (flows .exit) ≡ lowerCycle (now (flows .entry)) (now (cycle .entry)) ⌝ }
 {
     let x = smallest(&*flows, cycle);
@@ -161,8 +169,8 @@ pub fn lower_cycle(flows: &mut [u32], cycle: &[usize])
 
 // ---- All rounds.
 
-// Cancels the cycle that the walk from v finds: the bitsets have the vertices that each vertex reaches. The set, the walk and then the bitsets are for
-// its use.
+// Cancels the cycle that the walk from v finds: the bitsets have the vertices that each vertex reaches. The set, the
+// walk and then the bitsets are for its use.
 fn cancel_from<'a>(
     tails: &'a [u32],
     heads: &'a [u32],
@@ -173,9 +181,12 @@ fn cancel_from<'a>(
     bitsets: &mut [u64],
 )
     requires { ⌜ (length (now heads) ≤ length (now flows)) × (length (now flows) ≤ setWidth) ⌝ }
-    requires { ⌜ (length (now seen) ≡ length (now walk)) × (length (now seen) ≡ length (now bitsets)) × (v < length (now bitsets)) ⌝ }
+    requires { ⌜ (length (now seen) ≡ length (now walk)) × (length (now seen) ≡ length (now bitsets))
+        × (v < length (now bitsets)) ⌝ }
     requires { ⌜ column (now bitsets) v ≡ reached (now heads) (now tails) (now flows) (length (now seen)) v ⌝ }
-    ensures { λ _. ⌜ now (flows .exit) ≡ lowerCycle (now (flows .entry)) (cycleFrom (now (tails .entry)) (now (heads .entry)) (length (now (seen .entry))) (now (flows .entry)) v) ⌝ }
+    ensures { λ _. ⌜ now (flows .exit) ≡
+        lowerCycle (now (flows .entry)) (cycleFrom (now (tails .entry)) (now (heads .entry))
+        (length (now (seen .entry))) (now (flows .entry)) v) ⌝ }
 {
     graph::column(&*bitsets, v, seen);
     let span = follow(tails, heads, &*flows, &*seen, v, walk, bitsets);
@@ -196,7 +207,8 @@ pub fn cancel<'a>(
 )
     requires { ⌜ (length (now heads) ≤ length (now flows)) × (length (now flows) ≤ setWidth) ⌝ }
     requires { ⌜ (n ≡ length (now seen)) × (n ≡ length (now walk)) × (n ≡ length (now bitsets)) × (n ≤ setWidth) ⌝ }
-    ensures { λ _. ⌜ now (flows .exit) ≡ acyclicFlows (now (tails .entry)) (now (heads .entry)) n (now (flows .entry)) ⌝ }
+    ensures { λ _. ⌜ now (flows .exit) ≡ acyclicFlows (now (tails .entry)) (now (heads .entry)) n
+        (now (flows .entry)) ⌝ }
 {
     let mut round: usize = 0;
     while round < flows.len() {

@@ -8,7 +8,8 @@ ghost use lib.ListN.{length};
 ghost use Rattle.board.specs.Limits.{maxVertices};
 ghost use Rattle.load.specs.Load.{acyclicOf, opened, loadText};
 
-// What a load gives: 0 and the board, ready to be played; or the number that the text is refused with, and the closed board.
+// What a load gives: 0 and the board, ready to be played; or the number that the text is refused with, and the closed
+// board.
 pub struct Loaded {
     pub answer: u32,
     pub board: Board,

@@ -18,7 +18,7 @@ ghost use Rattle.move_carry.specs.Carries.{carryRefusal, carryCall, carr
 // ---- Which carries are open.
 
 // Whether the flow of an edge allows a carry of that demand.
-pub fn flow_fits(mark: bool, flow: u32, demand: u32) -> bool
+fn flow_fits(mark: bool, flow: u32, demand: u32) -> bool
     ensures { λ r. ⌜ r ≡ flowFits mark flow demand ⌝ }
 {
     if mark { flow == demand } else { demand <= flow }
@@ -73,7 +73,9 @@ fn has_open<'a>(
     places: &'a [u32],
     i: u32,
 ) -> bool
-    ensures { λ r. ⌜ r ≡ ltb (lowest (isOpenAt (now (heads .entry)) (now (flows .entry)) marks (getD (now (places .entry)) i 0) (getD (now (demands .entry)) i 0)) 0 edges)
+    ensures { λ r. ⌜ r ≡ ltb
+        (lowest (isOpenAt (now (heads .entry)) (now (flows .entry)) marks (getD (now (places .entry)) i 0)
+        (getD (now (demands .entry)) i 0)) 0 edges)
         edges ⌝ }
 {
     let place = lists::word_at(places, i as usize);

@@ -165,7 +165,8 @@ fn allowed<'a>(
     a: u32,
     s: u8,
 ) -> u32
-    ensures { λ r. ⌜ r ≡ allowedIn (now (heads .entry)) (now (flows .entry)) (now (places .entry)) (now (demands .entry)) terminals a (stepOf s) ⌝ }
+    ensures { λ r. ⌜ r ≡ allowedIn (now (heads .entry)) (now (flows .entry)) (now (places .entry))
+        (now (demands .entry)) terminals a (stepOf s) ⌝ }
 {
     let edge = edge_of(s) as usize;
     let flow = lists::word_at(flows, edge);
@@ -185,7 +186,8 @@ pub fn least_allowed<'a>(
     terminals: u32,
     steps: &'a [u8],
 ) -> u32
-    ensures { λ r. ⌜ r ≡ amountIn (now (heads .entry)) (now (flows .entry)) (now (places .entry)) (now (demands .entry)) terminals 0
+    ensures { λ r. ⌜ r ≡ amountIn (now (heads .entry)) (now (flows .entry)) (now (places .entry))
+        (now (demands .entry)) terminals 0
         (stepsOf (now (steps .entry))) ⌝ }
 {
     let mut a: u32 = 0;

@@ -59,7 +59,8 @@ pub fn touching(edges: &[EdgeSet], positive: EdgeSet, v: u32) -> EdgeSet
     }
 }
 
-// ---- Singular edges, and the edges that a turn marks. The edges that leave each vertex and the positive edges are sets.
+// ---- Singular edges, and the edges that a turn marks. The edges that leave each vertex and the positive edges are
+// sets.
 
 // Whether v and each vertex after it has at most one positive edge leaving, for as many vertices as are left.
 fn straight<'a>(
@@ -108,7 +109,8 @@ pub fn fresh_by<'a>(
     vertices: u32,
     marks: EdgeSet,
 ) -> EdgeSet
-    ensures { λ r. ⌜ r ≡ collect (isFreshBy (now (heads .entry)) (now (leaving .entry)) positive vertices marks) 0 0 setWidth ⌝ }
+    ensures { λ r. ⌜ r ≡ collect
+        (isFreshBy (now (heads .entry)) (now (leaving .entry)) positive vertices marks) 0 0 setWidth ⌝ }
 {
     let marked = sets::common(positive, marks);
     let mut rest = sets::without(positive, marked);

@@ -12,12 +12,21 @@ ghost use lib.Dec.{leb, ltb, eqb};
 ghost use Rattle.lists.specs.Choice.{pick};
 ghost use Rattle.lists.specs.Lists.{all};
 ghost use Rattle.board.specs.Limits.{maxEdges, maxTerminals, maxTotal};
-ghost use Rattle.move_guard.specs.Guard.{edgeNumbersIntact, edgeIntactIn, terminalNumbersIntact, terminalIntactIn, moveIntact, intactIn, intact, playing};
+ghost use Rattle.move_guard.specs.Guard.{
+  edgeNumbersIntact,
+  edgeIntactIn,
+  terminalNumbersIntact,
+  terminalIntactIn,
+  moveIntact,
+  intactIn,
+  intact,
+  playing,
+};
 
 // ---- What a call changes, and the journal of standing moves.
 
-// What a call would change: its number, and where that is 0 the new flows, marks and places, and the entry of its move. Small beside a board, so it is what
-// is handed on where many calls are made.
+// What a call would change: its number, and where that is 0 the new flows, marks and places, and the entry of its move.
+// Small beside a board, so it is what is handed on where many calls are made.
 pub struct Change {
     pub answer: u32,
     pub flows: [u32; Board::MAX_EDGES],
@@ -63,7 +72,7 @@ fn entry_at(journal: [Entry; Board::JOURNAL], i: usize) -> Entry
 }
 
 // The last standing move, or the blank.
-pub fn last_entry(board: Board) -> Entry
+fn last_entry(board: Board) -> Entry
     ensures { λ r. ⌜ r ≡ lastEntry board ⌝ }
 {
     let i = lists::minus(board.moves, 1) as usize;
@@ -199,7 +208,7 @@ pub fn intact_in(
 }
 
 // The same of a board.
-pub fn intact(board: Board) -> bool
+fn intact(board: Board) -> bool
     ensures { λ r. ⌜ r ≡ intact board ⌝ }
 {
     let net = board.network;

@@ -17,7 +17,17 @@ ghost use Rattle.lists.specs.Choice.{pick, either};
 ghost use Rattle.board.specs.Limits.{maxMoves};
 ghost use Rattle.move_carry.specs.Carries.{carryChange};
 ghost use Rattle.move_undo.specs.Undone.{Small, undoChange};
-ghost use Rattle.move_list.specs.Calls.{hint, played, answers, plain, Replied, adviceCode, lastPlace, behind, Told};
+ghost use Rattle.move_list.specs.Calls.{
+  hint,
+  played,
+  answers,
+  plain,
+  Replied,
+  adviceCode,
+  lastPlace,
+  behind,
+  Told,
+};
 ghost use Rattle.move_list.specs.Codes.{part, callOf, callsOf, moveCode, journalCoded};
 ghost use lib.Seq.{sets};
 
@@ -79,7 +89,8 @@ fn make(board: Board, steps: &[u8], kind: u32, a: u32, c: u32) -> Reply
     ask(board)
 }
 
-// What a carry of terminal a over edge c, where the kind is 0, or else an undo would change, on a board with these parts; `last` is its last standing move.
+// What a carry of terminal a over edge c, where the kind is 0, or else an undo would change, on a board with these
+// parts; `last` is its last standing move.
 fn move_change(
     kind: u32,
     a: u32,
@@ -93,7 +104,8 @@ fn move_change(
     last: Move,
 ) -> Change
     requires { ⌜ («in_play» ≡ true → Small net flows last) ⌝ }
-    ensures { λ r. ⌜ r ≡ pick (eqb kind 0) (carryChange «in_play» net flows marks places a c) (undoChange «in_play» net flows marks places moves last) ⌝ }
+    ensures { λ r. ⌜ r ≡ pick (eqb kind 0) (carryChange «in_play» net flows marks places a c)
+        (undoChange «in_play» net flows marks places moves last) ⌝ }
 {
     if kind == 0 {
         return move_carry::change(in_play, net, flows, marks, places, a, c);
@@ -150,7 +162,8 @@ fn put_advice(buf: &mut [u32], k: usize, advice: Advice)
 // Stores the move of a hint from place k on, where the call was one; gives the place of the next.
 fn note(buf: &mut [u32], k: usize, hinted: bool, advice: Advice) -> usize
     ensures { λ r. ⌜ r ≡ pick hinted (behind (now (buf .entry)) k) k ⌝ }
-    ensures { λ _. ⌜ now (buf .exit) ≡ pick hinted (sets (now (buf .entry)) k (adviceCode advice)) (now (buf .entry)) ⌝ }
+    ensures { λ _. ⌜ now (buf .exit) ≡ pick hinted (sets (now (buf .entry)) k (adviceCode advice))
+        (now (buf .entry)) ⌝ }
 {
     let inside = k < buf.len();
     let writes = lists::and(hinted, inside);
@@ -161,11 +174,14 @@ fn note(buf: &mut [u32], k: usize, hinted: bool, advice: Advice) -> usize
     k + 68
 }
 
-// Makes the calls, one after the other; writes their answers into one buffer, and the moves of the hints into the other.
+// Makes the calls, one after the other; writes their answers into one buffer, and the moves of the hints into the
+// other.
 pub fn run(board: Board, codes: &[u32], steps: &[u8], buf: &mut [u32], hints: &mut [u32]) -> Board
     ensures { λ r. ⌜ r ≡ played board (callsOf (now (steps .entry)) (now (codes .entry))) ⌝ }
-    ensures { λ _. ⌜ now (buf .exit) ≡ sets (now (buf .entry)) 0 (answers board (callsOf (now (steps .entry)) (now (codes .entry)))) ⌝ }
-    ensures { λ _. ⌜ Told (now (hints .entry)) 0 board (callsOf (now (steps .entry)) (now (codes .entry))) (now (hints .exit)) ⌝ }
+    ensures { λ _. ⌜ now (buf .exit) ≡
+        sets (now (buf .entry)) 0 (answers board (callsOf (now (steps .entry)) (now (codes .entry)))) ⌝ }
+    ensures { λ _. ⌜ Told (now (hints .entry)) 0 board (callsOf (now (steps .entry)) (now (codes .entry)))
+        (now (hints .exit)) ⌝ }
 {
     let mut b = board;
     let mut left = codes.len();

@@ -18,7 +18,16 @@ ghost use Rattle.board.specs.Limits.{maxEdges, maxMoves};
 ghost use Rattle.move_cycle.specs.Steps.{stepOf, stepsOf, InSets, isUp, every};
 ghost use Rattle.move_edges.specs.Incidence.{Incident, PositiveSet};
 ghost use Rattle.move_edges.specs.Marking.{singularBy, ChartedOut};
-ghost use Rattle.move_turn.specs.Turns.{meetsIn, stepsRefusal, turnRefusalIn, turnRefusal, turnedIn, turnChange, turnCall, Sound};
+ghost use Rattle.move_turn.specs.Turns.{
+  meetsIn,
+  stepsRefusal,
+  turnRefusalIn,
+  turnRefusal,
+  turnedIn,
+  turnChange,
+  turnCall,
+  Sound,
+};
 
 // The rules that each step of a turn keeps.
 pub enum StepRule {
@@ -50,7 +59,8 @@ fn up_singular<'a>(
     vertices: u32,
     s: u8,
 ) -> bool
-    ensures { λ r. ⌜ r ≡ pick (isUp (stepOf s)) (singularBy (now (heads .entry)) (now (leaving .entry)) positive vertices (edgeOf (stepOf s))) true ⌝ }
+    ensures { λ r. ⌜ r ≡ pick (isUp (stepOf s))
+        (singularBy (now (heads .entry)) (now (leaving .entry)) positive vertices (edgeOf (stepOf s))) true ⌝ }
 {
     if !move_cycle::is_up(s) {
         return true;
@@ -70,7 +80,8 @@ fn meets<'a>(
     vertices: u32,
     s: u8,
 ) -> bool
-    ensures { λ r. ⌜ r ≡ meetsIn rule edges (now (flows .entry)) (singularBy (now (heads .entry)) (now (leaving .entry)) positive vertices) (stepOf s) ⌝ }
+    ensures { λ r. ⌜ r ≡ meetsIn rule edges (now (flows .entry))
+        (singularBy (now (heads .entry)) (now (leaving .entry)) positive vertices) (stepOf s) ⌝ }
 {
     match rule {
         StepRule::OnBoard => on_board(edges, s),
@@ -90,7 +101,8 @@ fn all_meet<'a>(
     vertices: u32,
     steps: &'a [u8],
 ) -> bool
-    ensures { λ r. ⌜ r ≡ every (meetsIn rule edges (now (flows .entry)) (singularBy (now (heads .entry)) (now (leaving .entry)) positive vertices))
+    ensures { λ r. ⌜ r ≡ every (meetsIn rule edges (now (flows .entry))
+        (singularBy (now (heads .entry)) (now (leaving .entry)) positive vertices))
         (stepsOf (now (steps .entry))) ⌝ }
 {
     let mut i: usize = 0;
@@ -126,7 +138,8 @@ fn steps_refusal<'a>(
 ) -> u32
     requires { ⌜ edges ≤ maxEdges ⌝ }
     requires { ⌜ ChartedOut (now tails) (now heads) (now flows) (now leaving) positive ⌝ }
-    ensures { λ r. ⌜ r ≡ stepsRefusal «any_open» edges (now (tails .entry)) (now (heads .entry)) (now (flows .entry)) vertices (stepsOf (now (steps .entry))) ⌝ }
+    ensures { λ r. ⌜ r ≡ stepsRefusal «any_open» edges (now (tails .entry)) (now (heads .entry))
+        (now (flows .entry)) vertices (stepsOf (now (steps .entry))) ⌝ }
 {
     if !all_meet(
         StepRule::OnBoard,
@@ -173,7 +186,8 @@ fn steps_refusal<'a>(
     0
 }
 
-// 20 where the board is not in play, or what the steps are refused with. The sets are of the edges that leave each vertex, and of the positive ones.
+// 20 where the board is not in play, or what the steps are refused with. The sets are of the edges that leave each
+// vertex, and of the positive ones.
 fn refusal<'a>(
     in_play: bool,
     any_open: bool,
@@ -265,8 +279,9 @@ fn turned<'a>(
     }
 }
 
-// What a turn changes on a board of these parts; `in_play` says whether the board is in play, `any_open` whether a carry is open. `leaving` has for each vertex
-// the set of the edges that leave it, and `positive` is the set of the positive ones.
+// What a turn changes on a board of these parts; `in_play` says whether the board is in play, `any_open` whether a
+// carry is open. `leaving` has for each vertex the set of the edges that leave it, and `positive` is the set of the
+// positive ones.
 pub fn change_by<'a>(
     in_play: bool,
     any_open: bool,

@@ -7,9 +7,32 @@ ghost use lib.Dec.{leb, ltb, eqb};
 ghost use Rattle.lists.specs.Choice.{pick, both};
 ghost use Rattle.decimal.specs.Decimal.{maxDigits};
 ghost use Rattle.board.specs.Limits.{maxEdges};
-ghost use Rattle.play_lines.specs.Scans.{noPiece, isDigit, pieceTaken, pieceNumber, pieceIs, noForm, ofKind, withFirst, withSecond, numbered, carryWhole, stepByte, withStep, begun, wayTaken, formTaken, noScan, scanTaken, scanAll, scanned, isBlank};
+ghost use Rattle.play_lines.specs.Scans.{
+  noPiece,
+  isDigit,
+  pieceTaken,
+  pieceNumber,
+  pieceIs,
+  noForm,
+  ofKind,
+  withFirst,
+  withSecond,
+  numbered,
+  carryWhole,
+  stepByte,
+  withStep,
+  begun,
+  wayTaken,
+  formTaken,
+  noScan,
+  scanTaken,
+  scanAll,
+  scanned,
+  isBlank,
+};
 
-// A field as far as it was read: how many bytes, with 8 for more than 7, the first of them, whether all are digits, and their number.
+// A field as far as it was read: how many bytes, with 8 for more than 7, the first of them, whether all are digits, and
+// their number.
 pub struct Piece {
     pub size: u32,
     pub initial: u8,
@@ -17,8 +40,8 @@ pub struct Piece {
     pub value: u32,
 }
 
-// What the fields before it make: the kind of line; the numbers of a carry, or the edge of a step whose way is to come; and the steps of a turn: how
-// many, with 65 for more than 64, their greatest edge, and the first 64 as bytes.
+// What the fields before it make: the kind of line; the numbers of a carry, or the edge of a step whose way is to come;
+// and the steps of a turn: how many, with 65 for more than 64, their greatest edge, and the first 64 as bytes.
 pub struct Form {
     pub kind: u32,
     pub first: u32,

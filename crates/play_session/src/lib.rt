@@ -15,10 +15,35 @@ ghost use Rattle.solve_finish.specs.Finishes.{finishCall};
 ghost use Rattle.load.specs.Load.{loadText};
 ghost use Rattle.play_lines.specs.Scans.{scanned};
 ghost use Rattle.sheet_output.specs.Inputs.{textSpace};
-ghost use Rattle.play_session.specs.Machine.{playingStage, overStage, unkept, turnReplied, formReplied, formText, newSession, textGrown, scanGrown, grown, textSoFar, linesLeft, ready, boardLine, loadTold, boardTold, playedLine, lineEnded, lineTold, endTold, takenOf, fedSession, fedTold};
+ghost use Rattle.play_session.specs.Machine.{
+  playingStage,
+  overStage,
+  unkept,
+  turnReplied,
+  formReplied,
+  formText,
+  newSession,
+  textGrown,
+  scanGrown,
+  grown,
+  textSoFar,
+  linesLeft,
+  ready,
+  boardLine,
+  loadTold,
+  boardTold,
+  playedLine,
+  lineEnded,
+  lineTold,
+  endTold,
+  takenOf,
+  fedSession,
+  fedTold,
+};
 
-// The board is read, lines are played, or the board was refused; how many lines of the board are still to come, 0 before the first has ended; the text of
-// the board as far as it is kept; the line as far as it was read; and the board.
+// The board is read, lines are played, or the board was refused; how many lines of the board are still to come, 0
+// before the first has ended; the text of the board as far as it is kept; the line as far as it was read; and the
+// board.
 pub struct Session {
     pub stage: u32,
     pub left: u32,
@@ -333,9 +358,12 @@ fn board_line(session: Session, out: &mut [u8]) -> Told
 // A line of the play has ended: it is answered.
 fn played_line(session: Session, out: &mut [u8]) -> Told
     ensures { λ r. ⌜ r .session ≡ playedLine (formReplied (session .board) (scanned (session .scan))) session ⌝ }
-    ensures { λ r. ⌜ r .used ≡ length (formText (scanned (session .scan)) (formReplied (session .board) (scanned (session .scan)))) ⌝ }
+    ensures { λ r. ⌜ r .used ≡
+        length (formText (scanned (session .scan)) (formReplied (session .board) (scanned (session .scan)))) ⌝ }
     ensures { λ r. ⌜ r .used ≤ 8291 ⌝ }
-    ensures { λ _. ⌜ now (out .exit) ≡ sets (now (out .entry)) 0 (formText (scanned (session .scan)) (formReplied (session .board) (scanned (session .scan)))) ⌝ }
+    ensures { λ _. ⌜ now (out .exit) ≡
+        sets (now (out .entry)) 0
+        (formText (scanned (session .scan)) (formReplied (session .board) (scanned (session .scan)))) ⌝ }
 {
     let scan = session.scan;
     let form = play_lines::whole(scan);
@@ -374,8 +402,8 @@ fn line_ended(session: Session, out: &mut [u8]) -> Told
     }
 }
 
-// Takes a piece of the input, up to and with its first line feed, and writes what is printed for it: OUTPUT bytes at most. What has no room in the
-// buffer is dropped.
+// Takes a piece of the input, up to and with its first line feed, and writes what is printed for it: OUTPUT bytes at
+// most. What has no room in the buffer is dropped.
 pub fn feed(session: Session, bytes: &[u8], out: &mut [u8]) -> Fed
     ensures { λ r. ⌜ r .session ≡ fedSession session (now (bytes .entry)) ⌝ }
     ensures { λ r. ⌜ r .taken ≡ takenOf (now (bytes .entry)) ⌝ }

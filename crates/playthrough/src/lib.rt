@@ -15,8 +15,8 @@ pub struct Outcome {
     pub finish: Finished,
 }
 
-// Loads a text, makes the calls (crates/calls: three numbers a call, and the steps of the turns), and finishes the board. The answers and the moves
-// of the hints go into the buffers.
+// Loads a text, makes the calls (crates/calls: three numbers a call, and the steps of the turns), and finishes the
+// board. The answers and the moves of the hints go into the buffers.
 pub fn play_through(
     text: &[u8],
     codes: &[u32],
@@ -25,9 +25,13 @@ pub fn play_through(
     hints: &mut [u32],
 ) -> Outcome
     ensures { λ r. ⌜ r ≡ outcome (now (text .entry)) (callsOf (now (steps .entry)) (now (codes .entry))) ⌝ }
-    ensures { λ _. ⌜ now (given .exit) ≡ sets (now (given .entry)) 0 (answers (loadText (now (text .entry)) .board) (callsOf (now (steps .entry)) (now (codes .entry)))) ⌝ }
-    ensures { λ _. ⌜ Told (now (hints .entry)) 0 (loadText (now (text .entry)) .board) (callsOf (now (steps .entry)) (now (codes .entry))) (now (hints .exit)) ⌝ }
-    ensures { λ r. ⌜ Holds (now (text .entry)) (callsOf (now (steps .entry)) (now (codes .entry))) (now (given .entry)) (now (given .exit)) (now (hints .entry)) (now (hints .exit)) r ⌝ }
+    ensures { λ _. ⌜ now (given .exit) ≡
+        sets (now (given .entry)) 0 (answers (loadText (now (text .entry)) .board)
+        (callsOf (now (steps .entry)) (now (codes .entry)))) ⌝ }
+    ensures { λ _. ⌜ Told (now (hints .entry)) 0 (loadText (now (text .entry)) .board)
+        (callsOf (now (steps .entry)) (now (codes .entry))) (now (hints .exit)) ⌝ }
+    ensures { λ r. ⌜ Holds (now (text .entry)) (callsOf (now (steps .entry)) (now (codes .entry))) (now (given .entry))
+        (now (given .exit)) (now (hints .entry)) (now (hints .exit)) r ⌝ }
 {
     let loaded = load::load(text);
     let start = loaded.board;

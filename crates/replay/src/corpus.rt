@@ -1,5 +1,5 @@
-// Texts, each with its length in two bytes before it, the high byte first. For each it prints what reading the text answers,
-// and after a 0 the text written back from what was read.
+// Texts, each with its length in two bytes before it, the high byte first. For each it prints what reading the text
+// answers, and after a 0 the text written back from what was read.
 use super::framing;
 use board::Network;
 use libc::STDIN_FILENO;

@@ -1,5 +1,5 @@
-// Boards of the catalog: for each a line with its number, its counts of vertices, edges and terminals and the carries and turns
-// of its finish; its text; and its route report; or what a number with no board is refused with.
+// Boards of the catalog: for each a line with its number, its counts of vertices, edges and terminals and the carries
+// and turns of its finish; its text; and its route report; or what a number with no board is refused with.
 use super::framing;
 use board::Board;
 use board::Entry;

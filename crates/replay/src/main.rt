@@ -1,5 +1,6 @@
-// The test program. Reads parts from standard input: a letter, a count in four bytes, the highest first, and so many pieces of that
-// kind, which it answers: texts (T), lists of calls (L), inputs of the programs (P), boards of the catalog (C).
+// The test program. Reads parts from standard input: a letter, a count in four bytes, the highest first, and so many
+// pieces of that kind, which it answers: texts (T), lists of calls (L), inputs of the programs (P), boards of the
+// catalog (C).
 mod corpus;
 mod framing;
 mod listing;
@@ -34,8 +35,8 @@ fn next_part() -> bool {
     answer(before[0], count)
 }
 
-// A proved loop has to end, and nothing says that the input does. So the loop counts its rounds down, from a number that no run
-// uses up.
+// A proved loop has to end, and nothing says that the input does. So the loop counts its rounds down, from a number
+// that no run uses up.
 fn main() {
     let mut rounds = u64::MAX;
     while 0 < rounds && next_part() {

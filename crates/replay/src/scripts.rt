@@ -1,6 +1,6 @@
-// Scripts: a letter, the size of pieces, a length in four bytes, the high byte first, and so many bytes. With the bytes it does
-// what `sheet` (S) does, what `play` (P) does, fed in pieces of that size, or what a caller of the library (C) does; then it
-// prints a line with a dash.
+// Scripts: a letter, the size of pieces, a length in four bytes, the high byte first, and so many bytes. With the bytes
+// it does what `sheet` (S) does, what `play` (P) does, fed in pieces of that size, or what a caller of the library (C)
+// does; then it prints a line with a dash.
 use super::framing;
 use board::Board;
 use libc::STDIN_FILENO;
@@ -17,7 +17,8 @@ fn least(a: u32, b: u32) -> u32
     if a < b { a } else { b }
 }
 
-// Reads the next bytes: as many as a piece has, no more than are left and no more than there is room for. Answers how many, 0 where the input ends before.
+// Reads the next bytes: as many as a piece has, no more than are left and no more than there is room for. Answers how
+// many, 0 where the input ends before.
 fn read_piece(space: &mut [u8], piece: u8, left: u32) -> usize
     ensures { λ r. ⌜ r ≤ left ⌝ }
     ensures { λ r. ⌜ r ≤ length (now (space .exit)) ⌝ }

@@ -1,5 +1,6 @@
-// Trials: a board text, the steps of the turns and a list of calls, each with its length in two bytes before it, the high byte
-// first. For each it plays the calls, finishes the board, and prints the answers and the moves of the finished board.
+// Trials: a board text, the steps of the turns and a list of calls, each with its length in two bytes before it, the
+// high byte first. For each it plays the calls, finishes the board, and prints the answers and the moves of the
+// finished board.
 use super::framing;
 use board::Board;
 use board::Entry;
@@ -19,7 +20,8 @@ fn read_length() -> usize {
     framing::two_bytes(before[0], before[1])
 }
 
-// Reads a length and so many bytes, into the front of the space, and answers the length; 65536 where the part is cut short or has no room.
+// Reads a length and so many bytes, into the front of the space, and answers the length; 65536 where the part is cut
+// short or has no room.
 fn read_part(space: &mut [u8]) -> usize {
     let n = read_length();
     if space.len() < n {
@@ -64,8 +66,8 @@ fn fill_codes(codes: &mut [u32]) -> bool {
     true
 }
 
-// Reads a count and so many calls, into the front of the codes, and answers how many numbers they are, three a call; 65536 where the input is cut
-// short or the calls have no room.
+// Reads a count and so many calls, into the front of the codes, and answers how many numbers they are, three a call;
+// 65536 where the input is cut short or the calls have no room.
 fn read_codes(codes: &mut [u32]) -> usize {
     let count = read_length();
     if codes.len() / 3 < count {

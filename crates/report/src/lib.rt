@@ -18,10 +18,12 @@ ghost use Rattle.report.specs.Rows.{tableRouteRow, tableLoadRow, tableTe
 // How many numbers the line of a route has at most: the terminal, how many edges, and the edges.
 const ROUTE_NUMBERS: usize = Board::MAX_VERTICES as usize + 2;
 
-// A report has at most so many bytes: a line of 2 numbers, one of ROUTE_NUMBERS for each terminal, and one of 3 for each edge.
+// A report has at most so many bytes: a line of 2 numbers, one of ROUTE_NUMBERS for each terminal, and one of 3 for
+// each edge.
 const REPORT_BYTES: usize = 8280;
 
-// 29 or 28, in this order; 0 where there is a report. `sound`: the board is intact; `fit`: its routes have room in their rows.
+// 29 or 28, in this order; 0 where there is a report. `sound`: the board is intact; `fit`: its routes have room in
+// their rows.
 fn unreported_in(stage: u32, sound: bool, fit: bool) -> u32
     ensures { λ r. ⌜ r ≡ unreportedIn stage sound fit ⌝ }
 {
@@ -65,7 +67,8 @@ fn put_route(
     requires { ⌜ (at ≤ 131072) × (count ≤ maxVertices) ⌝ }
     ensures { λ r. ⌜ r ≡ at + length (lineText 77 (terminal ∷ count ∷ take count edges)) ⌝ }
     ensures { λ r. ⌜ r ≤ at + 376 ⌝ }
-    ensures { λ r. ⌜ now (buf .exit) ≡ sets (now (buf .entry)) at (lineText 77 (terminal ∷ count ∷ take count edges)) ⌝ }
+    ensures { λ r. ⌜ now (buf .exit) ≡
+        sets (now (buf .entry)) at (lineText 77 (terminal ∷ count ∷ take count edges)) ⌝ }
 {
     let row = route_row(terminal, count, edges);
     let end = count as usize + 2;
@@ -80,10 +83,12 @@ fn put_routes(
     rows: [[u32; Board::MAX_VERTICES as usize]; Board::MAX_TERMINALS],
     terminals: u32,
 ) -> usize
-    requires { ⌜ (at ≤ 100000) × ((terminals ≤ maxTerminals) × ((i : ℕ) → i < terminals → getD counts i 0 ≤ maxVertices)) ⌝ }
+    requires { ⌜ (at ≤ 100000)
+        × ((terminals ≤ maxTerminals) × ((i : ℕ) → i < terminals → getD counts i 0 ≤ maxVertices)) ⌝ }
     ensures { λ r. ⌜ r ≡ at + length (linesText 77 (tableRouteRow counts rows) 0 terminals) ⌝ }
     ensures { λ r. ⌜ r ≤ at + 376 * maxTerminals ⌝ }
-    ensures { λ r. ⌜ now (buf .exit) ≡ sets (now (buf .entry)) at (linesText 77 (tableRouteRow counts rows) 0 terminals) ⌝ }
+    ensures { λ r. ⌜ now (buf .exit) ≡
+        sets (now (buf .entry)) at (linesText 77 (tableRouteRow counts rows) 0 terminals) ⌝ }
 {
     let mut to = at;
     let mut i: u32 = 0;
@@ -104,10 +109,12 @@ fn put_loads(
     counts: [u32; Board::MAX_TERMINALS],
     rows: [[u32; Board::MAX_VERTICES as usize]; Board::MAX_TERMINALS],
 ) -> usize
-    requires { ⌜ (at ≤ 100000) × ((net .edges ≤ maxEdges) × ((net .terminals ≤ maxTerminals) × Moderate (net .demands))) ⌝ }
+    requires { ⌜ (at ≤ 100000)
+        × ((net .edges ≤ maxEdges) × ((net .terminals ≤ maxTerminals) × Moderate (net .demands))) ⌝ }
     ensures { λ r. ⌜ r ≡ at + length (linesText 76 (tableLoadRow net counts rows) 0 (net .edges)) ⌝ }
     ensures { λ r. ⌜ r ≤ at + 35 * maxEdges ⌝ }
-    ensures { λ r. ⌜ now (buf .exit) ≡ sets (now (buf .entry)) at (linesText 76 (tableLoadRow net counts rows) 0 (net .edges)) ⌝ }
+    ensures { λ r. ⌜ now (buf .exit) ≡
+        sets (now (buf .entry)) at (linesText 76 (tableLoadRow net counts rows) 0 (net .edges)) ⌝ }
 {
     let edges = net.edges;
     let terminals = net.terminals;
@@ -126,7 +133,8 @@ fn put_loads(
     to
 }
 
-// Writes the report by the routes at a place of the buffer, and answers the place behind it. A byte past the end of the buffer is dropped.
+// Writes the report by the routes at a place of the buffer, and answers the place behind it. A byte past the end of the
+// buffer is dropped.
 fn put_tables(
     buf: &mut [u8],
     at: usize,
@@ -160,8 +168,9 @@ fn has_room(
     length <= room
 }
 
-// Writes the report of a board at a place of the buffer, and answers its length, or the number that it is refused with. A byte past the end of the buffer is
-// dropped; where the report is to be whole, a buffer that is too short for it is refused.
+// Writes the report of a board at a place of the buffer, and answers its length, or the number that it is refused with.
+// A byte past the end of the buffer is dropped; where the report is to be whole, a buffer that is too short for it is
+// refused.
 pub fn put_sheet(buf: &mut [u8], at: usize, whole: bool, board: Board) -> Written
     requires { ⌜ at ≤ 65536 ⌝ }
     ensures { λ r. ⌜ r ≡ putCall board whole (length (now (buf .entry))) ⌝ }
@@ -201,7 +210,8 @@ pub fn put_sheet(buf: &mut [u8], at: usize, whole: bool, board: Board) -> Writte
     }
 }
 
-// Writes the route report: 29 where no board was loaded, 28 before a finish, then 8 where the buffer is too short for the text.
+// Writes the route report: 29 where no board was loaded, 28 before a finish, then 8 where the buffer is too short for
+// the text.
 pub fn sheet(board: Board, buf: &mut [u8]) -> Written
     ensures { λ r. ⌜ r ≡ sheetCall board (length (now (buf .entry))) ⌝ }
     ensures { λ _. ⌜ now (buf .exit) ≡ sheeted board (now (buf .entry)) ⌝ }

@@ -11,8 +11,8 @@ ghost use Rattle.lists.specs.Lists.{all};
 ghost use Rattle.board.specs.Limits.{maxVertices, maxTerminals};
 ghost use Rattle.report_routes.specs.Tables.{rowsOf, countsOf, IsSetOf, AreRouteSets, setLoad, Moderate};
 
-// The routes by the first moves of a journal, from the last of them to the first: a row of edges for each terminal, 0 behind them. `counts` gets how many
-// edges each route has; a row holds as many of them as there is room for.
+// The routes by the first moves of a journal, from the last of them to the first: a row of edges for each terminal, 0
+// behind them. `counts` gets how many edges each route has; a row holds as many of them as there is room for.
 pub fn fill(
     journal: [Entry; Board::JOURNAL],
     moves: u32,

@@ -7,7 +7,8 @@ ghost use lib.Seq.{sets};
 ghost use Rattle.sheet_output.specs.Outputs.{numberLine, reportOf, sheetOutput};
 ghost use Rattle.sheet_output.specs.Inputs.{linesWanted};
 
-// Writes a number and a line feed at a place of the buffer, and answers the place behind them. A byte past the end of the buffer is dropped.
+// Writes a number and a line feed at a place of the buffer, and answers the place behind them. A byte past the end of
+// the buffer is dropped.
 pub fn put_number(buf: &mut [u8], at: usize, n: u32) -> usize
     requires { ⌜ at ≤ 65536 ⌝ }
     ensures { λ r. ⌜ r ≡ at + length (numberLine n) ⌝ }

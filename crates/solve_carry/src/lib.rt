@@ -53,7 +53,8 @@ fn chosen(flows: &[u32], marks: EdgeSet, demand: u32, set: EdgeSet) -> u32
     lowest_fit(flows, marks, demand, set)
 }
 
-// The lowest terminal with an open carry, and of its open carries the one over a marked edge first, then over the lowest.
+// The lowest terminal with an open carry, and of its open carries the one over a marked edge first, then over the
+// lowest.
 pub fn open_carry<'a>(
     heads: &'a [u32],
     entering: &'a [EdgeSet],
@@ -66,9 +67,12 @@ pub fn open_carry<'a>(
     places: &'a [u32],
 ) -> Found
     requires { ⌜ Searched (now heads) (now entering) (now demands) terminals edges (now flows) positive (now places) ⌝ }
-    ensures { λ r. ⌜ r .terminal ≡ lowest (hasOpenAt (now (heads .entry)) (now (demands .entry)) edges (now (flows .entry)) marks (now (places .entry))) 0 terminals ⌝ }
+    ensures { λ r. ⌜ r .terminal ≡
+        lowest (hasOpenAt (now (heads .entry)) (now (demands .entry)) edges (now (flows .entry)) marks
+        (now (places .entry))) 0 terminals ⌝ }
     ensures { λ r. ⌜ (r .terminal < terminals → r .edge
-        ≡ chosenEdgeIn (now (heads .entry)) (now (demands .entry)) edges (now (flows .entry)) marks (now (places .entry)) (r .terminal)) ⌝ }
+        ≡ chosenEdgeIn (now (heads .entry)) (now (demands .entry)) edges (now (flows .entry)) marks
+        (now (places .entry)) (r .terminal)) ⌝ }
 {
     let mut i: u32 = 0;
     while i < terminals {

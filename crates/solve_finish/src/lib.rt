@@ -11,9 +11,19 @@ ghost use mathlib.Core.Bool.{true};
 ghost use Rattle.move_edges.specs.Incidence.{Incident, PositiveSet};
 ghost use Rattle.move_guard.specs.Moved.{unchanged};
 ghost use Rattle.solve_finish.specs.Finishes.{finishCall};
-ghost use Rattle.solve_finish.specs.Run.{allSmall, positiveAfter, carryStep, turnStep, stepChange, InPlay, Makes, leftAfter};
+ghost use Rattle.solve_finish.specs.Run.{
+  allSmall,
+  positiveAfter,
+  carryStep,
+  turnStep,
+  stepChange,
+  InPlay,
+  Makes,
+  leftAfter,
+};
 
-// What a finish gives: 0, how many moves it made, and the board at the end; or the number that it is refused with, and the board as it was.
+// What a finish gives: 0, how many moves it made, and the board at the end; or the number that it is refused with, and
+// the board as it was.
 pub struct Finished {
     pub answer: u32,
     pub count: u32,
@@ -226,9 +236,10 @@ fn advance<'a>(
     turned(net, leaving, entering, flows, marks, places, positive)
 }
 
-// Plays to the end, and answers how many moves that took. The board is tested and changed in one local, and its parts in locals of their own, so that it is
-// copied once in and once out, and not at each move. The next move is worked out at two places, before the loop and at its end: called at one alone, `advance`
-// would become part of this function, and the compiler, which looks back over a hundred stores at most, would copy the board once more for the second refusal.
+// Plays to the end, and answers how many moves that took. The board is tested and changed in one local, and its parts
+// in locals of their own, so that it is copied once in and once out, and not at each move. The next move is worked out
+// at two places, before the loop and at its end: called at one alone, `advance` would become part of this function, and
+// the compiler, which looks back over a hundred stores at most, would copy the board once more for the second refusal.
 pub fn finish(board: Board) -> Finished
     ensures { λ r. ⌜ r ≡ finishCall board ⌝ }
 {

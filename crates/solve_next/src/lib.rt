@@ -71,7 +71,8 @@ fn next_carry(
     places: [u32; Board::MAX_TERMINALS],
 ) -> Found
     requires { ⌜ Searchable net flows places ⌝ }
-    ensures { λ r. ⌜ r .terminal ≡ lowest (hasOpenAt (net .heads) (net .demands) (net .edges) flows marks places) 0 (net .terminals) ⌝ }
+    ensures { λ r. ⌜ r .terminal ≡ lowest (hasOpenAt (net .heads) (net .demands) (net .edges) flows marks places) 0
+        (net .terminals) ⌝ }
     ensures { λ r. ⌜ (r .terminal < net .terminals → r .edge
         ≡ chosenEdgeIn (net .heads) (net .demands) (net .edges) flows marks places (r .terminal)) ⌝ }
 {
@@ -114,7 +115,7 @@ fn next_cycle(net: Network, flows: [u32; Board::MAX_EDGES]) -> Walk
 }
 
 // The move that the solver makes next on a board in play.
-pub fn next(board: Board) -> Advice
+fn next(board: Board) -> Advice
     requires { ⌜ playing board ≡ true ⌝ }
     ensures { λ r. ⌜ r ≡ adviceOf (nextAct board) ⌝ }
 {
@@ -143,7 +144,7 @@ pub fn next(board: Board) -> Advice
 }
 
 // The number that a move is refused with; 0 where it is accepted.
-pub fn judge(board: Board, advice: Advice) -> u32
+fn judge(board: Board, advice: Advice) -> u32
     requires { ⌜ advice .count ≤ maxEdges ⌝ }
     ensures { λ r. ⌜ r ≡ judge board (actOf advice) ⌝ }
 {

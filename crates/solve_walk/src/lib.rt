@@ -8,7 +8,17 @@ ghost use lib.ListN.{getD, set, drop};
 ghost use Rattle.board.specs.Limits.{maxVertices, maxEdges};
 ghost use Rattle.sets.specs.Sets.{setWidth, withBit};
 ghost use Rattle.move_cycle.specs.Steps.{upFrom};
-ghost use Rattle.solve_walk.specs.Walk.{another, firstMet, downWalk, upWalk, cycleOf, byteOf, walked, packed, stride};
+ghost use Rattle.solve_walk.specs.Walk.{
+  another,
+  firstMet,
+  downWalk,
+  upWalk,
+  cycleOf,
+  byteOf,
+  walked,
+  packed,
+  stride,
+};
 ghost use Rattle.solve_walk.specs.Chart.{Charted, Seen, anotherIn, partsIn};
 
 // The steps of a walk, a byte each, from the first on; 0 in the places past them.
@@ -119,7 +129,8 @@ fn walk_from(walk: Walk, k: u32) -> Walk
 // The steps since v was first met.
 fn since_met<'a>(tails: &'a [u32], heads: &'a [u32], walk: Walk, v: u32) -> Walk
     requires { ⌜ walk .count ≤ maxEdges ⌝ }
-    ensures { λ r. ⌜ r ≡ packed (drop (firstMet (now (tails .entry)) (now (heads .entry)) (walked walk) v) (walked walk)) ⌝ }
+    ensures { λ r. ⌜ r ≡ packed (drop (firstMet (now (tails .entry)) (now (heads .entry)) (walked walk) v)
+        (walked walk)) ⌝ }
 {
     let k = first_met(tails, heads, walk, v);
     walk_from(walk, k)
@@ -144,7 +155,8 @@ fn down_walk<'a>(
     requires { ⌜ Seen (now tails) (now heads) (walked walk) seen ⌝ }
     requires { ⌜ v < maxVertices ⌝ }
     ensures { λ r. ⌜ r ≡ packed (downWalk (now (tails .entry)) (now (heads .entry)) (now (flows .entry))
-        (another (now (tails .entry)) (now (flows .entry))) (another (now (heads .entry)) (now (flows .entry))) left (walked walk) x v) ⌝ }
+        (another (now (tails .entry)) (now (flows .entry))) (another (now (heads .entry)) (now (flows .entry))) left
+        (walked walk) x v) ⌝ }
 {
     if lists::or(left == 0, sets::has(seen, v as usize)) {
         return since_met(tails, heads, walk, v);
@@ -206,7 +218,8 @@ fn up_walk<'a>(
     requires { ⌜ Seen (now tails) (now heads) (walked walk) seen ⌝ }
     requires { ⌜ v < maxVertices ⌝ }
     ensures { λ r. ⌜ r ≡ packed (upWalk (now (tails .entry)) (now (heads .entry)) (now (flows .entry))
-        (another (now (tails .entry)) (now (flows .entry))) (another (now (heads .entry)) (now (flows .entry))) left (walked walk) x v) ⌝ }
+        (another (now (tails .entry)) (now (flows .entry))) (another (now (heads .entry)) (now (flows .entry))) left
+        (walked walk) x v) ⌝ }
 {
     if lists::or(left == 0, sets::has(seen, v as usize)) {
         return since_met(tails, heads, walk, v);
@@ -263,7 +276,8 @@ pub fn cycle<'a>(
     requires { ⌜ vertices ≤ maxEdges ⌝ }
     requires { ⌜ Charted (now tails) (now heads) (now flows) (now leaving) (now entering) positive ⌝ }
     requires { ⌜ source < maxVertices ⌝ }
-    ensures { λ r. ⌜ r ≡ packed (cycleOf (now (tails .entry)) (now (heads .entry)) (now (flows .entry)) vertices source) ⌝ }
+    ensures { λ r. ⌜ r ≡ packed (cycleOf (now (tails .entry)) (now (heads .entry))
+        (now (flows .entry)) vertices source) ⌝ }
 {
     let walk = Walk {
         count: 0,

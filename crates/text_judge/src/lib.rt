@@ -73,7 +73,8 @@ fn add_at(sums: &mut [u64], k: usize, x: u64)
 fn add_keyed<'a>(keys: &'a [u32], values: &'a [u32], sums: &mut [u64])
     requires { ⌜ (length (now keys) ≡ length (now values)) × (length (now keys) ≤ 65536) ⌝ }
     requires { ⌜ ((v : ℕ) → getD (now sums) v 0 ≤ 4294967296 * 65536) ⌝ }
-    ensures { λ _. ⌜ ((v : ℕ) → v < length (now (sums .entry)) → getD (now (sums .exit)) v 0 ≡ getD (now (sums .entry)) v 0 + sumAt (now (keys .entry)) (now (values .entry)) v) ⌝ }
+    ensures { λ _. ⌜ ((v : ℕ) → v < length (now (sums .entry)) → getD (now (sums .exit)) v 0 ≡
+        getD (now (sums .entry)) v 0 + sumAt (now (keys .entry)) (now (values .entry)) v) ⌝ }
     ensures { λ _. ⌜ ((v : ℕ) → getD (now (sums .exit)) v 0 ≤ getD (now (sums .entry)) v 0 + 4294967296 * 65536) ⌝ }
 {
     let mut i: usize = 0;
@@ -101,7 +102,8 @@ fn all_even<'a>(xs: &'a [u64], ys: &'a [u64], source: u32, n: u32) -> bool
     true
 }
 
-// Whether each vertex but the source balances: the sums of all vertices at once, where there are as many vertices as a board can have.
+// Whether each vertex but the source balances: the sums of all vertices at once, where there are as many vertices as a
+// board can have.
 fn all_balanced(net: Network) -> bool
     ensures { λ r. ⌜ r ≡ all (balanced net) 0 (net .vertices) ⌝ }
 {

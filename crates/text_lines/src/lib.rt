@@ -158,7 +158,8 @@ fn terminal_ranges(vertices: u32) -> [Range; 4]
 // The terminal lines, from `start` on.
 pub fn terminal_lines(s: &[u8], start: usize, net: Network) -> Part
     requires { ⌜ (start ≤ length (now s)) × (0 < net .vertices) × (net .terminals ≤ maxTerminals) ⌝ }
-    ensures { λ r. ⌜ partRead r (now (s .entry)) ≡ terminalLines net 0 (net .terminals) (drop start (now (s .entry))) ⌝ }
+    ensures { λ r. ⌜ partRead r (now (s .entry)) ≡
+        terminalLines net 0 (net .terminals) (drop start (now (s .entry))) ⌝ }
     ensures { λ r. ⌜ r .used ≤ length (now (s .entry)) ⌝ }
 {
     let ranges = terminal_ranges(net.vertices);

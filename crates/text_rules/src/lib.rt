@@ -2,7 +2,14 @@
 use board::Board;
 use board::Network;
 ghost use mathlib.Core.Path.{_≡_};
-ghost use Rattle.text_rules.specs.Rules.{edgeNumbersFit, terminalNumbersFit, edgeFits, terminalFits, balanced, keeps};
+ghost use Rattle.text_rules.specs.Rules.{
+  edgeNumbersFit,
+  terminalNumbersFit,
+  edgeFits,
+  terminalFits,
+  balanced,
+  keeps,
+};
 
 // The rules that a network is tested for one place after the other.
 pub enum Rule {

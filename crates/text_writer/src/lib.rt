@@ -10,7 +10,8 @@ ghost use Rattle.board.specs.Limits.{maxEdges, maxTerminals};
 ghost use Rattle.text.specs.Text.{lineText, linesText, edgeRow, terminalRow, textOf};
 ghost use Rattle.text.specs.Results.{loaded, writeText, written};
 
-// ---- The text of a network, written into a buffer. A byte past the end of the buffer is dropped, so writing into a short buffer measures the text.
+// ---- The text of a network, written into a buffer. A byte past the end of the buffer is dropped, so writing into a
+// short buffer measures the text.
 
 // Writes a line, as `C,0,1,3` and a line feed, at a place of the buffer, and answers the place behind it.
 pub fn put_line(buf: &mut [u8], at: usize, letter: u8, values: &[u32]) -> usize
@@ -72,7 +73,8 @@ fn terminal_row(net: Network, j: usize) -> [u32; 2]
 fn put_terminals(buf: &mut [u8], at: usize, net: Network) -> usize
     requires { ⌜ (at ≤ 50 + 50 * maxEdges) × (net .terminals ≤ maxTerminals) ⌝ }
     ensures { λ r. ⌜ r ≡ at + length (linesText 87 (terminalRow net) 0 (net .terminals)) ⌝ }
-    ensures { λ r. ⌜ now (buf .exit) ≡ sets (now (buf .entry)) at (linesText 87 (terminalRow net) 0 (net .terminals)) ⌝ }
+    ensures { λ r. ⌜ now (buf .exit) ≡
+        sets (now (buf .entry)) at (linesText 87 (terminalRow net) 0 (net .terminals)) ⌝ }
 {
     let terminals = net.terminals as usize;
     let mut to = at;
@@ -86,7 +88,7 @@ fn put_terminals(buf: &mut [u8], at: usize, net: Network) -> usize
 }
 
 // Writes the text of a network from the start of the buffer on, and answers its length.
-pub fn put_text(buf: &mut [u8], net: Network) -> usize
+fn put_text(buf: &mut [u8], net: Network) -> usize
     requires { ⌜ (net .edges ≤ maxEdges) × (net .terminals ≤ maxTerminals) ⌝ }
     ensures { λ r. ⌜ r ≡ length (textOf net) ⌝ }
     ensures { λ r. ⌜ now (buf .exit) ≡ sets (now (buf .entry)) 0 (textOf net) ⌝ }

@@ -1,1 +1,2 @@
-// What every board reached by play keeps. There is no code here: the definitions are in specs/, their theorems in proofs/.
+// What every board reached by play keeps. There is no code here: the definitions are in specs/, their theorems in
+// proofs/.
