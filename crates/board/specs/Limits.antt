@@ -1,4 +1,5 @@
--- The limits of document 01, in one place. Nothing else names these numbers.
+-- The limits of document 01. The code has them as associated constants of `Board`; widths of sets and of steps, and sizes
+-- that follow from the limits, are written out at other places, too, which docs/DECISIONS.md lists.
 use Prim.Native.Nat.{ℕ, _*_}
 
 -- pools, channels and mills at most

@@ -102,8 +102,8 @@ fn all_even<'a>(xs: &'a [u64], ys: &'a [u64], source: u32, n: u32) -> bool
     true
 }
 
-// Whether each vertex but the source balances: the sums of all vertices at once, where there are as many vertices as a
-// board can have.
+// Whether each vertex but the source balances: the sums of all vertices at once, where there are no more of them than a
+// board can have; else vertex by vertex.
 fn all_balanced(net: Network) -> bool
     ensures { λ r. ⌜ r ≡ all (balanced net) 0 (net .vertices) ⌝ }
 {

@@ -1,6 +1,4 @@
 -- The edges passed have their new flows; lowering those left by x from there ends in the flows of the definition.
-use native.Mathlib.Omega.{arith}
--- Lowering the edges left gives the flows with every edge lowered.
 use mathlib.Core.Path.{_≡_, refl, sym, _∙_}
 use Prim.Native.Nat.{_-_}
 use lib.ListN.{length, drop}

@@ -1,6 +1,4 @@
 -- While no edge passed leaves v, the edges passed and the count over those left make the count over the whole walk.
-use native.Mathlib.Omega.{arith}
--- `i` edges have been passed, and what is left to pass is the rest of the search.
 use mathlib.Core.Path.{_≡_, sym, _∙_}
 use Prim.Native.Nat.{_+_, _-_, _≤_}
 use native.Mathlib.Nat.{zero-add}

@@ -1,6 +1,4 @@
 -- The least flow starts as that of the first edge, and the rest of the search from it finds what the whole does.
-use native.Mathlib.Omega.{arith}
--- The smallest of the edges passed, taken on over the edges left, is the smallest of all.
 use mathlib.Core.Path.{_≡_, sym, _∙_}
 use Prim.Native.Nat.{_-_, _≤_}
 use lib.ListN.{length, getD, drop}

@@ -5,19 +5,15 @@ use borrow.Author.Needs.{needs}
 use Rattle.move_guard.proofs.move_intact.Statement.{statement}
 use Rattle.move_guard.proofs.move_intact.Tie as tie
 
--- src/lib.rt:86:27
 enum-told : tie.Need-enum-told
 enum-told c = search needs
 
--- src/lib.rt:87:20
 enum-known-step : tie.Need-enum-known-step
 enum-known-step c = search needs
 
--- src/lib.rt:82:1
 returns : tie.Need-returns
 returns c = search needs
 
--- src/lib.rt:82:1
 returns-2 : tie.Need-returns-2
 returns-2 c = sym (ap moveIntact (c .before .before .step .given .1))
 
