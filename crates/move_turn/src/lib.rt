@@ -313,7 +313,7 @@ pub fn change_by<'a>(
 }
 
 // The same, with the sets made here.
-pub fn change(
+fn change(
     in_play: bool,
     any_open: bool,
     net: Network,

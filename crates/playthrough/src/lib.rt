@@ -15,7 +15,7 @@ pub struct Outcome {
     pub finish: Finished,
 }
 
-// Loads a text, makes the calls (crates/calls: three numbers a call, and the steps of the turns), and finishes the
+// Loads a text, makes the calls (crates/move_list: three numbers a call, and the steps of the turns), and finishes the
 // board. The answers and the moves of the hints go into the buffers.
 pub fn play_through(
     text: &[u8],
