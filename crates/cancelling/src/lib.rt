@@ -1,4 +1,5 @@
-// Cycle cancelling, over plain slices: edge e goes from tails[e] to heads[e], and a set of vertices has a bool for each, a bitset a bit.
+// Cycle cancelling, over plain slices: edge e goes from tails[e] to heads[e], and a set of vertices has a bool for
+// each, a bitset a bit.
 ghost use mathlib.Core.Path.{_≡_};
 ghost use Prim.Native.Nat.{_≤_, _<_};
 ghost use lib.ListN.{length};
@@ -9,8 +10,8 @@ ghost use Rattle.cycles.specs.Cycles.{cycleFrom};
 ghost use Rattle.lowering.specs.Lowering.{lowerCycle};
 ghost use Rattle.cancelling.specs.Cancelling.{acyclicFlows};
 
-// Cancels the cycle that the walk from v finds: the bitsets have the vertices that each vertex reaches. The set, the walk and then the bitsets are for
-// its use.
+// Cancels the cycle that the walk from v finds: the bitsets have the vertices that each vertex reaches. The set, the
+// walk and then the bitsets are for its use.
 fn cancel_from<'a>(
     tails: &'a [u32],
     heads: &'a [u32],

@@ -54,8 +54,8 @@ fn next_text(space: &mut [u8]) -> bool {
     answer(&space[..n])
 }
 
-// A proved loop has to end, and nothing says that the input does. So the loop counts its rounds down, from a number that no run
-// uses up.
+// A proved loop has to end, and nothing says that the input does. So the loop counts its rounds down, from a number
+// that no run uses up.
 fn all_texts(space: &mut [u8]) {
     let mut rounds = u64::MAX;
     while rounds > 0 && next_text(space) {

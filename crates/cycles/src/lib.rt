@@ -1,4 +1,5 @@
-// Cycles of positive edges, over plain slices: edge e goes from tails[e] to heads[e], and a set of vertices has a bool for each, a bitset a bit.
+// Cycles of positive edges, over plain slices: edge e goes from tails[e] to heads[e], and a set of vertices has a bool
+// for each, a bitset a bit.
 ghost use mathlib.Core.Path.{_≡_};
 ghost use mathlib.Core.Bool.{true};
 ghost use mathlib.Core.List.{[]};
@@ -42,7 +43,8 @@ fn on_cycles<'a>(tails: &'a [u32], heads: &'a [u32], flows: &'a [u32], bitsets: 
     m
 }
 
-// The lowest vertex on a cycle of positive edges, or the count of vertices. The bitsets are left as the vertices that each vertex reaches.
+// The lowest vertex on a cycle of positive edges, or the count of vertices. The bitsets are left as the vertices that
+// each vertex reaches.
 pub fn cycle_vertex<'a>(
     tails: &'a [u32],
     heads: &'a [u32],
@@ -75,8 +77,8 @@ fn since<'a>(tails: &'a [u32], v: u32, walk: &'a [usize]) -> usize
     i
 }
 
-// Walks from `start` until a vertex comes a second time, filling `walk` from its end; answers the part since that vertex was left. The bitsets are for
-// its use.
+// Walks from `start` until a vertex comes a second time, filling `walk` from its end; answers the part since that
+// vertex was left. The bitsets are for its use.
 pub fn follow<'a>(
     tails: &'a [u32],
     heads: &'a [u32],

@@ -1,4 +1,5 @@
-// Reachability over positive edges, over plain slices: edge e leads from from[e] to to[e]. A set of vertices has a bool for each; a bitset has a bit.
+// Reachability over positive edges, over plain slices: edge e leads from from[e] to to[e]. A set of vertices has a bool
+// for each; a bitset has a bit.
 ghost use mathlib.Core.Path.{_≡_};
 ghost use mathlib.Core.Bool.{true, false};
 ghost use Prim.Native.Nat.{ℕ, _<_, _≤_};
@@ -38,7 +39,8 @@ fn join(bitsets: &mut [u64], start: usize, end: usize) -> bool
     new != old
 }
 
-// Where edge e is positive, the bitset of its end takes in the bitset of its start. Answers whether the bitsets changed.
+// Where edge e is positive, the bitset of its end takes in the bitset of its start. Answers whether the bitsets
+// changed.
 fn cross<'a>(
     from: &'a [u32],
     to: &'a [u32],

@@ -16,8 +16,8 @@ fn next_piece(session: Session) -> Served {
     serving::serve(session, &space[..got])
 }
 
-// A proved loop has to end, and nothing says that the input does. So the loop counts its rounds down, from a number that no run
-// uses up.
+// A proved loop has to end, and nothing says that the input does. So the loop counts its rounds down, from a number
+// that no run uses up.
 fn all_pieces(session: Session) -> Session {
     let mut current = session;
     let mut rounds = u64::MAX;

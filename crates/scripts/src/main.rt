@@ -166,8 +166,8 @@ fn next_script() -> bool {
     io::write_all(STDOUT_FILENO, b"-\n")
 }
 
-// A proved loop has to end, and nothing says that the input does. So the loop counts its rounds down, from a number that no run
-// uses up.
+// A proved loop has to end, and nothing says that the input does. So the loop counts its rounds down, from a number
+// that no run uses up.
 fn main() {
     let mut rounds = u64::MAX;
     while 0 < rounds && next_script() {

@@ -193,8 +193,8 @@ fn next_trial() -> bool {
     run_trial(&text[..n], &codes[..size], &steps[..m])
 }
 
-// A proved loop has to end, and nothing says that the input does. So the loop counts its rounds down, from a number that no run
-// uses up.
+// A proved loop has to end, and nothing says that the input does. So the loop counts its rounds down, from a number
+// that no run uses up.
 fn all_trials() {
     let mut rounds = u64::MAX;
     while rounds > 0 && next_trial() {

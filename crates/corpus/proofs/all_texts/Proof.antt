@@ -1,4 +1,5 @@
--- `corpus::all_texts` is safe and ends. The measure is the number of rounds that are left; a round keeps the length of the space.
+-- `corpus::all_texts` is safe and ends. The measure is the number of rounds that are left; a round keeps the length of
+-- the space.
 use mathlib.Core.Path.{_≡_}
 use borrow.Author.Needs.{needs}
 use lib.ListN.{length}
