@@ -1,5 +1,6 @@
--- A bitset for each vertex is as many sets at once: column v, the vertices whose bitset has v, goes through the very steps of the set of the vertices that can be
--- reached from v. Where the bitset of an edge's start joins the bitset of its end, column v gains that end exactly where it has the start.
+-- A bitset for each vertex is as many sets at once: column v, the vertices whose bitset has v, goes through the very
+-- steps of the set of the vertices that can be reached from v. Where the bitset of an edge's start joins the bitset of
+-- its end, column v gains that end exactly where it has the start.
 use mathlib.Core.Path.{_≡_, refl, sym, ap, _∙_}
 use mathlib.Core.Bool.{Bool, true, false}
 use mathlib.Core.List.{List, [], _∷_}

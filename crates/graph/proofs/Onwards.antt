@@ -1,5 +1,5 @@
--- The edges that lead on, as a set for each vertex: edge e joins the bitset of the vertex that it leaves, and no other. So the bitset of v collects the edges
--- that lead on from v, and its lowest number is the lowest such edge.
+-- The edges that lead on, as a set for each vertex: edge e joins the bitset of the vertex that it leaves, and no other.
+-- So the bitset of v collects the edges that lead on from v, and its lowest number is the lowest such edge.
 use mathlib.Core.Path.{_≡_, refl, sym, ap, _∙_}
 use mathlib.Core.Bool.{Bool, true, false, true≢false}
 use mathlib.Core.List.{List}

@@ -1,5 +1,6 @@
--- The vertices on a cycle as one set. Edge e gives its tail t to the set where it is positive and t is in the bitset of its head. For a vertex v that is
--- what `leads` asks of e in column v: e leaves v, so t is v. So v is in the set where some edge leads, and that is where the lowest such edge is one.
+-- The vertices on a cycle as one set. Edge e gives its tail t to the set where it is positive and t is in the bitset of
+-- its head. For a vertex v that is what `leads` asks of e in column v: e leaves v, so t is v. So v is in the set where
+-- some edge leads, and that is where the lowest such edge is one.
 use mathlib.Core.Path.{_≡_, refl, sym, ap, _∙_}
 use mathlib.Core.Bool.{Bool, true, false, true≢false}
 use mathlib.Core.List.{List}

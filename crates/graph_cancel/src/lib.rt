@@ -1,5 +1,5 @@
 // Cycle cancelling, over plain slices: edge e goes from tails[e] to heads[e], and a set of vertices has a bool for
-// each, a row a bit.
+// each, a bitset a bit.
 ghost use mathlib.Core.Path.{_≡_};
 ghost use mathlib.Core.Bool.{true};
 ghost use mathlib.Core.List.{[]};

@@ -1,4 +1,5 @@
--- The laws that loops cite: what is left of a run, before and after one round, each in the code's own shape (`i + 1`, `drop i xs`).
+-- The laws that loops cite: what is left of a run, before and after one round, each in the code's own shape (`i + 1`,
+-- `drop i xs`).
 use mathlib.Core.Path.{_≡_, refl, sym, _∙_}
 use mathlib.Core.Bool.{Bool, true, false, false≢true}
 use mathlib.Core.Logic.{_⊎_, inl, inr, _≢_}

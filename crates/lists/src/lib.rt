@@ -8,8 +8,7 @@ ghost use Rattle.lists.specs.Lists.{indexOf, keyed, sumAt};
 
 // Both tests, as one value: it stands where `&&` would, and `or` where `||` would. Those are compiled to a branch, and
 // where its arms meet a proof knows only by which of them it came, and has that to take apart. A call keeps the proof
-// one straight line, and gives the value as the definitions have it, with `both` or `either`. Both tests are always
-// made.
+// one straight line, and gives the value as the definitions have it, by `both` or `either`. Both tests are always made.
 pub fn and(a: bool, b: bool) -> bool
     ensures { λ r. ⌜ r ≡ both a b ⌝ }
 {

@@ -1,4 +1,5 @@
--- The steps as the code reads them: a byte of 128 or more is an up-step, a lower one a down-step; and one round of each loop over the bytes.
+-- The steps as the code reads them: a byte of 128 or more is an up-step, a lower one a down-step; and one round of each
+-- loop over the bytes.
 use mathlib.Core.Path.{_≡_, refl, sym, ap, _∙_}
 use native.Mathlib.Omega.{arith}
 use mathlib.Core.Bool.{Bool, true, false, not}

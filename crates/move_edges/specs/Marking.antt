@@ -53,7 +53,8 @@ singularBy heads leaving positive vertices e = straightBy heads leaving positive
 abbrev pub isFreshBy : List ℕ → List ℕ → ℕ → ℕ → ℕ → ℕ → Bool
 isFreshBy heads leaving positive vertices marks e = both (not (hasBit marks e)) (both (hasBit positive e) (singularBy heads leaving positive vertices e))
 
--- the sets are those of the lists, and each edge leads to a vertex
+-- the sets are those of the lists: the edges that leave each vertex, and the positive edges; and each edge leads to a
+-- vertex
 pub record ChartedOut (tails heads flows leaving : List ℕ) (positive : ℕ) : Type 0 where
   pub leave : Incident tails leaving
   pub is-positive : PositiveSet flows positive

@@ -1,5 +1,5 @@
--- The laws that the functions cite: what a list of numbers holds is read and written from its front, so each round of a loop does the first of
--- what is left, and leaves the rest.
+-- The laws that the functions cite: what a list of numbers holds is read and written from its front, so each round of a
+-- loop does the first of what is left, and leaves the rest.
 use mathlib.Core.Path.{_≡_, refl, sym, _∙_}
 use mathlib.Core.Bool.{Bool, true, false, true≢false}
 use mathlib.Core.List.{List, [], _∷_}

@@ -1,4 +1,5 @@
--- One round of the loop over the bytes of a line, and its end; what a byte is that makes a number larger; and the number of a field by the code's tests.
+-- One round of the loop over the bytes of a line, and its end; what a byte is that makes a number larger; and the
+-- number of a field by the code's tests.
 use mathlib.Core.Path.{_≡_, sym, ap, _∙_}
 use mathlib.Core.Bool.{Bool, true, false}
 use mathlib.Core.List.{List}

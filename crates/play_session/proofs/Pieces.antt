@@ -211,8 +211,8 @@ runs-same (c ∷ cs) s r same = split (known (eqb c 10)) (λ p q e. runs-same cs
     split : Known (eqb c 10) → ((p q : Session) → seen p ≡ seen q → runs p cs ≡ runs q cs) → runs s (c ∷ cs) ≡ runs r (c ∷ cs)
     split (was-true e) ih =
         let told : lineTold s ≡ lineTold r = line-told s ∙ ap lineTold same ∙ sym (line-told r) in
-        let ended : seen (lineEnded s) ≡ seen (lineEnded r) = line-seen s ∙ ap (λ (q : Session). seen (lineEnded q)) same ∙ sym (line-seen r) in
-        let rest : runs (lineEnded s) cs ≡ runs (lineEnded r) cs = ih (lineEnded s) (lineEnded r) ended in
+        let line-same : seen (lineEnded s) ≡ seen (lineEnded r) = line-seen s ∙ ap (λ (q : Session). seen (lineEnded q)) same ∙ sym (line-seen r) in
+        let rest : runs (lineEnded s) cs ≡ runs (lineEnded r) cs = ih (lineEnded s) (lineEnded r) line-same in
         runs-line s c cs e ∙ ap (λ (l : List ℕ). l ++ runs (lineEnded s) cs) told ∙ ap (λ (l : List ℕ). lineTold r ++ l) rest ∙ sym (runs-line r c cs e)
     split (was-false e) ih =
         let more : seen (grown s (c ∷ [])) ≡ seen (grown r (c ∷ [])) =

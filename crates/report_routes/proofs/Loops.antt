@@ -1,4 +1,5 @@
--- The laws that the loops cite: what is left of a set and of a sum, before and after one round, in the code's own shape.
+-- The laws that the loops cite: what is left of a set and of a sum, before and after one round, in the code's own
+-- shape.
 use mathlib.Core.Path.{_≡_, refl, sym, ap, _∙_}
 use mathlib.Core.Bool.{Bool, true, false}
 use mathlib.Core.Logic.{_⊎_, inl, inr, _≢_}

@@ -1,5 +1,6 @@
--- Laws of `tabulated f i k` and of a run of stores, by walking the run. A list of f at the indices has f j at j; storing another value at j gives the list of a
--- function that differs from f at j alone. One store behind a run of stores is the run of one element more.
+-- Laws of `tabulated f i k` and of a run of stores, by walking the run. A list of f at the indices has f j at j;
+-- storing another value at j gives the list of a function that differs from f at j alone. One store behind a run of
+-- stores is the run of one element more.
 use mathlib.Core.Path.{_≡_, refl, sym, ap, _∙_}
 use mathlib.Core.Logic.{_≢_}
 use mathlib.Core.List.{List, [], _∷_, _++_}

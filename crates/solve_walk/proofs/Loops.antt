@@ -1,4 +1,5 @@
--- The loops over the bytes of a walk, in the code's shape: one round of the search for a vertex and of the copy of the last steps, and what both end with.
+-- The loops over the bytes of a walk, in the code's shape: one round of the search for a vertex and of the copy of the
+-- last steps, and what both end with.
 use mathlib.Core.Path.{_≡_, refl, sym, ap, _∙_}
 use mathlib.Core.Bool.{Bool, true, false}
 use mathlib.Core.List.{List, [], _∷_, _++_}

@@ -24,9 +24,9 @@ returns c =
     let at-write = c .before .before .write in
     let buf = c .before .before .before .before .before .before .before .before .args .buf .now in
     let board = ap (λ (l : Loaded). l .board) loading in
-    let answered = at-write .ensures .0 ∙ ap (λ (b : Board). writeText b (length buf)) board in
-    let writing = ap (λ (w : Written). w .answer) answered in
-    let used = ap (λ (w : Written). w .used) answered in
+    let call = at-write .ensures .0 ∙ ap (λ (b : Board). writeText b (length buf)) board in
+    let writing = ap (λ (w : Written). w .answer) call in
+    let used = ap (λ (w : Written). w .used) call in
     (ap (λ (l : Loaded). l .answer) loading, (writing, (used, at-write .ensures .1 ∙ ap (λ (b : Board). written b buf) board)))
 
 pub vulprow-copy-spec : {M : Type 1} → statement M

@@ -43,8 +43,8 @@ returns c =
     let calls = callsOf (args .steps .now) (args .codes .now) in
     let board = at-run .ensures .0 ∙ ap (λ (l : Loaded). played (l .board) calls) (at-load .ensures) in
     let last = at-last .ensures ∙ ap (lastBoard (args .finishes)) board in
-    let answered = at-sheet .ensures .0 ∙ ap (λ (b : Board). sheetCall b (length (args .buf .now))) last in
-    (ap (λ (w : Written). w .answer) answered, (ap (λ (w : Written). w .used) answered, at-sheet .ensures .1 ∙ ap (λ (b : Board). sheeted b (args .buf .now)) last))
+    let call = at-sheet .ensures .0 ∙ ap (λ (b : Board). sheetCall b (length (args .buf .now))) last in
+    (ap (λ (w : Written). w .answer) call, (ap (λ (w : Written). w .used) call, at-sheet .ensures .1 ∙ ap (λ (b : Board). sheeted b (args .buf .now)) last))
 
 pub vulprow-sheet-spec : {M : Type 1} → statement M
 vulprow-sheet-spec =

@@ -1,4 +1,5 @@
--- In each column, the rest of the pass over the bitsets as they are gives the whole pass over the first bitsets; bitsets that have not changed are the first.
+-- In each column, the rest of the pass over the bitsets as they are gives the whole pass over the first bitsets;
+-- bitsets that have not changed are the first.
 use mathlib.Core.Path.{_≡_, refl, sym, _∙_}
 use mathlib.Core.Bool.{false}
 use Prim.Native.Nat.{ℕ, _-_}

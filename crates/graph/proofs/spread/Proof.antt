@@ -1,4 +1,5 @@
--- In each column, the passes left over the bitsets as they are give all passes over the first bitsets; after a pass that changed nothing, none of them matters.
+-- In each column, the passes left over the bitsets as they are give all passes over the first bitsets; after a pass
+-- that changed nothing, none of them matters.
 use mathlib.Core.Path.{_≡_, refl, sym, ap, _∙_}
 use mathlib.Core.List.{List}
 use Prim.Native.Nat.{ℕ, _-_, _≤_, _<_}
