@@ -51,9 +51,9 @@ pub extern "C" fn vulprow_acyclic(text: &[u8], flows: &mut [u32; Board::MAX_EDGE
     answer
 }
 
-// Loads a text and makes calls on the board that it gave, three numbers a call (crates/move_list). Answers what the load
-// answered. `given` gets the calls' answers, `hints` the moves that hints gave; `flows`, `places`, `marks`, `moves` and
-// `journal`, five numbers a place, are those of the board after them.
+// Loads a text and makes calls on the board that it gave, three numbers a call (crates/move_list). Answers what the
+// load answered. `given` gets the calls' answers, `hints` the moves that hints gave; `flows`, `places`, `marks`,
+// `moves` and `journal`, five numbers a place, are those of the board after them.
 #[no_mangle]
 pub extern "C" fn vulprow_play(
     text: &[u8],

@@ -170,7 +170,8 @@ fn has_room(
 
 // Writes the report of a board at a place of the buffer, and answers its length, or the number that it is refused with.
 // A byte past the end of the buffer is dropped. Where the report is to be whole, a buffer that is shorter than it is
-// refused: the whole buffer is measured and not what is left of it behind the place, so that is asked for at place 0 alone.
+// refused: the whole buffer is measured and not what is left of it behind the place, so that is asked for at place 0
+// alone.
 pub fn put_sheet(buf: &mut [u8], at: usize, whole: bool, board: Board) -> Written
     requires { ⌜ at ≤ 65536 ⌝ }
     ensures { λ r. ⌜ r ≡ putCall board whole (length (now (buf .entry))) ⌝ }
