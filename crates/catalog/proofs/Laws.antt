@@ -11,7 +11,7 @@ use borrow.Author.Tests.{le-leb, lt-leb}
 use Rattle.lists.specs.Choice.{pick}
 use Rattle.text.specs.Text.{lineText, linesText}
 use Rattle.lists.proofs.Laws.{rest-part}
-use Rattle.text_writer.proofs.Writing.{Left, left-part, left-none}
+use Rattle.text_writer.proofs.Writing.{TextLeft, left-part, left-none}
 use Rattle.catalog.specs.Catalog.{boards, span, boardsFrom, tableRow, boardText, catalogText, catalogCall, catalogued}
 
 -- one turn of the walk to a board's start, which stops at the end of the list
@@ -53,7 +53,7 @@ module _ (t buf b1 b2 b3 : List ℕ) (p1 p2 p3 e n : ℕ) where
   board-written he hn q1 e1 q2 e2 q3 e3 =
       let edges = linesText 67 (tableRow 3 (drop 4 t)) 0 (getD t 1 0) in
       let terminals = linesText 87 (tableRow 2 (drop (4 + 3 * getD t 1 0) t)) 0 (getD t 2 0) in
-      let l0 : Left buf (sets buf 0 (boardText t)) 0 (length (boardText t)) (boardText t) = record { size = zero-add _; gives = refl } in
+      let l0 : TextLeft buf (sets buf 0 (boardText t)) 0 (length (boardText t)) (boardText t) = record { size = zero-add _; gives = refl } in
       let l1 = left-part (lineText 66 (take 4 t)) (edges ++ terminals) b1 p1 l0 e1 q1 in
       let l2 = left-part edges terminals b2 p2 l1 (rw (rest-part t 4, he) at e2) (rw (rest-part t 4, he) at q2) in
       let rest = rest-part t (4 + 3 * e) in

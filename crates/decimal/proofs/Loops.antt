@@ -72,21 +72,21 @@ sets-last (y ∷ ys) l i x =
     rw (e, set-comm l (suc i + length ys) i x y (λ q. omega arith)) (sets-last ys (set l i y) (suc i) x)
 
 -- a writer that has left digits to write, which are those of rest
-pub record Left (buf total : List ℕ) (at left rest : ℕ) : Type 0 where
+pub record DigitsLeft (buf total : List ℕ) (at left rest : ℕ) : Type 0 where
   pub many : length (decimalFrom left rest) ≡ left
   pub run : sets buf at (decimalFrom left rest) ≡ total
 
-pub write-begin : (buf : List ℕ) (at count n : ℕ) → count ≡ length (decimal n) → Left buf (sets buf at (decimal n)) at count n
+pub write-begin : (buf : List ℕ) (at count n : ℕ) → count ≡ length (decimal n) → DigitsLeft buf (sets buf at (decimal n)) at count n
 write-begin buf at count n q =
     let e : decimalFrom count n ≡ decimal n = decimal-fuel count n (omega arith) in
     record { many = ap length e ∙ sym q; run = rw e }
 
-pub write-end : (buf total : List ℕ) (at left rest : ℕ) → Left buf total at left rest → left ≤ 0 → buf ≡ total
+pub write-end : (buf total : List ℕ) (at left rest : ℕ) → DigitsLeft buf total at left rest → left ≤ 0 → buf ≡ total
 unfolding decimalFrom
 write-end buf total at left rest inv h = let z : left ≡ 0 = omega arith in rw z at (inv .run)
 
-pub write-turn : (buf next total : List ℕ) (at left rest x : ℕ) → Left buf total at left rest → 0 < left
-    → next ≡ set buf (at + (left - 1)) x → x ≡ 48 + rest % 10 → Left next total at (left - 1) (rest / 10)
+pub write-turn : (buf next total : List ℕ) (at left rest x : ℕ) → DigitsLeft buf total at left rest → 0 < left
+    → next ≡ set buf (at + (left - 1)) x → x ≡ 48 + rest % 10 → DigitsLeft next total at (left - 1) (rest / 10)
 write-turn buf next total at zero rest x inv h q d = absurd (omega arith)
 write-turn buf next total at (suc k) rest x inv h q d =
     let p : suc k - 1 ≡ k = omega arith in

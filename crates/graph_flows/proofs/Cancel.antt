@@ -20,7 +20,7 @@ use Rattle.graph_cancel.specs.Cycles.{onCycle, cycleVertex, cycleFrom}
 use Rattle.graph_cancel.specs.Lowering.{smallest, lowered, lowerCycle}
 use Rattle.graph_cancel.specs.Cancelling.{cancelled, acyclicFlows}
 use Rattle.graph_flows.specs.Trails.{down, edgesOf, changedAlong, Fits, downs}
-use Rattle.graph_flows.specs.Paths.{Acyclic, Within}
+use Rattle.graph_flows.specs.Paths.{Acyclic, EndsBelow}
 use Rattle.graph_flows.proofs.Change.{changed-length, closed-trail, In, changed-at}
 use Rattle.graph_flows.proofs.Positives.{positives, positives-some, positives-most, positives-fewer}
 use Rattle.graph_flows.proofs.Walk.{Cycle, cycle-found, first-on-cycle, on-cycle-first}
@@ -186,11 +186,11 @@ module _ (tails heads flows : List ℕ) where
         positives-fewer (lowerCycle flows es) flows d lower-long (λ g h. omega (arith, h, lower-below g)) (rw is-changed zero-now) (c .positive d (a .among))
 
 -- the rounds
-within-same : {tails heads flows now : List ℕ} {n : ℕ} → length now ≡ length flows → Within tails heads flows n → Within tails heads now n
+within-same : {tails heads flows now : List ℕ} {n : ℕ} → length now ≡ length flows → EndsBelow tails heads flows n → EndsBelow tails heads now n
 within-same l w = record { start = λ e h. w .start e (omega arith); end = λ e h. w .end e (omega arith) }
 
 module _ (tails heads : List ℕ) (n : ℕ) where
-  module _ (flows : List ℕ) (w : Within tails heads flows n) where
+  module _ (flows : List ℕ) (w : EndsBelow tails heads flows n) where
     round-cycle : cycleVertex tails heads n flows < n → Cycle tails heads flows (cycleFrom tails heads n flows (cycleVertex tails heads n flows))
     unfolding cycleVertex
     round-cycle h = cycle-found tails heads flows n (cycleVertex tails heads n flows) w h (lowest-least (onCycle tails heads n flows) 0 n .hit (omega arith))
@@ -205,14 +205,14 @@ module _ (tails heads : List ℕ) (n : ℕ) where
   abbrev next : List ℕ → List ℕ
   next flows = lowerCycle flows (cycleFrom tails heads n flows (cycleVertex tails heads n flows))
 
-  cancelled-less : (k : ℕ) (flows : List ℕ) → Within tails heads flows n → length tails ≡ length flows → length heads ≡ length flows
+  cancelled-less : (k : ℕ) (flows : List ℕ) → EndsBelow tails heads flows n → length tails ≡ length flows → length heads ≡ length flows
       → Less tails heads flows (cancelled tails heads n k flows)
   unfolding cancelled
   cancelled-less zero flows w lt lh = less-refl tails heads flows
   cancelled-less (suc k) flows w lt lh = at (known (ltb (cycleVertex tails heads n flows) n)) (λ v s t. cancelled-less k (next flows) v s t)
     where
       at : Known (ltb (cycleVertex tails heads n flows) n)
-          → (Within tails heads (next flows) n → length tails ≡ length (next flows) → length heads ≡ length (next flows)
+          → (EndsBelow tails heads (next flows) n → length tails ≡ length (next flows) → length heads ≡ length (next flows)
           → Less tails heads (next flows) (cancelled tails heads n k (next flows)))
           → Less tails heads flows (cancelled tails heads n (suc k) flows)
       at (was-true t) ih =
@@ -221,13 +221,13 @@ module _ (tails heads : List ℕ) (n : ℕ) where
           rw (t, cancelled) (less-trans less (ih (within-same (less .long) w) (lt ∙ sym (less .long)) (lh ∙ sym (less .long))))
       at (was-false t) ih = rw (t, cancelled) (less-refl tails heads flows)
 
-  cancelled-acyclic : (k : ℕ) (flows : List ℕ) → Within tails heads flows n → positives flows ≤ k → Acyclic tails heads (cancelled tails heads n k flows)
+  cancelled-acyclic : (k : ℕ) (flows : List ℕ) → EndsBelow tails heads flows n → positives flows ≤ k → Acyclic tails heads (cancelled tails heads n k flows)
   unfolding cancelled
   cancelled-acyclic zero flows w h = λ a b p q. omega (arith, positives-some flows (p .edge) (p .above))
   cancelled-acyclic (suc k) flows w h = at (known (ltb (cycleVertex tails heads n flows) n)) (λ v s. cancelled-acyclic k (next flows) v s)
     where
       at : Known (ltb (cycleVertex tails heads n flows) n)
-          → (Within tails heads (next flows) n → positives (next flows) ≤ k → Acyclic tails heads (cancelled tails heads n k (next flows)))
+          → (EndsBelow tails heads (next flows) n → positives (next flows) ≤ k → Acyclic tails heads (cancelled tails heads n k (next flows)))
           → Acyclic tails heads (cancelled tails heads n (suc k) flows)
       at (was-true t) ih =
           let es = cycleFrom tails heads n flows (cycleVertex tails heads n flows) in
@@ -236,7 +236,7 @@ module _ (tails heads : List ℕ) (n : ℕ) where
           rw (t, cancelled) (ih (within-same (lower-long tails heads flows es c) w) (omega arith))
       at (was-false t) ih = rw (t, cancelled) (no-cycle flows w (ltb-false (cycleVertex tails heads n flows) n t))
 
-module _ (tails heads flows : List ℕ) (n : ℕ) (w : Within tails heads flows n) (lt : length tails ≡ length flows) (lh : length heads ≡ length flows) where
+module _ (tails heads flows : List ℕ) (n : ℕ) (w : EndsBelow tails heads flows n) (lt : length tails ≡ length flows) (lh : length heads ≡ length flows) where
   acyclic-less : Less tails heads flows (acyclicFlows tails heads n flows)
   unfolding acyclicFlows
   acyclic-less = cancelled-less tails heads n (length flows) flows w lt lh

@@ -15,7 +15,7 @@ use Rattle.lists.specs.Choice.{pick}
 use Rattle.lists.specs.Lists.{total, keyed, sumAt}
 use Rattle.lists.proofs.Totals.{total-same, total-none, total-add, total-one}
 use Rattle.lists.proofs.Laws.{Known, was-true, was-false, known, lt-or-ge, above-inside, pick-yes, pick-no}
-use Rattle.graph_flows.specs.Paths.{PositiveEdge, Within}
+use Rattle.graph_flows.specs.Paths.{PositiveEdge, EndsBelow}
 use Rattle.graph_flows.proofs.Sums.{keyed-cases}
 
 -- the sum of the values whose key has p
@@ -123,7 +123,7 @@ sum-most p (k ∷ ks) (x ∷ xs) c b = go (known (p k)) (sum-most p ks xs c (λ 
     go (was-false t) ih = rw (suc-mul (length xs) c) (omega (arith, pick-no {A = ℕ} (p k) x 0 t, ih))
 
 module _ (tails heads flows places demands : List ℕ) (n source : ℕ) (rank : ℕ → ℕ) (long-tails : length tails ≡ length flows) (long-heads : length heads ≡ length flows)
-    (within : Within tails heads flows n) (placed : (i : ℕ) → i < length demands → getD places i 0 < n)
+    (within : EndsBelow tails heads flows n) (placed : (i : ℕ) → i < length demands → getD places i 0 < n)
     (bottom : rank source ≡ 0) (rises : (a b : ℕ) → PositiveEdge tails heads flows a b → rank a < rank b)
     (balance : (v : ℕ) → v < n → (v ≡ source → ⊥) → sumAt heads flows v ≡ sumAt tails flows v + sumAt places demands v) where
   -- the vertices of rank r or more

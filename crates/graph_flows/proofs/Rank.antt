@@ -13,7 +13,7 @@ use Rattle.lists.specs.Choice.{both}
 use Rattle.lists.proofs.Laws.{Known, was-true, was-false, known, both-left, both-right, both-true}
 use Rattle.lists.proofs.Counts.{count-none, count-less, count-miss}
 use Rattle.graph.specs.Graph.{reached}
-use Rattle.graph_flows.specs.Paths.{PositiveEdge, Path, here, on, Acyclic, Within, rank}
+use Rattle.graph_flows.specs.Paths.{PositiveEdge, Path, here, on, Acyclic, EndsBelow, rank}
 use Rattle.graph_flows.proofs.Reach.{reaching-sound, reaching-complete}
 
 module _ (tails heads flows : List ℕ) (n : ℕ) where
@@ -27,7 +27,7 @@ module _ (tails heads flows : List ℕ) (n : ℕ) where
   counted-path : (v u : ℕ) → counted v u ≡ true → Path tails heads flows u v
   counted-path v u t = reaching-sound tails heads flows n v u (both-right (not (eqb u v)) (getD (reached heads tails flows n v) u false) t)
 
-  counted-true : (v u : ℕ) → Within tails heads flows n → v < n → u ≢ v → Path tails heads flows u v → counted v u ≡ true
+  counted-true : (v u : ℕ) → EndsBelow tails heads flows n → v < n → u ≢ v → Path tails heads flows u v → counted v u ≡ true
   counted-true v u w h d p =
       both-true (not (eqb u v)) (getD (reached heads tails flows n v) u false) (ap not (ne-eqb u v d))
       (reaching-complete tails heads flows n v u w h p)
@@ -36,7 +36,7 @@ module _ (tails heads flows : List ℕ) (n : ℕ) where
   unfolding both
   counted-self v = rw (eq-eqb v v refl)
 
-  pub rank-rises : (a b : ℕ) → Within tails heads flows n → Acyclic tails heads flows → PositiveEdge tails heads flows a b
+  pub rank-rises : (a b : ℕ) → EndsBelow tails heads flows n → Acyclic tails heads flows → PositiveEdge tails heads flows a b
       → rank tails heads flows n a < rank tails heads flows n b
   unfolding rank
   rank-rises a b w acyclic d =

@@ -14,7 +14,7 @@ use Rattle.lists.specs.Choice.{pick, both}
 use Rattle.lists.proofs.Laws.{Known, was-true, was-false, known, eq-or-ne, pick-yes, pick-no, both-left, both-right, both-true}
 use Rattle.graph.specs.Graph.{opens, pass, passes, reached}
 use Rattle.graph.proofs.Loops.{passes-still}
-use Rattle.graph_flows.specs.Paths.{PositiveEdge, Path, here, on, Within}
+use Rattle.graph_flows.specs.Paths.{PositiveEdge, Path, here, on, EndsBelow}
 
 -- ---- paths
 
@@ -34,7 +34,7 @@ pub backward : {from to flows : List ℕ} {a b : ℕ} → Path from to flows a b
 backward here = here
 backward (on p d) = path-first (turned d) (backward p)
 
-pub turned-within : {from to flows : List ℕ} {n : ℕ} → Within from to flows n → Within to from flows n
+pub turned-within : {from to flows : List ℕ} {n : ℕ} → EndsBelow from to flows n → EndsBelow to from flows n
 turned-within w = record { start = w .end; end = w .start }
 
 -- ---- how many members a set has; a set grows, or is the same
@@ -228,7 +228,7 @@ module _ (from to flows : List ℕ) where
       passes-only (λ u. Path from to flows v u) (λ a b d p. on p d) n (set (replicate n false) v true) (λ u q. rw (start-alone n v u q) here)
 
   -- so n passes from one vertex of n close the set
-  reached-closed : (n v a b : ℕ) → Within from to flows n → v < n → PositiveEdge from to flows a b
+  reached-closed : (n v a b : ℕ) → EndsBelow from to flows n → v < n → PositiveEdge from to flows a b
       → getD (reached from to flows n v) a false ≡ true → getD (reached from to flows n v) b false ≡ true
   unfolding reached
   reached-closed n v a b w h d m = go (stages n s)
@@ -251,7 +251,7 @@ module _ (from to flows : List ℕ) where
           let l : getD to (d .edge) 0 < length r = omega (arith, long, w .end (d .edge) (d .inside)) in
           rw (← d .end) (stable-shut 0 (length flows) (d .edge) r e (omega arith) (omega arith) (d .above) l (rw (← d .start) at m))
 
-  pub reached-complete : (n v u : ℕ) → Within from to flows n → v < n → Path from to flows v u → getD (reached from to flows n v) u false ≡ true
+  pub reached-complete : (n v u : ℕ) → EndsBelow from to flows n → v < n → Path from to flows v u → getD (reached from to flows n v) u false ≡ true
   unfolding reached
   reached-complete n v u w h here =
       passes-grown n s .still-in v (getD-set-same (replicate n false) v true false (omega (arith, length-replicate n false)))
@@ -265,6 +265,6 @@ module _ (from to flows : List ℕ) where
 pub reaching-sound : (tails heads flows : List ℕ) (n v u : ℕ) → getD (reached heads tails flows n v) u false ≡ true → Path tails heads flows u v
 reaching-sound tails heads flows n v u m = backward (reached-sound heads tails flows n v u m)
 
-pub reaching-complete : (tails heads flows : List ℕ) (n v u : ℕ) → Within tails heads flows n → v < n → Path tails heads flows u v
+pub reaching-complete : (tails heads flows : List ℕ) (n v u : ℕ) → EndsBelow tails heads flows n → v < n → Path tails heads flows u v
     → getD (reached heads tails flows n v) u false ≡ true
 reaching-complete tails heads flows n v u w h p = reached-complete heads tails flows n v u (turned-within w) h (backward p)

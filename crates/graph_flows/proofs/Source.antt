@@ -11,13 +11,13 @@ use lib.ListN.{length, getD}
 use Rattle.lists.specs.Lists.{sumAt}
 use Rattle.lists.proofs.Laws.{eq-or-ne}
 use Rattle.graph.specs.Graph.{reached}
-use Rattle.graph_flows.specs.Paths.{PositiveEdge, Path, here, on, Acyclic, Within, rank}
-use Rattle.graph_flows.proofs.Sums.{Entry, sum-entry, entry-within}
+use Rattle.graph_flows.specs.Paths.{PositiveEdge, Path, here, on, Acyclic, EndsBelow, rank}
+use Rattle.graph_flows.proofs.Sums.{KeyedEntry, sum-entry, entry-within}
 use Rattle.graph_flows.proofs.Reach.{reached-complete}
 use Rattle.graph_flows.proofs.Rank.{rank-rises, rank-none}
 
 -- a vertex with inflow has a positive edge into it, and the tail of a positive edge has outflow
-pub edge-into : (tails heads flows : List ℕ) (v : ℕ) (i : Entry heads flows v) → PositiveEdge tails heads flows (getD tails (i .e) 0) v
+pub edge-into : (tails heads flows : List ℕ) (v : ℕ) (i : KeyedEntry heads flows v) → PositiveEdge tails heads flows (getD tails (i .e) 0) v
 edge-into tails heads flows v i = record { edge = i .e; inside = i .in-values; start = refl; end = i .key; above = i .above }
 
 pub tail-outflow : (tails heads flows : List ℕ) (a b : ℕ) → length tails ≡ length flows → PositiveEdge tails heads flows a b → 0 < sumAt tails flows a
@@ -25,7 +25,7 @@ tail-outflow tails heads flows a b long d =
     omega (arith, d .above, d .inside, entry-within tails flows a (d .edge) (omega (arith, d .inside)) (d .inside) (d .start))
 
 module _ (tails heads flows : List ℕ) (n source : ℕ) (need : ℕ → ℕ)
-    (long : length tails ≡ length flows) (within : Within tails heads flows n) (acyclic : Acyclic tails heads flows)
+    (long : length tails ≡ length flows) (within : EndsBelow tails heads flows n) (acyclic : Acyclic tails heads flows)
     (balance : (v : ℕ) → v < n → (v ≡ source → ⊥) → sumAt heads flows v ≡ sumAt tails flows v + need v) where
   tail-below : (a b : ℕ) → PositiveEdge tails heads flows a b → a < n
   tail-below a b d = rw (d .start) at (within .start (d .edge) (d .inside))
@@ -35,7 +35,7 @@ module _ (tails heads flows : List ℕ) (n source : ℕ) (need : ℕ → ℕ)
   fed-by zero v r h g = absurd (omega arith)
   fed-by (suc k) v r h g = go (eq-or-ne u source) (λ q l f. fed-by k u q l f)
     where
-      i : Entry heads flows v
+      i : KeyedEntry heads flows v
       i = sum-entry heads flows v g
 
       u : ℕ

@@ -47,28 +47,28 @@ keyed-cases k v x = go (known (eqb k v))
     go (was-false e) = inr (eqb-false k v e, rw (e, keyed))
 
 -- a sum above 0 has an entry above 0
-pub record Entry (ks xs : List ℕ) (v : ℕ) : Type 0 where
+pub record KeyedEntry (ks xs : List ℕ) (v : ℕ) : Type 0 where
   pub e : ℕ
   pub in-keys : e < length ks
   pub in-values : e < length xs
   pub key : getD ks e 0 ≡ v
   pub above : 0 < getD xs e 0
 
-entry-later : {ks xs : List ℕ} {v : ℕ} (k x : ℕ) → Entry ks xs v → Entry (k ∷ ks) (x ∷ xs) v
+entry-later : {ks xs : List ℕ} {v : ℕ} (k x : ℕ) → KeyedEntry ks xs v → KeyedEntry (k ∷ ks) (x ∷ xs) v
 entry-later k x w = record { e = suc (w .e); in-keys = omega arith; in-values = omega arith; key = w .key; above = w .above }
 
-pub sum-entry : (ks xs : List ℕ) (v : ℕ) → 0 < sumAt ks xs v → Entry ks xs v
+pub sum-entry : (ks xs : List ℕ) (v : ℕ) → 0 < sumAt ks xs v → KeyedEntry ks xs v
 unfolding sumAt
 sum-entry [] xs v h = absurd (not-suc-le-zero h)
 sum-entry (k ∷ ks) [] v h = absurd (not-suc-le-zero h)
 sum-entry (k ∷ ks) (zero ∷ xs) v h = go (keyed-cases k v 0) (λ g. sum-entry ks xs v g)
   where
-    go : ((k ≡ v) × (keyed k v 0 ≡ 0)) ⊎ ((k ≢ v) × (keyed k v 0 ≡ 0)) → (0 < sumAt ks xs v → Entry ks xs v) → Entry (k ∷ ks) (0 ∷ xs) v
+    go : ((k ≡ v) × (keyed k v 0 ≡ 0)) ⊎ ((k ≢ v) × (keyed k v 0 ≡ 0)) → (0 < sumAt ks xs v → KeyedEntry ks xs v) → KeyedEntry (k ∷ ks) (0 ∷ xs) v
     go (inl (p, q)) ih = entry-later k 0 (ih (omega arith))
     go (inr (p, q)) ih = entry-later k 0 (ih (omega arith))
 sum-entry (k ∷ ks) (suc x ∷ xs) v h = go (keyed-cases k v (suc x)) (λ g. sum-entry ks xs v g)
   where
-    go : ((k ≡ v) × (keyed k v (suc x) ≡ suc x)) ⊎ ((k ≢ v) × (keyed k v (suc x) ≡ 0)) → (0 < sumAt ks xs v → Entry ks xs v) → Entry (k ∷ ks) (suc x ∷ xs) v
+    go : ((k ≡ v) × (keyed k v (suc x) ≡ suc x)) ⊎ ((k ≢ v) × (keyed k v (suc x) ≡ 0)) → (0 < sumAt ks xs v → KeyedEntry ks xs v) → KeyedEntry (k ∷ ks) (suc x ∷ xs) v
     go (inl (p, q)) ih = record { e = 0; in-keys = omega arith; in-values = omega arith; key = p; above = omega arith }
     go (inr (p, q)) ih = entry-later k (suc x) (ih (omega arith))
 

@@ -18,7 +18,7 @@ use Rattle.lists.proofs.Pigeon.{has-nothing, has-here, has-later, has-cases, bo
 use Rattle.graph.specs.Graph.{reached, leads, onward}
 use Rattle.graph_cancel.specs.Cycles.{since, onCycle, follow, cycleFrom}
 use Rattle.graph_flows.specs.Trails.{down, downs, Trail, stay, go}
-use Rattle.graph_flows.specs.Paths.{Path, here, on, First, Within}
+use Rattle.graph_flows.specs.Paths.{Path, here, on, First, EndsBelow}
 use Rattle.graph_flows.proofs.Reach.{reaching-sound, reaching-complete}
 
 -- a cycle of distinct positive edges, the latest first: a trail walked back, so tails and heads change places
@@ -137,7 +137,7 @@ module _ (tails heads flows : List ℕ) (n v : ℕ) where
         rest = reaching-sound tails heads flows n v (getD heads e 0) (l .into);
       }
 
-  first-lead : {u : ℕ} → Within tails heads flows n → v < n → First tails heads flows u v
+  first-lead : {u : ℕ} → EndsBelow tails heads flows n → v < n → First tails heads flows u v
       → onward tails heads flows (reached heads tails flows n v) u < length flows
   first-lead {u} w b f =
       let p = f .edge in
@@ -145,12 +145,12 @@ module _ (tails heads flows : List ℕ) (n v : ℕ) where
       rw (p .end) (reaching-complete tails heads flows n v (f .next) w b (f .rest)) in
       onward-inside tails heads flows (reached heads tails flows n v) u {e = p .edge} (record { inside = p .inside; above = p .above; start = p .start; into = into })
 
-  pub first-on-cycle : Within tails heads flows n → v < n → First tails heads flows v v → onCycle tails heads n flows v ≡ true
+  pub first-on-cycle : EndsBelow tails heads flows n → v < n → First tails heads flows v v → onCycle tails heads n flows v ≡ true
   unfolding onCycle
   first-on-cycle w b f = lt-ltb (onward tails heads flows (reached heads tails flows n v) v) (length flows) (first-lead w b f)
 
 -- the walk from r, at v after the edges es, with k edges left
-module _ (tails heads flows : List ℕ) (n r : ℕ) (inside : Within tails heads flows n) (below : r < n) (cyclic : onCycle tails heads n flows r ≡ true) where
+module _ (tails heads flows : List ℕ) (n r : ℕ) (inside : EndsBelow tails heads flows n) (below : r < n) (cyclic : onCycle tails heads n flows r ≡ true) where
   abbrev back : List Bool
   back = reached heads tails flows n r
 
@@ -260,6 +260,6 @@ module _ (tails heads flows : List ℕ) (n r : ℕ) (inside : Within tails heads
   unfolding cycleFrom
   walked = follow-cycle n [] r start
 
-pub cycle-found : (tails heads flows : List ℕ) (n v : ℕ) → Within tails heads flows n → v < n → onCycle tails heads n flows v ≡ true
+pub cycle-found : (tails heads flows : List ℕ) (n v : ℕ) → EndsBelow tails heads flows n → v < n → onCycle tails heads n flows v ≡ true
     → Cycle tails heads flows (cycleFrom tails heads n flows v)
 cycle-found tails heads flows n v w b c = walked tails heads flows n v w b c

@@ -42,7 +42,7 @@ module _ (from to flows : List ℕ) where
   Unparted v = (u : ℕ) → Path v u → OneLeaves u
 
   -- every edge joins vertices below n
-  pub record Within (n : ℕ) : Type 0 where
+  pub record EndsBelow (n : ℕ) : Type 0 where
     pub start : (e : ℕ) → e < length flows → getD from e 0 < n
     pub end : (e : ℕ) → e < length flows → getD to e 0 < n
 

@@ -97,8 +97,8 @@ pub lowest-in : (m e : ℕ) → e ≡ lowest (hasBit m) 0 setWidth → m < 2 ^ s
 lowest-in m e is small some = rw is (lowest-has m small (omega (arith, some)))
 
 -- what is found, and what is left to look at
-abbrev pub Found : (ℕ → Bool) → ℕ → ℕ → ℕ → Type 0
-Found single m rest total = (c : ℕ) → either (hasBit m c) (both (hasBit rest c) (single c)) ≡ hasBit total c
+abbrev pub FoundOrLeft : (ℕ → Bool) → ℕ → ℕ → ℕ → Type 0
+FoundOrLeft single m rest total = (c : ℕ) → either (hasBit m c) (both (hasBit rest c) (single c)) ≡ hasBit total c
 
 module _ (single : ℕ → Bool) where
   -- one edge
@@ -126,7 +126,7 @@ module _ (single : ℕ → Bool) where
       stays : hasBit (dropped rest e) c ≡ hasBit rest c
       stays = has-dropped rest e c ∙ rw (ne-eqb c e n) (both-on (hasBit rest c))
 
-  pub found-turn : (m rest e total : ℕ) → hasBit rest e ≡ true → Found single m rest total → Found single (pick (single e) (withBit m e) m) (dropped rest e) total
+  pub found-turn : (m rest e total : ℕ) → hasBit rest e ≡ true → FoundOrLeft single m rest total → FoundOrLeft single (pick (single e) (withBit m e) m) (dropped rest e) total
   found-turn m rest e total h inv c = go (eq-or-ne c e) ∙ inv c
     where
       go : (c ≡ e) ⊎ (c ≢ e)
@@ -134,7 +134,7 @@ module _ (single : ℕ → Bool) where
       go (inl q) = rw q (same m rest e h)
       go (inr n) = other m rest e c n
 
-  pub found-end : (m rest total : ℕ) → rest ≡ 0 → Found single m rest total → m ≡ total
+  pub found-end : (m rest total : ℕ) → rest ≡ 0 → FoundOrLeft single m rest total → m ≡ total
   unfolding both
   found-end m rest total z inv = bits-ext m total (λ c. sym (either-off (hasBit m c)) ∙ sym (gone c) ∙ inv c)
     where
@@ -144,7 +144,7 @@ module _ (single : ℕ → Bool) where
   -- before the first
   module _ (positive marks : ℕ) (fits : positive < 2 ^ setWidth) where
     pub found-none : (rest marked : ℕ) → marked ≡ common positive marks → rest ≡ positive - marked
-        → Found single 0 rest (collect (λ c. both (not (hasBit marks c)) (both (hasBit positive c) (single c))) 0 0 setWidth)
+        → FoundOrLeft single 0 rest (collect (λ c. both (not (hasBit marks c)) (both (hasBit positive c) (single c))) 0 0 setWidth)
     unfolding either both
     found-none rest marked q p c =
         rw (has-none c, p, q, has-less positive marks fits c)

@@ -29,7 +29,7 @@ use Rattle.move_list.specs.Codes.{callOf, callsOf}
 use Rattle.move_list.proofs.Coded.{Onward, calls, plain-replied, played-turn, answers-turn, told-turn}
 
 -- the arrays of a board have their lengths
-pub record Sized (b : Board) : Type 0 where
+pub record BoardSized (b : Board) : Type 0 where
   pub flows : length (b .flows) ≡ maxEdges
   pub demands : length (b .network .demands) ≡ maxTerminals
   pub journal : length (b .journal) ≡ maxMoves
@@ -107,17 +107,17 @@ module _ (steps : List ℕ) (b : Board) (kind a c : ℕ) (last : Entry) (plays :
               let there : next ≡ at = e-next ∙ pick-yes _ _ _ t in
               rw (call, there) (back-stored b change at (change .entry) here (undo-blanks b plays last ep el change e) h ∙ undo-by-change b plays last ep el change e)
 
-      module _ (s : Sized b) (many : length (change .flows) ≡ maxEdges) (b' : Board) where
-        pub move-stored : b' ≡ stored b change (set (b .journal) at (change .entry)) next → (numbered change b' ≡ made b (callOf steps kind a c)) × Sized b'
+      module _ (s : BoardSized b) (many : length (change .flows) ≡ maxEdges) (b' : Board) where
+        pub move-stored : b' ≡ stored b change (set (b .journal) at (change .entry)) next → (numbered change b' ≡ made b (callOf steps kind a c)) × BoardSized b'
         move-stored e = (
           ap (numbered change) e ∙ makes,
           rw e (record { flows = many; demands = s .demands; journal = length-set (b .journal) at (change .entry) ∙ s .journal }),
         )
 
-        pub move-past : maxMoves ≤ at → b' ≡ stored b change (b .journal) next → (numbered change b' ≡ made b (callOf steps kind a c)) × Sized b'
+        pub move-past : maxMoves ≤ at → b' ≡ stored b change (b .journal) next → (numbered change b' ≡ made b (callOf steps kind a c)) × BoardSized b'
         move-past past e = move-stored (e ∙ ap (λ (journal : List Entry). stored b change journal next) (sym (set-out (b .journal) at (change .entry) (omega (arith, s .journal)))))
 
-  pub move-refused : change .answer ≢ 0 → Sized b → (b' : Board) → b' ≡ b → (numbered change b' ≡ made b (callOf steps kind a c)) × Sized b'
+  pub move-refused : change .answer ≢ 0 → BoardSized b → (b' : Board) → b' ≡ b → (numbered change b' ≡ made b (callOf steps kind a c)) × BoardSized b'
   move-refused h s b' e = rw e (go which, s)
     where
       go : Which → numbered change b ≡ made b (callOf steps kind a c)
@@ -138,7 +138,7 @@ module _ (steps codes buf₀ hints₀ : List ℕ) (b₀ : Board) where
       × (played b (calls steps codes left) ≡ played b₀ (callsOf steps codes))
       × (sets buf k (answers b (calls steps codes left)) ≡ sets buf₀ 0 (answers b₀ (callsOf steps codes)))
       × Onward hints₀ b₀ (callsOf steps codes) hints j b (calls steps codes left)
-      × Sized b
+      × BoardSized b
 
   module _ (buf hints : List ℕ) (b : Board) (left k j : ℕ) (some : 3 ≤ left) (going : Going buf hints b left k j) (given : Reply)
       (makes : Replied b (callOf steps (getD codes (length codes - left) 0) (getD codes (length codes - left + 1) 0) (getD codes (length codes - left + 2) 0)) given) where
@@ -153,7 +153,7 @@ module _ (steps codes buf₀ hints₀ : List ℕ) (b₀ : Board) where
         go (was-false t) = ap length (e ∙ pick-no _ _ _ t)
 
     pub going-turn : (buf' hints' : List ℕ) (b' : Board) (j' : ℕ) → buf' ≡ set buf k (given .answer)
-        → hints' ≡ pick (given .hinted) (sets hints j (adviceCode (given .advice))) hints → b' ≡ given .board → j' ≡ pick (given .hinted) (behind hints j) j → Sized b'
+        → hints' ≡ pick (given .hinted) (sets hints j (adviceCode (given .advice))) hints → b' ≡ given .board → j' ≡ pick (given .hinted) (behind hints j) j → BoardSized b'
         → Going buf' hints' b' (left - 3) (k + 1) j'
     going-turn buf' hints' b' j' e-buf e-hints e-b e-j s = (
       omega (arith, going .0),

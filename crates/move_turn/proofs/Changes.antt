@@ -137,15 +137,15 @@ module _ (b : Board) (s : List ℕ) (c : Change) (e : c ≡ turnMade b s) where
   turn-refused h = stores.change-refused b c h ∙ by-change
 
   -- a turn keeps the places, so the code stores none
-  pub turn-accepted : c .answer ≡ 0 → numbered c (moved b (c .flows) (c .marks) (b .places) (c .entry)) ≡ turnCall b s
-  turn-accepted h =
+  pub turn-change-made : c .answer ≡ 0 → numbered c (moved b (c .flows) (c .marks) (b .places) (c .entry)) ≡ turnCall b s
+  turn-change-made h =
       let kept : c .places ≡ b .places = ap (λ (k : Change). k .places) e ∙ change-places _ _ _ _ _ _ _ in
       ap (λ (p : List ℕ). numbered c (moved b (c .flows) (c .marks) p (c .entry))) (sym kept) ∙ stores.change-stored b c h ∙ by-change
 
   -- the board's parts as the code stores them, the journal whole
   pub turn-stored : (j : List Entry) → c .answer ≡ 0 → j ≡ set (b .journal) (b .moves) (c .entry)
       → numbered c (withParts b (c .flows) (c .marks) (b .places) j (b .moves + 1)) ≡ turnCall b s
-  turn-stored j h e = rw e (turn-accepted h)
+  turn-stored j h e = rw e (turn-change-made h)
 
   pub turn-plays : c .answer ≡ 0 → playing b ≡ true
   turn-plays h = accepted-plays _ _ _ _ (stepsOf s) (sym (ap (λ (k : Change). k .answer) e ∙ change-answer _ _ _ _ _ _ _) ∙ h)

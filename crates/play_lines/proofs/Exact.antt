@@ -19,10 +19,10 @@ use Rattle.play_lines.specs.declared.Piece.{Piece}
 use Rattle.play_lines.specs.declared.Form.{Form}
 use Rattle.play_lines.specs.declared.Scan.{Scan}
 use Rattle.play_lines.specs.Orders.{onto, fieldsOf, orderOf}
-use Rattle.play_lines.specs.Scans.{noPiece, pieceTaken, nothingRead, numbered, begun, wayTaken, withStep, formTaken, noScan, scanTaken, scanAll, scanned, isBlank, Stands}
+use Rattle.play_lines.specs.Scans.{noPiece, pieceTaken, nothingRead, numbered, begun, wayTaken, withStep, formTaken, noScan, scanTaken, scanAll, scanned, isBlank, StandsFor}
 use Rattle.play_lines.proofs.Pieces.{Reads, reads-none, reads-next}
 use Rattle.play_lines.proofs.Shapes.{Shape, begin, orderFrom, shapeTaken, shape-step}
-use Rattle.play_lines.proofs.Follows.{Follows, follows-next, follows-end}
+use Rattle.play_lines.proofs.FollowsShape.{FollowsShape, follows-next, follows-end}
 
 -- bytes in front of the first field
 abbrev into : List ℕ → List (List ℕ) → List (List ℕ)
@@ -73,8 +73,8 @@ unfolding scanTaken
 byte-scan t c e = pick-no (eqb c 44) (fieldEnded t) (joined t c) e
 
 -- from a shape and a field begun on
-rest-exact : (s : List ℕ) (t : Scan) (sh : Shape) (f : List ℕ) → Follows sh (t .form) → Reads f (t .piece)
-    → Stands (orderFrom sh (into f (fieldsOf s))) (scanned (scanAll t s))
+rest-exact : (s : List ℕ) (t : Scan) (sh : Shape) (f : List ℕ) → FollowsShape sh (t .form) → Reads f (t .piece)
+    → StandsFor (orderFrom sh (into f (fieldsOf s))) (scanned (scanAll t s))
 unfolding fieldsOf scanAll scanned
 rest-exact [] t sh f a r =
     rw (append-nil, shape-step sh f [])
@@ -82,14 +82,14 @@ rest-exact [] t sh f a r =
 rest-exact (c ∷ s) t sh f a r = split (known (eqb c 44)) (λ u z g b q. rest-exact s u z g b q)
   where
     split : Known (eqb c 44)
-        → ((u : Scan) (z : Shape) (g : List ℕ) → Follows z (u .form) → Reads g (u .piece) → Stands (orderFrom z (into g (fieldsOf s))) (scanned (scanAll u s)))
-        → Stands (orderFrom sh (into f (fieldsOf (c ∷ s)))) (scanned (scanAll (scanTaken t c) s))
+        → ((u : Scan) (z : Shape) (g : List ℕ) → FollowsShape z (u .form) → Reads g (u .piece) → StandsFor (orderFrom z (into g (fieldsOf s))) (scanned (scanAll u s)))
+        → StandsFor (orderFrom sh (into f (fieldsOf (c ∷ s)))) (scanned (scanAll (scanTaken t c) s))
     split (was-true e) ih =
         rw (comma-fields c s f e, comma-scan t c e, shape-step sh f (fieldsOf s), ← (into-none s))
         (ih (fieldEnded t) (shapeTaken sh f) [] (follows-next sh (t .form) f (t .piece) r a) reads-none)
     split (was-false e) ih = rw (byte-fields c s f e, byte-scan t c e) (ih (joined t c) sh (f ++ (c ∷ [])) a (reads-next f (t .piece) c r))
 
-pub line-exact : (s : List ℕ) → Stands (orderOf s) (scanned (scanAll noScan s))
+pub line-exact : (s : List ℕ) → StandsFor (orderOf s) (scanned (scanAll noScan s))
 unfolding orderOf
 line-exact s = rw (into-none s) at (rest-exact s noScan begin [] (refl, refl, refl, refl) reads-none)
 

@@ -15,22 +15,22 @@ use Rattle.graph_flows.specs.Trails.{Step, down, up}
 use Rattle.play_lines.specs.declared.Piece.{Piece}
 use Rattle.play_lines.specs.declared.Form.{Form}
 use Rattle.play_lines.specs.Orders.{isLetter, turnOf, carryOf, byFields}
-use Rattle.play_lines.specs.Scans.{pieceNumber, nothingRead, otherForm, hintForm, undoForm, finishForm, carryForm, carryFrom, carryWhole, turnForm, turnEdge, ofKind, withFirst, withSecond, numbered, withStep, begun, wayTaken, formTaken, Nothing, Stands}
+use Rattle.play_lines.specs.Scans.{pieceNumber, nothingRead, otherForm, hintForm, undoForm, finishForm, carryForm, carryFrom, carryWhole, turnForm, turnEdge, ofKind, withFirst, withSecond, numbered, withStep, begun, wayTaken, formTaken, Nothing, StandsFor}
 use Rattle.play_lines.proofs.Pieces.{Reads, is-number, is-letter}
 use Rattle.play_lines.proofs.Shapes.{Shape, begin, wrong, hinted, undone, finished, carry-none, carry-one, carry-both, turn-even, turn-odd, orderFrom, shapeBy, begunBy, wayBy, shapeTaken}
-use Rattle.play_lines.proofs.Grown.{Holds, grown, holds-none, keeps-steps}
+use Rattle.play_lines.proofs.Grown.{HoldsSteps, grown, holds-none, keeps-steps}
 
-abbrev pub Follows : Shape → Form → Type 0
-Follows begin f = (f .kind ≡ nothingRead) × (f .count ≡ 0) × (f .greatest ≡ 0) × (length (f .steps) ≡ maxEdges)
-Follows wrong f = f .kind ≡ otherForm
-Follows hinted f = f .kind ≡ hintForm
-Follows undone f = f .kind ≡ undoForm
-Follows finished f = f .kind ≡ finishForm
-Follows carry-none f = f .kind ≡ carryForm
-Follows (carry-one i) f = (f .kind ≡ carryFrom) × (f .first ≡ i)
-Follows (carry-both i e) f = (f .kind ≡ carryWhole) × (f .first ≡ i) × (f .second ≡ e)
-Follows (turn-even w) f = (f .kind ≡ turnForm) × Holds w f
-Follows (turn-odd w e) f = (f .kind ≡ turnEdge) × (f .first ≡ e) × Holds w f
+abbrev pub FollowsShape : Shape → Form → Type 0
+FollowsShape begin f = (f .kind ≡ nothingRead) × (f .count ≡ 0) × (f .greatest ≡ 0) × (length (f .steps) ≡ maxEdges)
+FollowsShape wrong f = f .kind ≡ otherForm
+FollowsShape hinted f = f .kind ≡ hintForm
+FollowsShape undone f = f .kind ≡ undoForm
+FollowsShape finished f = f .kind ≡ finishForm
+FollowsShape carry-none f = f .kind ≡ carryForm
+FollowsShape (carry-one i) f = (f .kind ≡ carryFrom) × (f .first ≡ i)
+FollowsShape (carry-both i e) f = (f .kind ≡ carryWhole) × (f .first ≡ i) × (f .second ≡ e)
+FollowsShape (turn-even w) f = (f .kind ≡ turnForm) × HoldsSteps w f
+FollowsShape (turn-odd w e) f = (f .kind ≡ turnEdge) × (f .first ≡ e) × HoldsSteps w f
 
 -- one field more, by the kind
 abbrev takenBy : ℕ → Form → Piece → Form
@@ -46,32 +46,32 @@ unfolding formTaken
 taken-kind f p k e = ap (λ j. takenBy j f p) e
 
 -- steps are kept whatever the numbers
-holds-first : (w : List Step) (f : Form) (k n : ℕ) → Holds w f → Holds w (withFirst k n f)
+holds-first : (w : List Step) (f : Form) (k n : ℕ) → HoldsSteps w f → HoldsSteps w (withFirst k n f)
 holds-first w f k n h = record { places = h .places; greatest = h .greatest; few = h .few; many = h .many; steps = h .steps }
 
 -- a number
-first-follows : (f : Form) (n : Number) → Follows (shapeBy carry-one n) (numbered (λ m. withFirst carryFrom m f) f n)
+first-follows : (f : Form) (n : Number) → FollowsShape (shapeBy carry-one n) (numbered (λ m. withFirst carryFrom m f) f n)
 first-follows f (Value n) = (refl, refl)
 first-follows f Malformed = refl
 
-second-follows : (f : Form) (i : ℕ) (n : Number) → f .first ≡ i → Follows (shapeBy (carry-both i) n) (numbered (λ m. withSecond carryWhole m f) f n)
+second-follows : (f : Form) (i : ℕ) (n : Number) → f .first ≡ i → FollowsShape (shapeBy (carry-both i) n) (numbered (λ m. withSecond carryWhole m f) f n)
 second-follows f i (Value n) e = (refl, e, refl)
 second-follows f i Malformed e = refl
 
-edge-follows : (f : Form) (w : List Step) (n : Number) → Holds w f → Follows (shapeBy (turn-odd w) n) (numbered (λ m. withFirst turnEdge m f) f n)
+edge-follows : (f : Form) (w : List Step) (n : Number) → HoldsSteps w f → FollowsShape (shapeBy (turn-odd w) n) (numbered (λ m. withFirst turnEdge m f) f n)
 edge-follows f w (Value n) h = (refl, refl, holds-first w f turnEdge n h)
 edge-follows f w Malformed h = refl
 
 -- a letter
 module _ (f : Form) (x : List ℕ) (p : Piece) (r : Reads x p) where
-  begin-follows : Follows begin f → Follows (shapeTaken begin x) (begun f p)
+  begin-follows : FollowsShape begin f → FollowsShape (shapeTaken begin x) (begun f p)
   unfolding begun pick
   begin-follows a =
       rw (is-letter x p r 75, is-letter x p r 84, is-letter x p r 72, is-letter x p r 85, is-letter x p r 70)
       (split (isLetter 75 x) (isLetter 84 x) (isLetter 72 x) (isLetter 85 x) (isLetter 70 x))
     where
       split : (k t h u y : Bool)
-          → Follows (begunBy k t h u y)
+          → FollowsShape (begunBy k t h u y)
           (pick k (ofKind carryForm f)
           (pick t (ofKind turnForm f) (pick h (ofKind hintForm f) (pick u (ofKind undoForm f) (pick y (ofKind finishForm f) (ofKind otherForm f))))))
       split true t h u y = refl
@@ -81,16 +81,16 @@ module _ (f : Form) (x : List ℕ) (p : Piece) (r : Reads x p) where
       split false false false false true = refl
       split false false false false false = refl
 
-  way-follows : (w : List Step) (e : ℕ) → f .first ≡ e → Holds w f → Follows (shapeTaken (turn-odd w e) x) (wayTaken f p)
+  way-follows : (w : List Step) (e : ℕ) → f .first ≡ e → HoldsSteps w f → FollowsShape (shapeTaken (turn-odd w e) x) (wayTaken f p)
   unfolding wayTaken withStep pick
   way-follows w e q h = rw (is-letter x p r 68, is-letter x p r 85) (split (isLetter 68 x) (isLetter 85 x))
     where
-      split : (d u : Bool) → Follows (wayBy d u w e) (pick d (withStep false f) (pick u (withStep true f) (ofKind otherForm f)))
-      split true u = (refl, subst (λ (n : ℕ). Holds (w ++ (down n ∷ [])) (withStep false f)) q (grown w f false h))
-      split false true = (refl, subst (λ (n : ℕ). Holds (w ++ (up n ∷ [])) (withStep true f)) q (grown w f true h))
+      split : (d u : Bool) → FollowsShape (wayBy d u w e) (pick d (withStep false f) (pick u (withStep true f) (ofKind otherForm f)))
+      split true u = (refl, subst (λ (n : ℕ). HoldsSteps (w ++ (down n ∷ [])) (withStep false f)) q (grown w f false h))
+      split false true = (refl, subst (λ (n : ℕ). HoldsSteps (w ++ (up n ∷ [])) (withStep true f)) q (grown w f true h))
       split false false = refl
 
-pub follows-next : (sh : Shape) (f : Form) (x : List ℕ) (p : Piece) → Reads x p → Follows sh f → Follows (shapeTaken sh x) (formTaken f p)
+pub follows-next : (sh : Shape) (f : Form) (x : List ℕ) (p : Piece) → Reads x p → FollowsShape sh f → FollowsShape (shapeTaken sh x) (formTaken f p)
 unfolding pick
 follows-next begin f x p r a = rw (taken-kind f p nothingRead (a .0)) (begin-follows f x p r a)
 follows-next wrong f x p r a = rw (taken-kind f p otherForm a)
@@ -109,7 +109,7 @@ nothing : (f : Form) (k : ℕ) → f .kind ≡ k → eqb k hintForm ≡ false �
 nothing f k e h u x c t = record { no-hint = rw e h; no-undo = rw e u; no-finish = rw e x; no-carry = rw e c; no-turn = rw e t }
 
 -- at the end of the line
-pub follows-end : (sh : Shape) (f : Form) → Follows sh f → Stands (orderFrom sh []) f
+pub follows-end : (sh : Shape) (f : Form) → FollowsShape sh f → StandsFor (orderFrom sh []) f
 unfolding byFields carryOf turnOf
 follows-end begin f a = nothing f nothingRead (a .0) refl refl refl refl refl
 follows-end wrong f a = nothing f otherForm a refl refl refl refl refl

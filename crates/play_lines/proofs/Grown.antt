@@ -21,7 +21,7 @@ use Rattle.play_lines.specs.declared.Form.{Form}
 use Rattle.play_lines.specs.Scans.{stepByte, withStep, greatestEdge, KeepsSteps, turnForm}
 
 -- what a form keeps of the steps w
-pub record Holds (w : List Step) (f : Form) : Type 0 where
+pub record HoldsSteps (w : List Step) (f : Form) : Type 0 where
   pub places : length (f .steps) ≡ maxEdges
   pub greatest : f .greatest ≡ greatestEdge w
   pub few : length w ≤ maxEdges → f .count ≡ length w
@@ -63,7 +63,7 @@ greatest-join [] s = larger (edgeOf s) 0 ∙ omega arith
 greatest-join (t ∷ w) s = rw (larger (edgeOf t) (greatestEdge (w ++ (s ∷ []))), larger (edgeOf t) (greatestEdge w), greatest-join w s) (omega arith)
 
 -- one step more
-module _ (w : List Step) (f : Form) (goesUp : Bool) (h : Holds w f) where
+module _ (w : List Step) (f : Form) (goesUp : Bool) (h : HoldsSteps w f) where
   abbrev added : List Step
   added = w ++ (stepBy goesUp (f .first) ∷ [])
 
@@ -106,7 +106,7 @@ module _ (w : List Step) (f : Form) (goesUp : Bool) (h : Holds w f) where
         byte-step goesUp (f .first) b,
       )
 
-  pub grown : Holds added (withStep goesUp f)
+  pub grown : HoldsSteps added (withStep goesUp f)
   unfolding withStep
   grown = record {
     places = length-set (f .steps) (f .count) (stepByte goesUp (f .first)) ∙ h .places;
@@ -117,10 +117,10 @@ module _ (w : List Step) (f : Form) (goesUp : Bool) (h : Holds w f) where
   }
 
 -- nothing kept yet
-pub holds-none : (f : Form) → f .count ≡ 0 → f .greatest ≡ 0 → length (f .steps) ≡ maxEdges → Holds [] f
+pub holds-none : (f : Form) → f .count ≡ 0 → f .greatest ≡ 0 → length (f .steps) ≡ maxEdges → HoldsSteps [] f
 unfolding greatestEdge stepsOf
 holds-none f c g l = record { places = l; greatest = g; few = λ m. c; many = λ m. absurd (omega arith); steps = λ m b. rw c }
 
 -- a form that keeps steps is that of their turn
-pub keeps-steps : (w : List Step) (f : Form) → f .kind ≡ turnForm → Holds w f → KeepsSteps w f
+pub keeps-steps : (w : List Step) (f : Form) → f .kind ≡ turnForm → HoldsSteps w f → KeepsSteps w f
 keeps-steps w f k h = record { kind = k; greatest = h .greatest; few = h .few; many = h .many; steps = h .steps }

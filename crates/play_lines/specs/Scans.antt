@@ -180,10 +180,10 @@ pub record Nothing (f : Form) : Type 0 where
   pub no-carry : eqb (f .kind) carryWhole ≡ false
   pub no-turn : eqb (f .kind) turnForm ≡ false
 
-abbrev pub Stands : Order → Form → Type 0
-Stands (carry i e) f = (f .kind ≡ carryWhole) × (f .first ≡ i) × (f .second ≡ e)
-Stands (turn w) f = KeepsSteps w f
-Stands hint f = f .kind ≡ hintForm
-Stands undo f = f .kind ≡ undoForm
-Stands finish f = f .kind ≡ finishForm
-Stands other f = Nothing f
+abbrev pub StandsFor : Order → Form → Type 0
+StandsFor (carry i e) f = (f .kind ≡ carryWhole) × (f .first ≡ i) × (f .second ≡ e)
+StandsFor (turn w) f = KeepsSteps w f
+StandsFor hint f = f .kind ≡ hintForm
+StandsFor undo f = f .kind ≡ undoForm
+StandsFor finish f = f .kind ≡ finishForm
+StandsFor other f = Nothing f

@@ -27,7 +27,7 @@ use Rattle.move_turn.specs.declared.StepRule.the-variants.{OnBoard}
 use Rattle.move_turn.specs.Turns.{meets, turnRefusal, turned, turnCall}
 use Rattle.play_lines.specs.declared.Form.{Form}
 use Rattle.play_lines.specs.Orders.{Order, carry, turn, hint, undo, finish, other}
-use Rattle.play_lines.specs.Scans.{finishForm, carryWhole, turnForm, greatestEdge, KeepsSteps, Stands}
+use Rattle.play_lines.specs.Scans.{finishForm, carryWhole, turnForm, greatestEdge, KeepsSteps, StandsFor}
 use Rattle.play_session.specs.Replies.{replied, isFinish, replyText}
 use Rattle.play_session.specs.Machine.{unkept, turnReplied, formReplied, formText}
 
@@ -157,7 +157,7 @@ module _ (b : Board) where
         split (was-true s) (was-false t) = rw (s, t, both, pick) (turn-unkept (λ h. ltb-false _ _ t))
         split (was-false s) t = rw (s, both, pick) (turn-unkept (λ h. absurd (omega (arith, h, leb-false (f .count) maxEdges s))))
 
-pub form-replied : (b : Board) (o : Order) (f : Form) → Stands o f → formReplied b f ≡ replied b o
+pub form-replied : (b : Board) (o : Order) (f : Form) → StandsFor o f → formReplied b f ≡ replied b o
 unfolding formReplied replied pick
 form-replied b (carry i e) f s = rw (s .0, s .1, s .2)
 form-replied b (turn w) f s =
@@ -167,11 +167,11 @@ form-replied b undo f s = rw s
 form-replied b finish f s = rw s
 form-replied b other f s = rw (s .no-carry, s .no-turn, s .no-hint, s .no-undo, s .no-finish)
 
-pub form-text : (b : Board) (o : Order) (f : Form) → Stands o f → formText f (formReplied b f) ≡ replyText b o
+pub form-text : (b : Board) (o : Order) (f : Form) → StandsFor o f → formText f (formReplied b f) ≡ replyText b o
 unfolding formText replyText
 form-text b o f s = rw (form-replied b o f s, is-finish o s)
   where
-    is-finish : (o : Order) → Stands o f → eqb (f .kind) finishForm ≡ isFinish o
+    is-finish : (o : Order) → StandsFor o f → eqb (f .kind) finishForm ≡ isFinish o
     is-finish (carry i e) s = rw (s .0)
     is-finish (turn w) s = rw (s .kind)
     is-finish hint s = rw s

@@ -11,7 +11,7 @@ use Rattle.lists.proofs.Laws.{Known, was-true, was-false, known, pick-yes, pick
 use Rattle.board.specs.declared.Board.{Board}
 use Rattle.board.specs.declared.Played.{Played}
 use Rattle.play_lines.specs.Orders.{other, orderOf}
-use Rattle.play_lines.specs.Scans.{Stands, noScan, scanAll, scanned, isBlank}
+use Rattle.play_lines.specs.Scans.{StandsFor, noScan, scanAll, scanned, isBlank}
 use Rattle.play_lines.proofs.Exact.{line-exact, scan-join, blank-empty}
 use Rattle.sheet_output.specs.Outputs.{numberLine}
 use Rattle.play_session.specs.declared.Session.{Session}
@@ -60,7 +60,7 @@ plays (c ∷ x) l s at scan = split (known (eqb c 10)) (λ m r p q. plays x m r 
         let b = s .board in
         let f = scanned (s .scan) in
         let p = formReplied b f in
-        let stands : Stands (orderOf l) f = rw scan (line-exact l) in
+        let stands : StandsFor (orderOf l) f = rw scan (line-exact l) in
         let told : lineTold s ≡ replyText b (orderOf l) = told-playing s (not-reading s at) (is-playing s at) ∙ form-text b (orderOf l) f stands in
         let rest : runs (lineEnded s) x ≡ repliesFrom (replied b (orderOf l) .board) [] x =
         ap (λ (r : Session). runs r x) (ended-playing s (not-reading s at) (is-playing s at))

@@ -54,7 +54,7 @@ pub struct Session {
 }
 
 // The session behind a line feed, and how many bytes were printed.
-pub struct Told {
+pub struct AfterLine {
     pub session: Session,
     pub used: usize,
 }
@@ -331,7 +331,7 @@ fn put_load(out: &mut [u8], loaded: Loaded) -> usize
 }
 
 // A line of the board has ended: the next one is expected, or the board is loaded.
-fn board_line(session: Session, out: &mut [u8]) -> Told
+fn board_line(session: Session, out: &mut [u8]) -> AfterLine
     ensures { λ r. ⌜ r .session ≡ boardLine session ⌝ }
     ensures { λ r. ⌜ r .used ≡ length (boardTold session) ⌝ }
     ensures { λ r. ⌜ r .used ≤ 8291 ⌝ }
@@ -341,7 +341,7 @@ fn board_line(session: Session, out: &mut [u8]) -> Told
     if left != 0 {
         let mut next = session;
         next.left = left;
-        return Told {
+        return AfterLine {
             session: next,
             used: 0,
         };
@@ -349,14 +349,14 @@ fn board_line(session: Session, out: &mut [u8]) -> Told
     let loaded = board_loaded(session);
     let used = put_load(out, loaded);
     let next = ready(session, loaded);
-    Told {
+    AfterLine {
         session: next,
         used: used,
     }
 }
 
 // A line of the play has ended: it is answered.
-fn played_line(session: Session, out: &mut [u8]) -> Told
+fn played_line(session: Session, out: &mut [u8]) -> AfterLine
     ensures { λ r. ⌜ r .session ≡ playedLine (formReplied (session .board) (scanned (session .scan))) session ⌝ }
     ensures { λ r. ⌜ r .used ≡
         length (formText (scanned (session .scan)) (formReplied (session .board) (scanned (session .scan)))) ⌝ }
@@ -375,14 +375,14 @@ fn played_line(session: Session, out: &mut [u8]) -> Told
     let mut next = session;
     next.scan = none;
     next.board = last;
-    Told {
+    AfterLine {
         session: next,
         used: used,
     }
 }
 
 // A line feed.
-fn line_ended(session: Session, out: &mut [u8]) -> Told
+fn line_ended(session: Session, out: &mut [u8]) -> AfterLine
     ensures { λ r. ⌜ r .session ≡ lineEnded session ⌝ }
     ensures { λ r. ⌜ r .used ≡ length (lineTold session) ⌝ }
     ensures { λ r. ⌜ r .used ≤ 8291 ⌝ }
@@ -396,7 +396,7 @@ fn line_ended(session: Session, out: &mut [u8]) -> Told
     if session.stage == Session::PLAYING {
         return played_line(session, out);
     }
-    Told {
+    AfterLine {
         session: session,
         used: 0,
     }

@@ -20,7 +20,7 @@ use Rattle.text.specs.Text.{lineText, linesText}
 use Rattle.move_guard.specs.Moved.{lastEntry}
 use Rattle.move_guard.specs.Guard.{intactIn, intact}
 use Rattle.move_guard.proofs.Facts.{intact-edges, intact-terminals, intact-demand}
-use Rattle.text_writer.proofs.Writing.{Left, left-part, left-none}
+use Rattle.text_writer.proofs.Writing.{TextLeft, left-part, left-none}
 use Rattle.report_routes.specs.Tables.{routesFit}
 use Rattle.report_routes.proofs.Read.{fits-route}
 use Rattle.report.specs.Reports.{reportText, started, unreported, unreportedIn, sheetRefusal, sheetCall, sheeted, putRefusal, putCall, putIn}
@@ -88,7 +88,7 @@ module _ (net : Network) (counts : List ℕ) (rows : List (List ℕ)) (buf b1 b2
       → b3 ≡ sets b2 p2 loads → (p3 ≡ at + length (tableText net counts rows)) × (b3 ≡ sets buf at (tableText net counts rows))
   unfolding tableText
   tables-written q1 e1 q2 e2 q3 e3 =
-      let whole : Left buf (sets buf at (tableText net counts rows)) at (at + length (tableText net counts rows)) (head ++ (routes ++ loads)) =
+      let whole : TextLeft buf (sets buf at (tableText net counts rows)) at (at + length (tableText net counts rows)) (head ++ (routes ++ loads)) =
       record { size = refl; gives = refl } in
       let behind-head = left-part head (routes ++ loads) b1 p1 whole e1 q1 in
       let behind-routes = left-part routes loads b2 p2 behind-head e2 q2 in

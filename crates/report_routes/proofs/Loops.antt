@@ -33,16 +33,16 @@ either-some false = refl
 
 -- a set of the first i edges, and those that are left
 module _ (xs : List ℕ) where
-  abbrev pub Passed : ℕ → ℕ → Type 0
-  Passed i set = (e : ℕ) → e < maxEdges → either (hasBit set e) (has e (drop i xs)) ≡ has e xs
+  abbrev pub EdgesPassed : ℕ → ℕ → Type 0
+  EdgesPassed i set = (e : ℕ) → e < maxEdges → either (hasBit set e) (has e (drop i xs)) ≡ has e xs
 
-  pub set-start : Passed 0 0
+  pub set-start : EdgesPassed 0 0
   unfolding either
   set-start e h = rw (has-none e)
 
   -- the next edge joins the set, or is no edge
   pub set-turn : (i set next : ℕ) → i < length xs
-      → ((getD xs i 0 < maxEdges) × (next ≡ withBit set (getD xs i 0))) ⊎ ((maxEdges ≤ getD xs i 0) × (next ≡ set)) → Passed i set → Passed (i + 1) next
+      → ((getD xs i 0 < maxEdges) × (next ≡ withBit set (getD xs i 0))) ⊎ ((maxEdges ≤ getD xs i 0) × (next ≡ set)) → EdgesPassed i set → EdgesPassed (i + 1) next
   unfolding has either
   set-turn i set next h came inv e l = go (known (eqb e (getD xs i 0))) came
     where
@@ -59,7 +59,7 @@ module _ (xs : List ℕ) where
       go (was-false t) (inl w) = rw (w .1, has-with-other set (getD xs i 0) e (eqb-false e (getD xs i 0) t), add-one i) (rw (t, has) at before)
       go (was-false t) (inr w) = rw (w .1, add-one i) (rw (t, has) at before)
 
-  pub set-end : (i set : ℕ) → length xs ≤ i → Passed i set → IsSetOf set xs
+  pub set-end : (i set : ℕ) → length xs ≤ i → EdgesPassed i set → IsSetOf set xs
   unfolding has
   set-end i set h inv e l = sym (either-none (hasBit set e)) ∙ (rw (drop-of-length-le xs h) at (inv e l))
 

@@ -102,14 +102,14 @@ module _ (b : Board) where
     pub step-stuck : place b (openTerminal b) ≡ b .network .source → stepped b .answer ≢ 0
     step-stuck home = refused-stops (rw (next-carry b some) (λ q. omega (arith, q, source-refused (openTerminal b) (chosenEdge b (openTerminal b)) play (chosen b some) home)))
 
-    pub carry-accepted : place b (openTerminal b) ≢ b .network .source → carryRefusal b (openTerminal b) (chosenEdge b (openTerminal b)) ≡ 0
-    carry-accepted out = open-accepted (openTerminal b) (chosenEdge b (openTerminal b)) play (chosen b some) out
+    pub chosen-carry-accepted : place b (openTerminal b) ≢ b .network .source → carryRefusal b (openTerminal b) (chosenEdge b (openTerminal b)) ≡ 0
+    chosen-carry-accepted out = open-accepted (openTerminal b) (chosenEdge b (openTerminal b)) play (chosen b some) out
 
     pub step-carry : place b (openTerminal b) ≢ b .network .source
         → stepped b ≡ record { answer = 0; board = carried b (openTerminal b) (chosenEdge b (openTerminal b)) }
     step-carry out =
         sym (away b (not-home (openTerminal b) (chosen b some .terminal) out))
-        ∙ rw (next-carry b some) (answered-yes _ b (carried b (openTerminal b) (chosenEdge b (openTerminal b))) (carry-accepted out))
+        ∙ rw (next-carry b some) (answered-yes _ b (carried b (openTerminal b) (chosenEdge b (openTerminal b))) (chosen-carry-accepted out))
 
   module _ (none : someOpen b ≡ false) where
     pub step-turn : allHome b ≡ false → turnRefusal b (nextCycle b) ≡ 0 → stepped b ≡ record { answer = 0; board = turned b (nextCycle b) }

@@ -25,10 +25,10 @@ use Rattle.solve_next.specs.Choosing.{allHome, allHomeIn}
 use Rattle.solve_next.proofs.Advised.{home-same}
 use Rattle.solve_finish.specs.declared.Made.{Made}
 use Rattle.solve_finish.specs.Finishes.{steppedOn, playedOut, ended, finishCall}
-use Rattle.solve_finish.specs.Run.{stepChange, Sized, InPlay, Makes, leftAfter}
+use Rattle.solve_finish.specs.Run.{stepChange, PartsSized, InPlay, Makes, leftAfter}
 use Rattle.solve_finish.proofs.Stepping.{finish-stuck, finish-made}
 use Rattle.solve_finish.proofs.Making.{on-stops, on-goes, closed-stops}
-use Rattle.solve_finish.proofs.Following.{Follows, follows}
+use Rattle.solve_finish.proofs.Following.{FollowsChange, follows}
 
 -- a board with other parts, and with another journal
 abbrev pub standing : Board → List ℕ → ℕ → List ℕ → ℕ → Board
@@ -57,10 +57,10 @@ pub record Run (whole : Board) (net : Network) (last : Board) (flows : List ℕ)
   pub network : last .network ≡ net
   pub long : length flows ≡ maxEdges
   pub short : length places ≡ maxTerminals
-  pub sized : Sized net
+  pub sized : PartsSized net
   pub room : length (last .journal) ≡ maxMoves
 
-pub run-starts : (b : Board) → playing b ≡ true → length (b .flows) ≡ maxEdges → length (b .places) ≡ maxTerminals → Sized (b .network)
+pub run-starts : (b : Board) → playing b ≡ true → length (b .flows) ≡ maxEdges → length (b .places) ≡ maxTerminals → PartsSized (b .network)
     → length (b .journal) ≡ maxMoves → Run b (b .network) b (b .flows) (b .marks) (b .places) (b .moves) maxMoves
 unfolding playedOut
 run-starts b play long short sized room =
@@ -77,7 +77,7 @@ module _ (whole : Board) (net : Network) (last : Board) (flows : List ℕ) (mark
   run-plays = record { board = standing last flows marks places moves; play = r .play n; its-network = r .network; its-flows = refl; its-marks = refl; its-places = refl; long = r .long; sized = r .sized }
 
   module _ (made : Made) (a : Makes (stepChange net flows marks places) made) where
-    fol : Follows (standing last flows marks places moves) (made .change)
+    fol : FollowsChange (standing last flows marks places moves) (made .change)
     fol = rw (a .changes, ← r .network) (follows (standing last flows marks places moves) (r .play n) (r .long) (rw (r .network) (r .sized .demands)))
 
     pub run-refused : made .change .answer ≢ 0 → Run whole net last flows marks places moves 0

@@ -56,7 +56,7 @@ stepChange net flows marks places =
     (turnStep net flows marks places)
 
 -- the lists of a network have the lengths that the code gives them
-pub record Sized (net : Network) : Type 0 where
+pub record PartsSized (net : Network) : Type 0 where
   pub tails : length (net .tails) ≡ maxEdges
   pub heads : length (net .heads) ≡ maxEdges
   pub demands : length (net .demands) ≡ maxTerminals
@@ -70,7 +70,7 @@ pub record InPlay (net : Network) (flows : List ℕ) (marks : ℕ) (places : Lis
   pub its-marks : board .marks ≡ marks
   pub its-places : board .places ≡ places
   pub long : length flows ≡ maxEdges
-  pub sized : Sized net
+  pub sized : PartsSized net
 
 -- a move of the solver is this change, with the wet channels after it, and whether the flows are small then
 pub record Makes (change : Change) (made : Made) : Type 0 where

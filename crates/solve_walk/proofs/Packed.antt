@@ -93,15 +93,15 @@ module _ (tails heads flows : List ℕ) where
   climbs = another heads flows
 
   -- a list of steps as the walk leaves it: edges of the network, or one past them, and n steps at most
-  record Left (n : ℕ) (w : List Step) : Type 0 where
+  record StepsLeft (n : ℕ) (w : List Step) : Type 0 where
     edges : EdgesTo (length flows) w
     short : length w ≤ n
 
-  left-drop : (n k : ℕ) (w : List Step) → Left n w → Left n (drop k w)
+  left-drop : (n k : ℕ) (w : List Step) → StepsLeft n w → StepsLeft n (drop k w)
   left-drop n k w b = record { edges = edges-drop (length flows) k w (b .edges); short = omega (arith, length-drop k w, b .short) }
 
   -- one step more
-  left-more : (n k : ℕ) (w : List Step) (s : Step) → Left n w → length w + suc k ≤ n → edgeOf s ≤ length flows → Left n (w ++ (s ∷ []))
+  left-more : (n k : ℕ) (w : List Step) (s : Step) → StepsLeft n w → length w + suc k ≤ n → edgeOf s ≤ length flows → StepsLeft n (w ++ (s ∷ []))
   left-more n k w s b h e = record { edges = edges-more (length flows) w s (b .edges) e; short = omega (arith, length-append w (s ∷ []), h) }
 
   -- the room that is left after it
@@ -110,7 +110,7 @@ module _ (tails heads flows : List ℕ) where
 
   -- what a walk with k vertices not yet seen leaves
   abbrev Leaves : ℕ → (ℕ → List Step → ℕ → ℕ → List Step) → ℕ → Type 0
-  Leaves n walk k = (w : List Step) (x v : ℕ) → Left n w → length w + k ≤ n → Left n (walk k w x v)
+  Leaves n walk k = (w : List Step) (x v : ℕ) → StepsLeft n w → length w + k ≤ n → StepsLeft n (walk k w x v)
 
   abbrev downs : ℕ → List Step → ℕ → ℕ → List Step
   downs = downWalk tails heads flows falls climbs
@@ -119,38 +119,38 @@ module _ (tails heads flows : List ℕ) where
   ups = upWalk tails heads flows falls climbs
 
   -- one step down, one step up
-  module _ (k n : ℕ) (d : Leaves n downs k) (u : Leaves n ups k) (w : List Step) (x v : ℕ) (b : Left n w) (h : length w + suc k ≤ n) where
-    gone-down : Left n (downs k (w ++ (down (falls v x) ∷ [])) (falls v x) (getD heads (falls v x) 0))
+  module _ (k n : ℕ) (d : Leaves n downs k) (u : Leaves n ups k) (w : List Step) (x v : ℕ) (b : StepsLeft n w) (h : length w + suc k ≤ n) where
+    gone-down : StepsLeft n (downs k (w ++ (down (falls v x) ∷ [])) (falls v x) (getD heads (falls v x) 0))
     gone-down =
         let s = down (falls v x) in
         d (w ++ (s ∷ [])) (falls v x) (getD heads (falls v x) 0) (left-more n k w s b h (another-most tails flows v x)) (room n k w s h)
 
-    gone-up : Left n (ups k (w ++ (up (climbs v x) ∷ [])) (climbs v x) (getD tails (climbs v x) 0))
+    gone-up : StepsLeft n (ups k (w ++ (up (climbs v x) ∷ [])) (climbs v x) (getD tails (climbs v x) 0))
     gone-up =
         let s = up (climbs v x) in
         u (w ++ (s ∷ [])) (climbs v x) (getD tails (climbs v x) 0) (left-more n k w s b h (another-most heads flows v x)) (room n k w s h)
 
-    downs-on : Left n (downs (suc k) w x v)
+    downs-on : StepsLeft n (downs (suc k) w x v)
     unfolding downWalk
     downs-on = met (known (ltb (firstMet tails heads w v) (length w)))
       where
-        falling : Known (ltb (falls v x) (length flows)) → ltb (firstMet tails heads w v) (length w) ≡ false → Left n (downs (suc k) w x v)
+        falling : Known (ltb (falls v x) (length flows)) → ltb (firstMet tails heads w v) (length w) ≡ false → StepsLeft n (downs (suc k) w x v)
         falling (was-true t) m = rw (m, t, downWalk) gone-down
         falling (was-false t) m = rw (m, t, downWalk) gone-up
 
-        met : Known (ltb (firstMet tails heads w v) (length w)) → Left n (downs (suc k) w x v)
+        met : Known (ltb (firstMet tails heads w v) (length w)) → StepsLeft n (downs (suc k) w x v)
         met (was-true t) = rw (t, downWalk) (left-drop n (firstMet tails heads w v) w b)
         met (was-false t) = falling (known (ltb (falls v x) (length flows))) t
 
-    ups-on : Left n (ups (suc k) w x v)
+    ups-on : StepsLeft n (ups (suc k) w x v)
     unfolding downWalk
     ups-on = met (known (ltb (firstMet tails heads w v) (length w)))
       where
-        parting : Known (parts tails flows v) → ltb (firstMet tails heads w v) (length w) ≡ false → Left n (ups (suc k) w x v)
+        parting : Known (parts tails flows v) → ltb (firstMet tails heads w v) (length w) ≡ false → StepsLeft n (ups (suc k) w x v)
         parting (was-true t) m = rw (m, t, upWalk) gone-down
         parting (was-false t) m = rw (m, t, upWalk) gone-up
 
-        met : Known (ltb (firstMet tails heads w v) (length w)) → Left n (ups (suc k) w x v)
+        met : Known (ltb (firstMet tails heads w v) (length w)) → StepsLeft n (ups (suc k) w x v)
         met (was-true t) = rw (t, upWalk) (left-drop n (firstMet tails heads w v) w b)
         met (was-false t) = parting (known (parts tails flows v)) t
 
@@ -161,7 +161,7 @@ module _ (tails heads flows : List ℕ) where
       let ih = walks-leave k n in
       (downs-on k n (ih .0) (ih .1), ups-on k n (ih .0) (ih .1))
 
-  cycle-left : (n source : ℕ) → Left n (cycleOf tails heads flows n source)
+  cycle-left : (n source : ℕ) → StepsLeft n (cycleOf tails heads flows n source)
   unfolding cycleOf
   cycle-left n source = walks-leave n n .0 [] (length flows) source (record { edges = tt; short = omega arith }) (omega arith)
 

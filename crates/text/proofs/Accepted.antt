@@ -18,7 +18,7 @@ use Rattle.text.specs.Text.{withTerminals, nothingFollows, layout, lineT
 use Rattle.text_rules.specs.Rules.{judged, Lawful}
 use Rattle.text_rules.proofs.Meaning.{Kept, kept, judged-zero}
 use Rattle.text.specs.Results.{judgement, readingOf, readText}
-use Rattle.text.proofs.Fields.{Within, Rows, Heading, rowsText, parts, parts-in, after, after-in, header-of-text, header-only}
+use Rattle.text.proofs.Fields.{InRanges, Rows, Heading, rowsText, parts, parts-in, after, after-in, header-of-text, header-only}
 use Rattle.text.proofs.Fields.{lines-of-text, lines-only, refused-above}
 use Rattle.text.proofs.FieldColumns.{run, lines-run, lines-of, rows-length, row-spelled, row-within, rows-run, spelled, spelled-within}
 use Rattle.text.proofs.FieldColumns.{stored, stored-length, stored-at, stored-past, stored-back}
@@ -93,7 +93,7 @@ unfolding textOf
 text-of net = refl
 
 module _ (ns : List ℕ) (rows homes : List (List ℕ)) (laid : Laid ns rows homes) where
-  first : Within headRanges (headRow (headed ns))
+  first : InRanges headRanges (headRow (headed ns))
   first = spelled-within headRanges ns (laid .heading .within)
 
   edge-held : (c i : ℕ) → getD (stored maxEdges c rows) i 0 ≡ getD (getD rows i []) c 0

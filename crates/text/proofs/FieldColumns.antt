@@ -12,7 +12,7 @@ use borrow.Author.Tests.{ltb-true, ltb-false}
 use Rattle.lists.proofs.Laws.{Known, was-true, was-false, known}
 use Rattle.text.specs.declared.Range.{Range}
 use Rattle.text.specs.Text.{fieldColumn, linesText, lineText}
-use Rattle.text.proofs.Fields.{Within, Rows, no-row, row, rowsText}
+use Rattle.text.proofs.Fields.{InRanges, Rows, no-row, row, rowsText}
 
 -- ---- runs
 
@@ -54,16 +54,16 @@ lines-of x k f rows e same = rw (lines-run, ← e, run-of [] f rows (λ i h. sam
 -- ---- rows in their ranges
 
 -- a row has as many numbers as ranges, so it can be written out
-within-length : (rs : List Range) (ns : List ℕ) → Within rs ns → length ns ≡ length rs
+within-length : (rs : List Range) (ns : List ℕ) → InRanges rs ns → length ns ≡ length rs
 within-length [] [] w = refl
 within-length [] (n ∷ ns) w = absurd w
 within-length (r ∷ rs) [] w = absurd w
 within-length (r ∷ rs) (n ∷ ns) w = ap suc (within-length rs ns (w .2))
 
-pub spelled : (rs : List Range) (ns : List ℕ) → Within rs ns → run (λ c. getD ns c 0) 0 (length rs) ≡ ns
+pub spelled : (rs : List Range) (ns : List ℕ) → InRanges rs ns → run (λ c. getD ns c 0) 0 (length rs) ≡ ns
 spelled rs ns w = rw (← within-length rs ns w) (run-of 0 _ ns (λ c h. refl))
 
-pub spelled-within : (rs : List Range) (ns : List ℕ) → Within rs ns → Within rs (run (λ c. getD ns c 0) 0 (length rs))
+pub spelled-within : (rs : List Range) (ns : List ℕ) → InRanges rs ns → InRanges rs (run (λ c. getD ns c 0) 0 (length rs))
 spelled-within rs ns w = rw (spelled rs ns w) w
 
 module _ {rs : List Range} where
@@ -71,7 +71,7 @@ module _ {rs : List Range} where
   rows-length no-row = refl
   rows-length (row w more) = ap suc (rows-length more)
 
-  rows-at : {k : ℕ} {rows : List (List ℕ)} → Rows rs k rows → (i : ℕ) → i < k → Within rs (getD rows i [])
+  rows-at : {k : ℕ} {rows : List (List ℕ)} → Rows rs k rows → (i : ℕ) → i < k → InRanges rs (getD rows i [])
   rows-at no-row i h = absurd (omega arith)
   rows-at (row w more) zero h = w
   rows-at (row w more) (suc i) h = rows-at more i (omega arith)
@@ -82,10 +82,10 @@ module _ {rs : List Range} where
   row-spelled all i h = spelled rs _ (rows-at all i h)
 
   pub row-within : {k : ℕ} {rows : List (List ℕ)} → Rows rs k rows → (i : ℕ) → i < k
-      → Within rs (run (λ c. getD (getD rows i []) c 0) 0 (length rs))
+      → InRanges rs (run (λ c. getD (getD rows i []) c 0) 0 (length rs))
   row-within all i h = spelled-within rs _ (rows-at all i h)
 
-  pub rows-run : (f : ℕ → List ℕ) (i k : ℕ) → ((j : ℕ) → i ≤ j → j < i + k → Within rs (f j)) → Rows rs k (run f i k)
+  pub rows-run : (f : ℕ → List ℕ) (i k : ℕ) → ((j : ℕ) → i ≤ j → j < i + k → InRanges rs (f j)) → Rows rs k (run f i k)
   rows-run f i zero w = no-row
   rows-run f i (suc k) w = row (w i (omega arith) (omega arith)) (rows-run f (suc i) k λ j h g. w j (omega arith) (omega arith))
 

@@ -26,7 +26,7 @@ use Rattle.decimal.proofs.Laws.{number-decimal, number-canonical, index-decimal
 -- ---- one part after another
 
 -- what was read of s stood at its start as this text, and these are the facts of it
-pub record Printed (text : List ℕ) (Facts : Type 0) (s rest : List ℕ) : Type 0 where
+pub record StoodAs (text : List ℕ) (Facts : Type 0) (s rest : List ℕ) : Type 0 where
   pub start : s ≡ text ++ rest
   pub facts : Facts
 
@@ -146,18 +146,18 @@ letter-only x c s rest h = go s (picked _ _ 1 h)
 -- ---- the numbers of a line
 
 -- as many numbers as ranges, each in its own
-abbrev pub Within : List Range → List ℕ → Type 0
-Within [] [] = Unit {0}
-Within [] (n ∷ ns) = ⊥
-Within (r ∷ rs) [] = ⊥
-Within (r ∷ rs) (n ∷ ns) = (r .low ≤ n) × (n ≤ r .high) × Within rs ns
+abbrev pub InRanges : List Range → List ℕ → Type 0
+InRanges [] [] = Unit {0}
+InRanges [] (n ∷ ns) = ⊥
+InRanges (r ∷ rs) [] = ⊥
+InRanges (r ∷ rs) (n ∷ ns) = (r .low ≤ n) × (n ≤ r .high) × InRanges rs ns
 
 -- ranges whose numbers a field has room for
 abbrev pub Short : List Range → Type 0
 Short [] = Unit {0}
 Short (r ∷ rs) = (r .high < 10000000) × Short rs
 
-same-end : (rs : List Range) (ns : List ℕ) → Within rs ns → endByte rs ≡ endByte ns
+same-end : (rs : List Range) (ns : List ℕ) → InRanges rs ns → endByte rs ≡ endByte ns
 same-end [] [] w = refl
 same-end [] (n ∷ ns) w = absurd w
 same-end (r ∷ rs) [] w = absurd w
@@ -167,7 +167,7 @@ end-small : {A : Type 0} (xs : List A) → endByte xs < 48
 end-small [] = omega arith
 end-small (x ∷ xs) = omega arith
 
-pub numbers-of-text : (rs : List Range) (ns rest : List ℕ) → Short rs → Within rs ns → numbers rs (numbersText ns ++ rest) ≡ got ns rest
+pub numbers-of-text : (rs : List Range) (ns rest : List ℕ) → Short rs → InRanges rs ns → numbers rs (numbersText ns ++ rest) ≡ got ns rest
 unfolding numbers numbersText
 numbers-of-text [] [] rest short w = refl
 numbers-of-text [] (n ∷ ns) rest short w = absurd w
@@ -176,7 +176,7 @@ numbers-of-text (r ∷ rs) (n ∷ ns) rest short w =
     let first = field-of-text r (endByte rs) n (numbersText ns ++ rest) (end-small rs) (w .0) (w .1) (omega arith) in
     rw (append-assoc, ← same-end rs ns (w .2), after _ first) (after _ (numbers-of-text rs ns rest (short .1) (w .2)))
 
-pub numbers-only : (rs : List Range) (ns s rest : List ℕ) → numbers rs s ≡ got ns rest → Printed (numbersText ns) (Within rs ns) s rest
+pub numbers-only : (rs : List Range) (ns s rest : List ℕ) → numbers rs s ≡ got ns rest → StoodAs (numbersText ns) (InRanges rs ns) s rest
 unfolding numbers numbersText
 numbers-only [] ns s rest h =
     let same : [] ≡ ns = cc in
@@ -195,11 +195,11 @@ numbers-only (r ∷ rs) ns s rest h =
 
 -- ---- lines
 
-pub line-of-text : (x : ℕ) (rs : List Range) (ns rest : List ℕ) → Short rs → Within rs ns → line x rs (lineText x ns ++ rest) ≡ got ns rest
+pub line-of-text : (x : ℕ) (rs : List Range) (ns rest : List ℕ) → Short rs → InRanges rs ns → line x rs (lineText x ns ++ rest) ≡ got ns rest
 unfolding line lineText
 line-of-text x rs ns rest short w = after _ (letter-of-text x (numbersText ns ++ rest)) ∙ numbers-of-text rs ns rest short w
 
-pub line-only : (x : ℕ) (rs : List Range) (ns s rest : List ℕ) → line x rs s ≡ got ns rest → Printed (lineText x ns) (Within rs ns) s rest
+pub line-only : (x : ℕ) (rs : List Range) (ns s rest : List ℕ) → line x rs s ≡ got ns rest → StoodAs (lineText x ns) (InRanges rs ns) s rest
 unfolding line lineText
 line-only x rs ns s rest h =
     parts (letter x s) _ h λ c s1 e1 h1.
@@ -209,7 +209,7 @@ line-only x rs ns s rest h =
 -- k rows, each within the ranges
 pub data Rows (rs : List Range) : ℕ → List (List ℕ) → Type 0 where
   no-row : Rows rs zero []
-  row : {k : ℕ} {ns : List ℕ} {rows : List (List ℕ)} → Within rs ns → Rows rs k rows → Rows rs (suc k) (ns ∷ rows)
+  row : {k : ℕ} {ns : List ℕ} {rows : List (List ℕ)} → InRanges rs ns → Rows rs k rows → Rows rs (suc k) (ns ∷ rows)
 
 abbrev pub rowsText : ℕ → List (List ℕ) → List ℕ
 rowsText x [] = []
@@ -223,7 +223,7 @@ lines-of-text {rs} x rest short (row {k} {ns} {rows} w more) =
     rw (append-assoc, after _ (line-of-text x rs ns (rowsText x rows ++ rest) short w)) (after _ (lines-of-text x rest short more))
 
 pub lines-only : (x : ℕ) (rs : List Range) (k : ℕ) (rows : List (List ℕ)) (s rest : List ℕ) → lines x rs k s ≡ got rows rest
-    → Printed (rowsText x rows) (Rows rs k rows) s rest
+    → StoodAs (rowsText x rows) (Rows rs k rows) s rest
 unfolding lines
 lines-only x rs zero rows s rest h =
     let same : [] ≡ rows = cc in
@@ -240,7 +240,7 @@ lines-only x rs (suc k) rows s rest h =
 -- ---- the first line
 
 pub record Heading (ns : List ℕ) : Type 0 where
-  pub within : Within headRanges ns
+  pub within : InRanges headRanges ns
   pub source-below : getD ns 3 0 < getD ns 0 0
 
 pub header-of-text : (ns rest : List ℕ) → Heading ns → header (lineText 66 ns ++ rest) ≡ got ns rest
@@ -248,7 +248,7 @@ unfolding header
 header-of-text ns rest h =
     after _ (line-of-text 66 headRanges ns rest (omega arith) (h .within)) ∙ pick-yes _ _ _ (lt-ltb _ _ (h .source-below))
 
-pub header-only : (ns s rest : List ℕ) → header s ≡ got ns rest → Printed (lineText 66 ns) (Heading ns) s rest
+pub header-only : (ns s rest : List ℕ) → header s ≡ got ns rest → StoodAs (lineText 66 ns) (Heading ns) s rest
 unfolding header
 header-only ns s rest h =
     parts (line 66 headRanges s) _ h λ ns1 s1 e1 h1.

@@ -27,20 +27,20 @@ sets-append [] l ys i = rw add-zero
 sets-append (x ∷ xs) l ys i = sets-append xs (set l i x) ys (suc i) ∙ (let e : suc i + length xs ≡ i + suc (length xs) = omega arith in rw e)
 
 -- what is left of a text that is written from a place on: its length, and what the buffer comes to
-pub record Left (buf total : List ℕ) (to end : ℕ) (rest : List ℕ) : Type 0 where
+pub record TextLeft (buf total : List ℕ) (to end : ℕ) (rest : List ℕ) : Type 0 where
   pub size : to + length rest ≡ end
   pub gives : sets buf to rest ≡ total
 
 -- a part of it is written
-pub left-part : {buf total : List ℕ} {to end : ℕ} (part rest next : List ℕ) (after : ℕ) → Left buf total to end (part ++ rest)
-    → next ≡ sets buf to part → after ≡ to + length part → Left next total after end rest
+pub left-part : {buf total : List ℕ} {to end : ℕ} (part rest next : List ℕ) (after : ℕ) → TextLeft buf total to end (part ++ rest)
+    → next ≡ sets buf to part → after ≡ to + length part → TextLeft next total after end rest
 left-part {buf} {total} {to} part rest next after l e p = record {
   size = omega (arith, l .size, length-append part rest);
   gives = rw (e, p) (sym (sets-append part buf rest to) ∙ l .gives);
 }
 
 -- nothing is left
-pub left-none : {buf total : List ℕ} {to end : ℕ} → Left buf total to end [] → (to ≡ end) × (buf ≡ total)
+pub left-none : {buf total : List ℕ} {to end : ℕ} → TextLeft buf total to end [] → (to ≡ end) × (buf ≡ total)
 left-none l = (omega (arith, l .size), l .gives)
 
 -- one number of a line, with its end
@@ -68,27 +68,27 @@ unfolding lineText
 line-length x at vs = omega arith
 
 -- one round of the line's loop, from what the code knows
-pub line-turned : (values : List ℕ) (i : ℕ) → i < length values → {buf total : List ℕ} {to end : ℕ} → Left buf total to end (numbersText (drop i values))
+pub line-turned : (values : List ℕ) (i : ℕ) → i < length values → {buf total : List ℕ} {to end : ℕ} → TextLeft buf total to end (numbersText (drop i values))
     → (b1 b2 : List ℕ) (p e : ℕ) → b1 ≡ sets buf to (decimal (getD values i 0)) → p ≡ to + length (decimal (getD values i 0))
-    → e ≡ pick (ltb 0 (length values - i - 1)) 44 10 → b2 ≡ set b1 p e → Left b2 total (p + 1) end (numbersText (drop (i + 1) values))
+    → e ≡ pick (ltb 0 (length values - i - 1)) 44 10 → b2 ≡ set b1 p e → TextLeft b2 total (p + 1) end (numbersText (drop (i + 1) values))
 line-turned values i h {buf} {total} {to} {end} l b1 b2 p e e1 e0 en e2 =
-    let whole : Left buf total to end (decimal (getD values i 0) ++ (e ∷ numbersText (drop (suc i) values))) = rw (en, ← numbers-cut values i h) l in
+    let whole : TextLeft buf total to end (decimal (getD values i 0) ++ (e ∷ numbersText (drop (suc i) values))) = rw (en, ← numbers-cut values i h) l in
     let digits = left-part (decimal (getD values i 0)) (e ∷ numbersText (drop (suc i) values)) b1 p whole e1 e0 in
     rw (add-one i) (left-part (e ∷ []) (numbersText (drop (suc i) values)) b2 (p + 1) digits e2 refl)
 
-pub line-done : (values : List ℕ) (i : ℕ) → length values ≤ i → {buf total : List ℕ} {to end : ℕ} → Left buf total to end (numbersText (drop i values))
+pub line-done : (values : List ℕ) (i : ℕ) → length values ≤ i → {buf total : List ℕ} {to end : ℕ} → TextLeft buf total to end (numbersText (drop i values))
     → (to ≡ end) × (buf ≡ total)
 unfolding numbersText
 line-done values i h l = left-none (rw (drop-of-length-le values h) at l)
 
 -- one round of a loop over lines: vs are the numbers of its row
-pub lines-turned : (x : ℕ) (row : ℕ → List ℕ) (n i : ℕ) → i < n → {buf total : List ℕ} {to end : ℕ} → Left buf total to end (linesText x row i (n - i))
+pub lines-turned : (x : ℕ) (row : ℕ → List ℕ) (n i : ℕ) → i < n → {buf total : List ℕ} {to end : ℕ} → TextLeft buf total to end (linesText x row i (n - i))
     → (vs b : List ℕ) (p : ℕ) → vs ≡ row i → b ≡ sets buf to (lineText x vs) → p ≡ to + length (lineText x vs)
-    → Left b total p end (linesText x row (i + 1) (n - (i + 1)))
+    → TextLeft b total p end (linesText x row (i + 1) (n - (i + 1)))
 lines-turned x row n i h l vs b p v e q =
     left-part (lineText x (row i)) (linesText x row (i + 1) (n - (i + 1))) b p (rw (lines-cut x row n i h) at l) (rw v at e) (rw v at q)
 
-pub lines-done : (x : ℕ) (row : ℕ → List ℕ) (n i : ℕ) → n ≤ i → {buf total : List ℕ} {to end : ℕ} → Left buf total to end (linesText x row i (n - i))
+pub lines-done : (x : ℕ) (row : ℕ → List ℕ) (n i : ℕ) → n ≤ i → {buf total : List ℕ} {to end : ℕ} → TextLeft buf total to end (linesText x row i (n - i))
     → (to ≡ end) × (buf ≡ total)
 lines-done x row n i h l = left-none (rw (lines-none x row n i h) at l)
 
@@ -102,7 +102,7 @@ module _ (net : Network) (buf b1 b2 b3 : List ℕ) (p1 p2 p3 : ℕ) where
   text-written q1 e1 q2 e2 q3 e3 =
       let edges = linesText 67 (edgeRow net) 0 (net .edges) in
       let terminals = linesText 87 (terminalRow net) 0 (net .terminals) in
-      let l0 : Left buf (sets buf 0 (textOf net)) 0 (length (textOf net)) (textOf net) = record { size = zero-add _; gives = refl } in
+      let l0 : TextLeft buf (sets buf 0 (textOf net)) 0 (length (textOf net)) (textOf net) = record { size = zero-add _; gives = refl } in
       let l1 = left-part (lineText 66 (headRow net)) (edges ++ terminals) b1 p1 l0 e1 q1 in
       let l2 = left-part edges terminals b2 p2 l1 e2 q2 in
       left-none (left-part terminals [] b3 p3 (rw append-nil l2) e3 q3)

@@ -15,7 +15,7 @@ use Rattle.board.specs.Limits.{maxEdges, maxTerminals, maxMoves, maxFlow, maxTo
 use Rattle.board.specs.declared.Board.{Board}
 use Rattle.text_rules.specs.Rules.{edgeFits, terminalFits, countsFit, judged, lawful, Lawful}
 use Rattle.text_rules.proofs.Meaning.{lawful-tested}
-use Rattle.graph_flows.specs.Paths.{PositiveEdge, Within, rank}
+use Rattle.graph_flows.specs.Paths.{PositiveEdge, EndsBelow, rank}
 use Rattle.graph_flows.proofs.Rank.{rank-rises}
 use Rattle.graph_flows.proofs.Cut.{flow-most}
 use Rattle.load.specs.Load.{acyclicOf}
@@ -32,7 +32,7 @@ module _ (b : Board) (inv : Invariant b) where
   level = rank (b .network .tails) (b .network .heads) (acyclicOf (b .network)) (b .network .vertices)
 
   -- the edges join vertices
-  pub joined : Within (b .network .tails) (b .network .heads) (b .flows) (b .network .vertices)
+  pub joined : EndsBelow (b .network .tails) (b .network .heads) (b .flows) (b .network .vertices)
   joined =
       let w = within (b .network) law in
       record { start = λ g h. w .start g (omega (arith, h, inv .flows-size)); end = λ g h. w .end g (omega (arith, h, inv .flows-size)) }

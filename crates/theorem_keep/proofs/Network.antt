@@ -10,7 +10,7 @@ use Rattle.lists.proofs.Laws.{lt-or-ge}
 use Rattle.board.specs.Limits.{maxFlow}
 use Rattle.board.specs.declared.Network.{Network}
 use Rattle.text_rules.specs.Rules.{demandAt, Lawful}
-use Rattle.graph_flows.specs.Paths.{PositiveEdge, Within, Acyclic, rank}
+use Rattle.graph_flows.specs.Paths.{PositiveEdge, EndsBelow, Acyclic, rank}
 use Rattle.graph_flows.proofs.Source.{none-enters, rank-source}
 use Rattle.graph_flows.proofs.Cancel.{acyclic-length, acyclic-below, acyclic-balance, acyclic-acyclic}
 use Rattle.load.specs.Load.{acyclicOf}
@@ -26,7 +26,7 @@ module _ (net : Network) (law : Lawful net) where
   long-heads = law .heads-size ∙ sym (law .flows-size)
 
   -- a place past the edges holds 0, which is a vertex
-  pub within : Within (net .tails) (net .heads) (net .flows) (net .vertices)
+  pub within : EndsBelow (net .tails) (net .heads) (net .flows) (net .vertices)
   within = record { start = λ e h. tail e (lt-or-ge e (net .edges)); end = λ e h. head e (lt-or-ge e (net .edges)) }
     where
       tail : (e : ℕ) → (e < net .edges) ⊎ (net .edges ≤ e) → getD (net .tails) e 0 < net .vertices
@@ -59,7 +59,7 @@ module _ (net : Network) (law : Lawful net) where
   pub long-acyclic : length (acyclicOf net) ≡ length (net .flows)
   long-acyclic = acyclic-length (net .tails) (net .heads) (net .flows) (net .vertices) within long-tails long-heads
 
-  pub within-acyclic : Within (net .tails) (net .heads) (acyclicOf net) (net .vertices)
+  pub within-acyclic : EndsBelow (net .tails) (net .heads) (acyclicOf net) (net .vertices)
   within-acyclic = record { start = λ e h. within .start e (omega (arith, long-acyclic)); end = λ e h. within .end e (omega (arith, long-acyclic)) }
 
   pub source-unentered : (a : ℕ) → PositiveEdge (net .tails) (net .heads) (acyclicOf net) a (net .source) → ⊥

@@ -16,7 +16,7 @@ use Rattle.lists.proofs.Laws.{above-inside, Known, was-true, was-false, known, 
 use Rattle.lists.proofs.Lowest.{lowest-least, lowest-found}
 use Rattle.lists.proofs.Pigeon.{has-nothing, has-here, has-later, has-cases, pigeon}
 use Rattle.move_edges.specs.Singular.{leaves, leaving, straight}
-use Rattle.graph_flows.specs.Paths.{PositiveEdge, Path, here, on, OneLeaves, Unparted, Within}
+use Rattle.graph_flows.specs.Paths.{PositiveEdge, Path, here, on, OneLeaves, Unparted, EndsBelow}
 use Rattle.graph_flows.proofs.Reach.{path-first}
 
 -- ---- the edges that leave one vertex
@@ -97,7 +97,7 @@ module _ (tails heads flows : List ℕ) where
 
   -- ---- the vertices that the test leaves
 
-  module _ (n v : ℕ) (inside : Within tails heads flows n) where
+  module _ (n v : ℕ) (inside : EndsBelow tails heads flows n) where
     -- a set with v that no positive edge leads out of
     record Shut : Type 0 where
       set : List ℕ
@@ -192,7 +192,7 @@ module _ (tails heads flows : List ℕ) where
     stays-in s here = s .begin
     stays-in s (on {b = b} p d) = rw (← d .end) (s .stays b (d .edge) (stays-in s p) (record { start = d .start; above = d .above }))
 
-  pub straight-unparted : (n v : ℕ) → Within tails heads flows n → v < n → straight tails heads flows n v ≡ true → Unparted tails heads flows v
+  pub straight-unparted : (n v : ℕ) → EndsBelow tails heads flows n → v < n → straight tails heads flows n v ≡ true → Unparted tails heads flows v
   straight-unparted n v inside h t u p = let s = shut n v inside h t in s .one u (stays-in n v inside s p)
 
   -- ---- and back

@@ -17,7 +17,7 @@ use Rattle.move_guard.specs.Parts.{flow, tail, head, marked, demand, place}
 use Rattle.text_rules.specs.Rules.{Lawful}
 use Rattle.move_carry.specs.Opens.{someOpen}
 use Rattle.graph_flows.specs.Paths.{Path, here, on, First, Acyclic}
-use Rattle.graph_flows.proofs.Sums.{Entry, sum-entry, entry-within, sum-set, keyed-cases}
+use Rattle.graph_flows.proofs.Sums.{KeyedEntry, sum-entry, entry-within, sum-set, keyed-cases}
 use Rattle.graph_flows.proofs.Source.{fed}
 use Rattle.graph_flows.proofs.Walk.{path-cases}
 use Rattle.load.specs.Load.{acyclicOf}
@@ -67,7 +67,7 @@ beside ks xs v x h g q = go (lt-or-ge 0 (sumAt ks (set xs x 0) v))
     rest : sumAt ks (set xs x 0) v + keyed (getD ks x 0) v (getD xs x 0) ≡ sumAt ks xs v + keyed (getD ks x 0) v 0
     rest = sum-set ks xs x 0 v h g
 
-    differs : (w : Entry ks (set xs x 0) v) → w .e ≢ x
+    differs : (w : KeyedEntry ks (set xs x 0) v) → w .e ≢ x
     differs w p = let low : 0 < getD (set xs x 0) x 0 = rw p at (w .above) in omega (arith, low, getD-set-same xs x 0 0 g)
 
     go : (0 < sumAt ks (set xs x 0) v) ⊎ (sumAt ks (set xs x 0) v ≤ 0) → Beside ks xs v x
@@ -234,7 +234,7 @@ module _ (b : Board) (inv : Invariant b) where
         need = omega (arith, inv .balance v h n, no-outflow)
 
         -- so a terminal is there
-        some : Entry (b .places) (b .network .demands) v
+        some : KeyedEntry (b .places) (b .network .demands) v
         some = sum-entry (b .places) (b .network .demands) v (omega (arith, need, in-at-least v x l, l .above))
 
         go : Beside (b .network .heads) (b .flows) v x → Other b v x

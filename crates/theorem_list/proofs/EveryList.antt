@@ -28,8 +28,8 @@ use Rattle.theorem_list.specs.Faithful.{Faithful}
 use Rattle.theorem_list.proofs.Finish.{finish-completes, hint-taken}
 use Rattle.theorem_list.proofs.Stands.{
   AcceptedMove,
-  carry-accepted,
-  turn-accepted,
+  carry-move-accepted,
+  turn-move-accepted,
   without-last,
   afresh-more,
   afresh-network,
@@ -69,7 +69,7 @@ module _ (text : List ℕ) (ms : List Call) (s : Stands text ms) where
   same-carry i e st = go (eq-or-ne (carryRefusal (afresh text ms) i e) 0)
     where
       go : (carryRefusal (afresh text ms) i e ≡ 0) ⊎ (carryRefusal (afresh text ms) i e ≢ 0) → Same text ms (carry i e)
-      go (inl h) = joins (carry i e) (carry-accepted (afresh text ms) i e st h) h (pick-yes _ _ _ (eq-eqb _ 0 h))
+      go (inl h) = joins (carry i e) (carry-move-accepted (afresh text ms) i e st h) h (pick-yes _ _ _ (eq-eqb _ 0 h))
       go (inr n) = leaves (carry i e) (answered-no _ (afresh text ms) (carried (afresh text ms) i e) n) (pick-no _ _ _ (ne-eqb _ 0 n))
 
   same-turn : (w : List ℕ) → Standing (afresh text ms) → Same text ms (turn w)
@@ -77,7 +77,7 @@ module _ (text : List ℕ) (ms : List Call) (s : Stands text ms) where
   same-turn w st = go (eq-or-ne (turnRefusal (afresh text ms) (stepsOf w)) 0)
     where
       go : (turnRefusal (afresh text ms) (stepsOf w) ≡ 0) ⊎ (turnRefusal (afresh text ms) (stepsOf w) ≢ 0) → Same text ms (turn w)
-      go (inl h) = joins (turn w) (turn-accepted (afresh text ms) w st h) h (pick-yes _ _ _ (eq-eqb _ 0 h))
+      go (inl h) = joins (turn w) (turn-move-accepted (afresh text ms) w st h) h (pick-yes _ _ _ (eq-eqb _ 0 h))
       go (inr n) = leaves (turn w) (answered-no _ (afresh text ms) (turned (afresh text ms) (stepsOf w)) n) (pick-no _ _ _ (ne-eqb _ 0 n))
 
   -- a hint that is taken

@@ -23,7 +23,7 @@ use Rattle.theorem_keep.proofs.Single.{Leaves, leaves-so, so-leaves, leaves-ins
 use Rattle.theorem_keep.proofs.TurnedMarks.{positive-inside}
 use Rattle.theorem_keep.proofs.Turnable.{Turnable}
 use Rattle.theorem_list.proofs.Degrees.{fed-vertex, second, starts}
-use Rattle.theorem_list.proofs.Walks.{Rich, Found, found}
+use Rattle.theorem_list.proofs.Walks.{Rich, FoundCycle, found}
 
 -- ---- the lowest positive edge other than x with this end at v
 
@@ -76,7 +76,7 @@ module _ (b : Board) (inv : Invariant b) where
       second = λ v x h off none l. let d = second b inv shut v x h off none l in (d .edge, d .enters, d .differs);
     }
 
-    cycle-found : Found (b .network .tails) (b .network .heads) (b .flows) (another (b .network .tails) (b .flows)) (another (b .network .heads) (b .flows))
+    cycle-found : FoundCycle (b .network .tails) (b .network .heads) (b .flows) (another (b .network .tails) (b .flows)) (another (b .network .heads) (b .flows))
         (b .network .vertices) (b .network .source) (nextCycle b)
     unfolding nextCycle cycleOf
     cycle-found =

@@ -54,9 +54,9 @@ module _ (b : Board) (i e : ℕ) (st : Standing b) (h : carryRefusal b i e ≡ 0
       go (inl q) = rw (pick-yes (eqb i k) (e ∷ []) [] (eq-eqb i k q), ← q) (route-moved b i e carry-fits)
       go (inr n) = rw (pick-no (eqb i k) (e ∷ []) [] (ne-eqb i k n)) (route-kept b i e carry-fits k (λ q. n (sym q)))
 
-  pub carry-accepted : AcceptedMove b (carry i e)
+  pub carry-move-accepted : AcceptedMove b (carry i e)
   unfolding carryCall
-  carry-accepted = record {
+  carry-move-accepted = record {
     called = answered-yes (carryRefusal b i e) b (carried b i e) h;
     back = carry-undone b i e st h;
     standing = carry-standing b i e st h;
@@ -64,9 +64,9 @@ module _ (b : Board) (i e : ℕ) (st : Standing b) (h : carryRefusal b i e ≡ 0
     routes = carry-routes;
   }
 
-pub turn-accepted : (b : Board) (s : List ℕ) → Standing b → turnRefusal b (stepsOf s) ≡ 0 → AcceptedMove b (turn s)
+pub turn-move-accepted : (b : Board) (s : List ℕ) → Standing b → turnRefusal b (stepsOf s) ≡ 0 → AcceptedMove b (turn s)
 unfolding turnCall turned
-turn-accepted b s st h = record {
+turn-move-accepted b s st h = record {
   called = answered-yes (turnRefusal b (stepsOf s)) b (turned b (stepsOf s)) h;
   back = turn-undone b (stepsOf s) st h;
   standing = turn-standing b (stepsOf s) st h;

@@ -203,7 +203,7 @@ module _ (tails heads flows : List ℕ) (falls rises : ℕ → ℕ → ℕ) (n s
         → (d : ℕ) × Leaves heads flows v d × (d ≢ x)
 
   -- a cycle of positive edges, that climbs only where nothing parts
-  pub record Found (w : List Step) : Type 0 where
+  pub record FoundCycle (w : List Step) : Type 0 where
     pub closed : Closed tails heads w
     pub above : (s : Step) → In s w → 0 < getD flows (edgeOf s) 0
     pub climbs : (e : ℕ) → In (up e) w → Unparted tails heads flows (getD heads e 0)
@@ -230,7 +230,7 @@ module _ (tails heads flows : List ℕ) (falls rises : ℕ → ℕ → ℕ) (n s
     newest : has v (startsOf tails heads w) ≡ false → (e : ℕ) → has e (edgesOf w) ≡ true → Touches tails heads e v → e ≡ x
 
   -- v was met before: the steps since then are a cycle
-  closes : (k : ℕ) (w : List Step) (x v : ℕ) → Going k w x v → firstMet tails heads w v < length w → Found (drop (firstMet tails heads w v) w)
+  closes : (k : ℕ) (w : List Step) (x v : ℕ) → Going k w x v → firstMet tails heads w v < length w → FoundCycle (drop (firstMet tails heads w v) w)
   closes k w x v g h =
       let i = firstMet tails heads w v in
       record {
@@ -382,10 +382,10 @@ module _ (tails heads flows : List ℕ) (falls rises : ℕ → ℕ → ℕ) (n s
 
     -- the walk from v on finds a cycle
     abbrev Downward : ℕ → List Step → ℕ → ℕ → Type 0
-    Downward k w x v = Found (downWalk tails heads flows falls rises k w x v)
+    Downward k w x v = FoundCycle (downWalk tails heads flows falls rises k w x v)
 
     abbrev Upward : ℕ → List Step → ℕ → ℕ → Type 0
-    Upward k w x v = Found (upWalk tails heads flows falls rises k w x v)
+    Upward k w x v = FoundCycle (upWalk tails heads flows falls rises k w x v)
 
     -- and after one step more
     abbrev OnDown : ℕ → List Step → ℕ → ℕ → Type 0
@@ -466,5 +466,5 @@ module _ (tails heads flows : List ℕ) (falls rises : ℕ → ℕ → ℕ) (n s
     }
 
   -- the walk from the source, with n vertices not yet met
-  pub found : Rich → Found (downWalk tails heads flows falls rises n [] (length flows) source)
+  pub found : Rich → FoundCycle (downWalk tails heads flows falls rises n [] (length flows) source)
   found r = down-found r n [] (length flows) source (begin r) (inl (refl, refl))

@@ -6,7 +6,7 @@ use native.Mathlib.Omega.{arith}
 use lib.ListN.{length}
 use lib.Seq.{sets, length-sets}
 use Rattle.text.specs.Text.{linesText}
-use Rattle.text_writer.proofs.Writing.{Left, lines-turned, lines-done}
+use Rattle.text_writer.proofs.Writing.{TextLeft, lines-turned, lines-done}
 use Rattle.catalog.specs.Catalog.{tableRow}
 use Rattle.catalog.proofs.Laws.{row-fits, row-part, row-length}
 use Rattle.catalog.proofs.put_rows.Statement.{statement}
@@ -15,7 +15,7 @@ use Rattle.catalog.proofs.put_rows.Tie as tie
 abbrev Inv-loop : tie.InvT-loop
 Inv-loop buf₀ at letter t width count to₀ i₀ buf to i =
     (i ≤ count) × (to ≤ at + 46 * i)
-    × Left buf (sets buf₀ at (linesText letter (tableRow width t) 0 count)) to (at + length (linesText letter (tableRow width t) 0 count))
+    × TextLeft buf (sets buf₀ at (linesText letter (tableRow width t) 0 count)) to (at + length (linesText letter (tableRow width t) 0 count))
     (linesText letter (tableRow width t) i (count - i))
 
 abbrev μ-loop : tie.MeasureT-loop

@@ -7,12 +7,12 @@ use lib.ListN.{length}
 use lib.Seq.{sets, length-sets}
 use Rattle.decimal.specs.Decimal.{decimal}
 use Rattle.decimal.proofs.Laws.{decimal-length}
-use Rattle.decimal.proofs.Loops.{Left, write-begin, write-turn, write-end}
+use Rattle.decimal.proofs.Loops.{DigitsLeft, write-begin, write-turn, write-end}
 use Rattle.decimal.proofs.write_number.Statement.{statement}
 use Rattle.decimal.proofs.write_number.Tie as tie
 
 abbrev Inv-loop : tie.InvT-loop
-Inv-loop buf₀ at n count left₀ rest₀ buf left rest = (left ≤ 10) × Left buf (sets buf₀ at (decimal n)) at left rest
+Inv-loop buf₀ at n count left₀ rest₀ buf left rest = (left ≤ 10) × DigitsLeft buf (sets buf₀ at (decimal n)) at left rest
 
 abbrev μ-loop : tie.MeasureT-loop
 μ-loop buf₀ at n count left₀ rest₀ buf left rest = left

@@ -4,14 +4,14 @@ use native.Mathlib.Omega.{arith}
 use Rattle.sets.specs.Sets.{setWidth, collect}
 use Rattle.sets.proofs.Scan.{lowest-below, dropped-less}
 use Rattle.move_edges.specs.Marking.{singularBy, isFreshBy}
-use Rattle.move_edges.proofs.Gathering.{lowest-in, Found, found-none, found-turn, found-end}
+use Rattle.move_edges.proofs.Gathering.{lowest-in, FoundOrLeft, found-none, found-turn, found-end}
 use borrow.Author.Needs.{needs}
 use Rattle.move_edges.proofs.fresh_by.Statement.{statement}
 use Rattle.move_edges.proofs.fresh_by.Tie as tie
 
 abbrev Inv-loop : tie.InvT-loop
 Inv-loop heads leaving positive vertices marks marked rest₀ m₀ rest m =
-    (rest < 2 ^ setWidth) × Found (singularBy heads leaving positive vertices) m rest (collect (isFreshBy heads leaving positive vertices marks) 0 0 setWidth)
+    (rest < 2 ^ setWidth) × FoundOrLeft (singularBy heads leaving positive vertices) m rest (collect (isFreshBy heads leaving positive vertices marks) 0 0 setWidth)
 
 abbrev μ-loop : tie.MeasureT-loop
 μ-loop heads leaving positive vertices marks marked rest₀ m₀ rest m = rest

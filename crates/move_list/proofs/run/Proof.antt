@@ -19,7 +19,7 @@ use Rattle.move_undo.proofs.Makes.{undo-small}
 use Rattle.move_list.specs.Calls.{made, plain}
 use Rattle.move_list.specs.Codes.{callOf}
 use Rattle.move_list.proofs.Coded.{all-left, played-end, answers-end, told-end}
-use Rattle.move_list.proofs.Moving.{Sized, Going, going-turn, move-room, move-stored, move-past, move-refused, move-replied}
+use Rattle.move_list.proofs.Moving.{BoardSized, Going, going-turn, move-room, move-stored, move-past, move-refused, move-replied}
 use borrow.Author.Needs.{needs, length-unmapped}
 use Rattle.move_list.proofs.run.Statement.{statement}
 use Rattle.move_list.proofs.run.Tie as tie
@@ -48,7 +48,7 @@ module _ (c : lts.After-and (or-reads.Asked, or-reads.Learnt, minus-reads.Asked,
   abbrev now-board : Board
   now-board = c .before .before .before .before .before .before .before .before .before .before .before .before .before .before .before .loop .b
 
-  now-sized : Sized now-board
+  now-sized : BoardSized now-board
   now-sized = c .before .before .before .before .before .before .before .before .before .before .before .before .before .before .before .loop .inv .6
 
   last-one : c .before .before .if2 .last ≡ lastEntry now-board
@@ -228,7 +228,7 @@ loop-again c =
     let change = w .10 .result in
     let many : length (change .flows) ≡ maxEdges = length-unmapped ℕ (change .flows) maxEdges (w .10 .ok .1 .1 .1 .0 .1 .0 .1) in
     let same : c .if1 .b ≡ b' = w .19 in
-    let stepped : (record { answer = change .answer; board = b' } ≡ made b (callOf steps (kind at-and) (first at-and) (second at-and))) × Sized b' =
+    let stepped : (record { answer = change .answer; board = b' } ≡ made b (callOf steps (kind at-and) (first at-and) (second at-and))) × BoardSized b' =
     ⊎-elim
     (λ v.
     move-stored steps b (kind at-and) (first at-and) (second at-and) _ _ change (plays at-and) (last-one at-and) (moving at-and) (w .10 .ensures) (v .0 .taken) _ (v .4 .ensures) _ (v .5 .ensures) (now-sized at-and) many b' (v .7))
@@ -245,7 +245,7 @@ loop-again c =
     let given = w .1 .result in
     let owned = w .1 .ok .1 .1 .1 .0 in
     let same : c .if1 .b ≡ given .board = w .14 in
-    let new-sized : Sized (given .board) = record {
+    let new-sized : BoardSized (given .board) = record {
       flows = length-unmapped ℕ (given .board .flows) maxEdges (owned .1 .1 .1 .1 .1 .0 .1 .0 .1);
       demands = length-unmapped ℕ (given .board .network .demands) maxTerminals (owned .1 .1 .1 .0 .1 .1 .1 .1 .1 .1 .1 .1 .1 .1 .0 .1 .0 .1);
       journal = sym (length-map (given .board .journal) _) ∙ owned .1 .1 .1 .1 .1 .1 .1 .1 .0 .1 .0 .1;

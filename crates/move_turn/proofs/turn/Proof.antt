@@ -6,7 +6,7 @@ use lib.ListN.{length, set, length-map}
 use lib.Seq.{set-out}
 use Rattle.board.specs.Limits.{maxMoves}
 use Rattle.move_guard.proofs.Facts.{playing-moves}
-use Rattle.move_turn.proofs.Changes.{playing-sound, play-made, made-by, turn-refused, turn-accepted, turn-stored, turn-plays}
+use Rattle.move_turn.proofs.Changes.{playing-sound, play-made, made-by, turn-refused, turn-change-made, turn-stored, turn-plays}
 use borrow.Author.Needs.{needs}
 use Rattle.move_turn.proofs.turn.Statement.{statement}
 use Rattle.move_turn.proofs.turn.Tie as tie
@@ -57,7 +57,7 @@ element-set-from-entry c = c .if2 .taken
 returns : tie.Need-returns
 returns c =
     let made = made-by (c .before .before .before .before .before .before .before .before .before .before .before .before .before .before .before .before .before .before .args .board) (now (c .before .before .before .before .before .before .before .before .before .before .before .before .before .before .before .before .before .before .args .steps)) _ _ _ _ _ (c .before .before .before .before .before .before .before .before .before .before .before .before .last-place .ensures .1) (c .before .before .before .before .before .before .before .before .before .before .intact-in .ensures) (c .before .before .before .before .before .before .before .before .before .and .ensures) (c .before .before .before .before .before .before .some-open-in .ensures) (c .before .before .before .before .before .change .ensures) in
-    turn-accepted _ _ _ made (c .before .before .before .if1 .taken)
+    turn-change-made _ _ _ made (c .before .before .before .if1 .taken)
 
 returns-2 : tie.Need-returns-2
 returns-2 c =

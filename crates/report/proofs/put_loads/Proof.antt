@@ -9,7 +9,7 @@ use borrow.Author.Needs.{needs}
 use lib.ListN.{length, getD}
 use lib.Seq.{sets, length-sets}
 use Rattle.text.specs.Text.{linesText}
-use Rattle.text_writer.proofs.Writing.{Left, lines-turned, lines-done}
+use Rattle.text_writer.proofs.Writing.{TextLeft, lines-turned, lines-done}
 use Rattle.report.proofs.Rows.{setLoadRow, set-lines}
 use Rattle.report.proofs.put_loads.Statement.{statement}
 use Rattle.report.proofs.put_loads.Tie as tie
@@ -17,7 +17,7 @@ use Rattle.report.proofs.put_loads.Tie as tie
 abbrev Inv-loop : tie.InvT-loop
 Inv-loop buf₀ at edges terminals flows demands routes to₀ e₀ buf to e =
     (e ≤ edges) × (to ≤ at + 35 * e)
-    × Left buf (sets buf₀ at (linesText 76 (setLoadRow flows demands routes terminals) 0 edges)) to (at + length (linesText 76 (setLoadRow flows demands routes terminals) 0 edges))
+    × TextLeft buf (sets buf₀ at (linesText 76 (setLoadRow flows demands routes terminals) 0 edges)) to (at + length (linesText 76 (setLoadRow flows demands routes terminals) 0 edges))
     (linesText 76 (setLoadRow flows demands routes terminals) e (edges - e))
 
 abbrev μ-loop : tie.MeasureT-loop

@@ -7,7 +7,7 @@ use borrow.Author.Needs.{needs}
 use lib.ListN.{length}
 use lib.Seq.{sets, length-sets}
 use Rattle.text.specs.Text.{linesText}
-use Rattle.text_writer.proofs.Writing.{Left, lines-turned, lines-done}
+use Rattle.text_writer.proofs.Writing.{TextLeft, lines-turned, lines-done}
 use Rattle.report.specs.Rows.{tableRouteRow}
 use Rattle.report.proofs.put_routes.Statement.{statement}
 use Rattle.report.proofs.put_routes.Tie as tie
@@ -15,7 +15,7 @@ use Rattle.report.proofs.put_routes.Tie as tie
 abbrev Inv-loop : tie.InvT-loop
 Inv-loop buf₀ at terminals counts rows to₀ i₀ buf to i =
     (i ≤ terminals) × (to ≤ at + 376 * i)
-    × Left buf (sets buf₀ at (linesText 77 (tableRouteRow counts rows) 0 terminals)) to (at + length (linesText 77 (tableRouteRow counts rows) 0 terminals))
+    × TextLeft buf (sets buf₀ at (linesText 77 (tableRouteRow counts rows) 0 terminals)) to (at + length (linesText 77 (tableRouteRow counts rows) 0 terminals))
     (linesText 77 (tableRouteRow counts rows) i (terminals - i))
 
 abbrev μ-loop : tie.MeasureT-loop

@@ -6,12 +6,12 @@ use native.Mathlib.Omega.{arith}
 use lib.ListN.{length}
 use borrow.Author.Needs.{needs}
 use Rattle.lists.proofs.Laws.{pick-yes}
-use Rattle.report_routes.proofs.Loops.{Passed, set-start, set-turn, set-end}
+use Rattle.report_routes.proofs.Loops.{EdgesPassed, set-start, set-turn, set-end}
 use Rattle.report_routes.proofs.edge_set.Statement.{statement}
 use Rattle.report_routes.proofs.edge_set.Tie as tie
 
 abbrev Inv-loop : tie.InvT-loop
-Inv-loop edges set₀ i₀ set i = Passed edges i set
+Inv-loop edges set₀ i₀ set i = EdgesPassed edges i set
 
 abbrev μ-loop : tie.MeasureT-loop
 μ-loop edges set₀ i₀ set i = length edges - i

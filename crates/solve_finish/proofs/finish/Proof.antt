@@ -13,7 +13,7 @@ use Rattle.board.specs.declared.Board.{Board}
 use Rattle.move_guard.specs.Guard.{playing}
 use Rattle.move_guard.proofs.Facts.{playing-moves}
 use Rattle.move_guard.proofs.Parts.{last-read, in-play}
-use Rattle.solve_finish.specs.Run.{Sized}
+use Rattle.solve_finish.specs.Run.{PartsSized}
 use Rattle.solve_finish.proofs.Stepping.{finish-closed}
 use Rattle.solve_finish.proofs.Running.{Run, Next, run-starts, run-plays, run-refused, run-made, run-stuck, run-over, journal-past, left-less}
 use Rattle.solve_finish.proofs.finish.Statement.{statement}
@@ -99,7 +99,7 @@ starts c =
     let lists = network .0 .1 .1 .1 .1 .1 .1 in
     let long : length (board .flows) ≡ maxEdges = search needs in
     let short : length (board .places) ≡ maxTerminals = search needs in
-    let sized : Sized (board .network) = record {
+    let sized : PartsSized (board .network) = record {
       tails = length-unmapped ℕ (board .network .tails) maxEdges (lists .0 .1 .0 .1);
       heads = length-unmapped ℕ (board .network .heads) maxEdges (lists .1 .0 .1 .0 .1);
       demands = length-unmapped ℕ (board .network .demands) maxTerminals (lists .1 .1 .1 .1 .0 .1 .0 .1);

@@ -5,14 +5,14 @@ use native.Mathlib.Omega.{arith}
 use lib.ListN.{length, drop}
 use lib.Seq.{sets, length-sets}
 use Rattle.text.specs.Text.{numbersText}
-use Rattle.text_writer.proofs.Writing.{Left, line-begun, line-length, line-turned, line-done}
+use Rattle.text_writer.proofs.Writing.{TextLeft, line-begun, line-length, line-turned, line-done}
 use Rattle.text_writer.proofs.put_line.Statement.{statement}
 use Rattle.text_writer.proofs.put_line.Tie as tie
 
 abbrev Inv-loop : tie.InvT-loop
 Inv-loop buf₀ at letter values count to₀ i₀ buf to i =
     (i ≤ length values) × (to ≤ at + 2 + 11 * i)
-    × Left buf (sets buf₀ (at + 2) (numbersText values)) to (at + 2 + length (numbersText values)) (numbersText (drop i values))
+    × TextLeft buf (sets buf₀ (at + 2) (numbersText values)) to (at + 2 + length (numbersText values)) (numbersText (drop i values))
 
 abbrev μ-loop : tie.MeasureT-loop
 μ-loop buf₀ at letter values count to₀ i₀ buf to i = length values - i

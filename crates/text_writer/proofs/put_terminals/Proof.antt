@@ -7,14 +7,14 @@ use borrow.Author.Needs.{needs}
 use lib.ListN.{length}
 use lib.Seq.{sets, length-sets}
 use Rattle.text.specs.Text.{terminalRow, linesText}
-use Rattle.text_writer.proofs.Writing.{Left, lines-turned, lines-done}
+use Rattle.text_writer.proofs.Writing.{TextLeft, lines-turned, lines-done}
 use Rattle.text_writer.proofs.put_terminals.Statement.{statement}
 use Rattle.text_writer.proofs.put_terminals.Tie as tie
 
 abbrev Inv-loop : tie.InvT-loop
 Inv-loop buf₀ at net terminals to₀ j₀ buf to j =
     (j ≤ terminals) × (to ≤ at + 50 * j)
-    × Left buf (sets buf₀ at (linesText 87 (terminalRow net) 0 terminals)) to (at + length (linesText 87 (terminalRow net) 0 terminals))
+    × TextLeft buf (sets buf₀ at (linesText 87 (terminalRow net) 0 terminals)) to (at + length (linesText 87 (terminalRow net) 0 terminals))
     (linesText 87 (terminalRow net) j (terminals - j))
 
 abbrev μ-loop : tie.MeasureT-loop
