@@ -22,7 +22,7 @@ use Rattle.play_lines.specs.Orders.{onto, fieldsOf, orderOf}
 use Rattle.play_lines.specs.Scans.{noPiece, pieceTaken, nothingRead, numbered, begun, wayTaken, withStep, formTaken, noScan, scanTaken, scanAll, scanned, isBlank, StandsFor}
 use Rattle.play_lines.proofs.Pieces.{Reads, reads-none, reads-next}
 use Rattle.play_lines.proofs.Shapes.{Shape, begin, orderFrom, shapeTaken, shape-step}
-use Rattle.play_lines.proofs.FollowsShape.{FollowsShape, follows-next, follows-end}
+use Rattle.play_lines.proofs.Follows.{FollowsShape, follows-next, follows-end}
 
 -- bytes in front of the first field
 abbrev into : List ℕ → List (List ℕ) → List (List ℕ)
