@@ -1,4 +1,4 @@
--- `serving::print_part` is safe and ends: the part that is printed lies within the buffer, as the code has tested.
+-- `descriptors::print_part` is safe and ends: the part that is printed lies within the buffer, as the code has tested.
 use mathlib.Core.Path.{sym}
 use native.Mathlib.Omega.{arith}
 use lib.Seq.{length-take-le}

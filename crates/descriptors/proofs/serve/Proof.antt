@@ -1,4 +1,4 @@
--- `serving::serve` is safe and ends: a piece takes a byte at least, and no more bytes than there are.
+-- `descriptors::serve` is safe and ends: a piece takes a byte at least, and no more bytes than there are.
 use Prim.Native.Nat.{_-_, _≤_}
 use native.Mathlib.Omega.{arith}
 use lib.ListN.{length, drop, length-take, length-drop}

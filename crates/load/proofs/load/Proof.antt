@@ -1,4 +1,4 @@
--- `loader::load` meets its contract: each branch gives what `loadText` picks at the reader's answer.
+-- `load::load` meets its contract: each branch gives what `loadText` picks at the reader's answer.
 use Rattle.load.proofs.Loads.{bounded, refused-load, accepted-load}
 use borrow.Author.Needs.{needs}
 use Rattle.load.proofs.load.Statement.{statement}
