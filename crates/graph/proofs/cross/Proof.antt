@@ -1,4 +1,4 @@
--- A zero edge leaves the rows, in the code and in the definition; for a positive one `join` ensures both claims.
+-- A zero edge leaves the bitsets, in the code and in the definition; for a positive one `join` ensures both claims.
 use mathlib.Core.Path.{refl, sym, _∙_}
 use Rattle.graph.proofs.Columns.{crossed, crossed-zero}
 use borrow.Author.Needs.{needs}

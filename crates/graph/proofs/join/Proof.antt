@@ -1,4 +1,4 @@
--- The row stored is the join of both rows; where that is the old row, storing it leaves the rows as they were.
+-- The bitset stored is the join of both; where that is the old one, storing it leaves the bitsets as they were.
 use mathlib.Core.Path.{_∙_}
 use borrow.Author.Tests.{eqb-true, not-false}
 use Rattle.graph.proofs.Columns.{stored-same}

@@ -1,4 +1,4 @@
--- A zero edge and one that leads outside the set change no row; any other joins the row of its tail and no other.
+-- A zero edge and one that leads outside the set change no bitset; any other joins that of its tail and no other.
 use mathlib.Core.Path.{_≡_, refl, sym, ap, _∙_}
 use mathlib.Core.Bool.{false}
 use Prim.Native.Nat.{ℕ}

@@ -1,4 +1,4 @@
--- The lowest number of the row where it is below the count of edges, and else the count: the definition's pick.
+-- The lowest number of the bitset where it is below the count of edges, and else the count: the definition's pick.
 use Rattle.graph.proofs.Onwards.{lowest-taken, lowest-over}
 use borrow.Author.Needs.{needs}
 use Rattle.graph.proofs.lowest_edge.Statement.{statement}

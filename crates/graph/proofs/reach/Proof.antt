@@ -1,4 +1,4 @@
--- Column v starts as v alone and then goes through as many passes as there are rows, and so does `reached`.
+-- Column v starts as v alone and then goes through as many passes as there are bitsets, and so does `reached`.
 use native.Mathlib.Omega.{arith}
 use Rattle.graph.proofs.Loops.{reach-made}
 use borrow.Author.Needs.{needs}

@@ -1,4 +1,4 @@
--- A vertex is first met among the steps or after them all, so `since` takes the count that the search gives.
+-- A vertex is first met among the steps or after them all, so `walk_from` gets the count that the search gives.
 use Rattle.solve_walk.proofs.Walks.{met-most}
 use borrow.Author.Needs.{needs}
 use Rattle.solve_walk.proofs.since_met.Statement.{statement}
