@@ -17,3 +17,4 @@ pub mod TurnBack
 pub mod Potential
 pub mod Gains
 pub mod Standing
+pub mod MarkedEdges

@@ -52,13 +52,13 @@ module _ (b : Board) where
           let rest = both-right _ _ (t .2) in
           record { unmarked = not-true _ (both-left _ _ (t .2)); above = ltb-true _ _ (both-left _ _ rest); single = both-right _ _ rest }
 
-  fresh-of : (e : ℕ) → Fresh b e → hasBit (fresh b) e ≡ true
+  pub fresh-of : (e : ℕ) → Fresh b e → hasBit (fresh b) e ≡ true
   unfolding fresh isFresh
   fresh-of e f =
       collect-new (isFresh b) 0 0 (length (b .flows)) e (omega arith) (omega (arith, above-inside (b .flows) e (f .above)))
       (both-true _ _ (rw (f .unmarked) refl) (both-true _ _ (lt-ltb _ _ (f .above)) (f .single)))
 
-  now-cases : (e : ℕ) → hasBit (marksNow b) e ≡ true → (marked b e ≡ true) ⊎ Fresh b e
+  pub now-cases : (e : ℕ) → hasBit (marksNow b) e ≡ true → (marked b e ≡ true) ⊎ Fresh b e
   unfolding either
   now-cases e h = go (known (marked b e))
     where
@@ -66,7 +66,7 @@ module _ (b : Board) where
       go (was-true t) = inl t
       go (was-false t) = inr (fresh-facts e (rw t at (sym (has-joined (b .marks) (fresh b) e) ∙ h)))
 
-  now-old : (e : ℕ) → marked b e ≡ true → hasBit (marksNow b) e ≡ true
+  pub now-old : (e : ℕ) → marked b e ≡ true → hasBit (marksNow b) e ≡ true
   unfolding either
   now-old e t = has-joined (b .marks) (fresh b) e ∙ rw t refl
 
@@ -105,7 +105,7 @@ module _ (b : Board) (inv : Invariant b) where
       straight-unparted (b .network .tails) (b .network .heads) (b .flows) (b .network .vertices) (head b e) (joined b inv)
       (inv .lawful .head e (positive-inside e (f .above))) (f .single)
 
-  unparted-single : (e : ℕ) → Unpartedly (head b e) → singular b e ≡ true
+  pub unparted-single : (e : ℕ) → Unpartedly (head b e) → singular b e ≡ true
   unfolding singular
   unparted-single e u = unparted-straight (b .network .tails) (b .network .heads) (b .flows) (b .network .vertices) (head b e) u
 

@@ -123,7 +123,7 @@ module _ (b : Board) (inv : Invariant b) where
       let g : e < length (b .flows) = above-inside (b .flows) e (l .above) in
       entry-within (b .network .tails) (b .flows) v e (omega (arith, g, tails-long b inv)) g (l .start)
 
-  in-at-least : (v e : ℕ) → Leaves (b .network .heads) (b .flows) v e → flow b e ≤ sumAt (b .network .heads) (b .flows) v
+  pub in-at-least : (v e : ℕ) → Leaves (b .network .heads) (b .flows) v e → flow b e ≤ sumAt (b .network .heads) (b .flows) v
   in-at-least v e l =
       let g : e < length (b .flows) = above-inside (b .flows) e (l .above) in
       entry-within (b .network .heads) (b .flows) v e (omega (arith, g, heads-long b inv)) g (l .start)
@@ -175,7 +175,7 @@ module _ (b : Board) (inv : Invariant b) where
   -- ---- a second edge enters
 
   -- a place with a demand above 0 is a terminal's
-  at-terminal : (i v : ℕ) → place b i ≡ v → 0 < demand b i → At b i v
+  pub at-terminal : (i v : ℕ) → place b i ≡ v → 0 < demand b i → At b i v
   at-terminal i v q h = go (lt-or-ge i (b .network .terminals))
     where
       go : (i < b .network .terminals) ⊎ (b .network .terminals ≤ i) → At b i v

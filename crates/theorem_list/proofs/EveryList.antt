@@ -2,6 +2,7 @@
 -- accepted move joins the list, a refused call and a hint leave board and list, and undo gives the very board that the last standing move was made on. The
 -- rest of the theorem is read off from the standing moves.
 use mathlib.Core.Path.{_≡_, refl, sym, ap, _∙_, subst}
+use mathlib.Core.Bool.{Bool, true, false}
 use mathlib.Core.Logic.{_⊎_, inl, inr, _≢_}
 use mathlib.Core.List.{List, [], _∷_, _++_}
 use Prim.Native.Nat.{ℕ}
@@ -10,10 +11,13 @@ use lib.Dec.{eqb}
 use lib.ListN.{length, length-append}
 use borrow.Author.Tests.{eq-eqb, ne-eqb}
 use Rattle.lists.specs.Choice.{pick}
-use Rattle.lists.proofs.Laws.{eq-or-ne, pick-yes, pick-no}
+use Rattle.lists.specs.Members.{has}
+use Rattle.lists.proofs.Laws.{Known, was-true, was-false, known, eq-or-ne, pick-yes, pick-no}
+use Rattle.lists.proofs.Pigeon.{both-missed}
 use Rattle.board.specs.declared.Board.{Board}
 use Rattle.board.specs.declared.Played.{Played}
 use Rattle.load.specs.Load.{loadText}
+use Rattle.move_guard.specs.Guard.{playing}
 use Rattle.move_guard.proofs.Answers.{answered-no}
 use Rattle.move_carry.specs.Carries.{carryRefusal, carried, carryCall}
 use Rattle.move_cycle.specs.Steps.{stepsOf}
@@ -114,6 +118,29 @@ module _ (text : List ℕ) where
   same-undo ms none f = undo-none f
   same-undo all (more ms c s a q) f = rw q (undo-last ms c s a)
 
+-- a choice between numbers that are not 20 is none
+not-over : (t : Bool) (x y : ℕ) → x ≢ 20 → y ≢ 20 → pick t x y ≢ 20
+not-over t x y p q = go (known t)
+  where
+    go : Known t → pick t x y ≢ 20
+    go (was-true h) = rw (pick-yes t x y h) p
+    go (was-false h) = rw (pick-no t x y h) q
+
+first-test : (t : Bool) (x : ℕ) → t ≡ true → x ≢ 20 → pick t x 20 ≢ 20
+first-test t x h p = rw (pick-yes t x 20 h) p
+
+never-over : (text : List ℕ) (ms : List Call) → playing (afresh text ms) ≡ true → (c : Call) → saysTo text ms c ≢ 20
+unfolding saysTo carryRefusal turnRefusal
+never-over text ms play (carry i e) =
+    first-test _ _ play
+    (not-over _ _ _ (not-over _ _ _ (λ q. omega (arith, q)) (not-over _ _ _ (not-over _ _ _ (λ q. omega (arith, q)) (λ q. omega (arith, q))) (λ q. omega (arith, q)))) (λ q. omega (arith, q)))
+never-over text ms play (turn w) =
+    first-test _ _ play
+    (not-over _ _ _ (not-over _ _ _ (not-over _ _ _ (λ q. omega (arith, q)) (not-over _ _ _ (not-over _ _ _ (λ q. omega (arith, q)) (λ q. omega (arith, q))) (λ q. omega (arith, q))))
+    (λ q. omega (arith, q))) (λ q. omega (arith, q)))
+never-over text ms play undo = not-over _ _ _ (λ q. omega (arith, q)) (λ q. omega (arith, q))
+never-over text ms play hint = λ q. omega (arith, q)
+
 module _ (text : List ℕ) (loads : loadText text .answer ≡ 0) where
   same : (ms : List Call) (c : Call) → Stands text ms → Same text ms c
   same ms (carry i e) s = same-carry text ms s i e (stands-follows text loads ms s .standing)
@@ -136,6 +163,15 @@ module _ (text : List ℕ) (loads : loadText text .answer ≡ 0) where
   unfolding answers says
   same-answers ms [] s = refl
   same-answers ms (c ∷ cs) s = let q = same ms c s in rw (q .board, q .answer, same-answers (standingAfter text ms c) cs (q .stands))
+
+  -- no answer is 20: it is one of the other numbers, since the board is in play
+  none-over : (ms cs : List Call) → Stands text ms → has 20 (says text ms cs) ≡ false
+  unfolding says has
+  none-over ms [] s = refl
+  none-over ms (c ∷ cs) s =
+      let st = stands-follows text loads ms s .standing in
+      both-missed 20 (saysTo text ms c) (says text (standingAfter text ms c) cs) (λ q. never-over text ms (standing-playing (afresh text ms) st) c (sym q))
+      (none-over (standingAfter text ms c) cs (same ms c s .stands))
 
   same-hints : (ms cs : List Call) (hs : List Suggestion) → Stands text ms → HintsKept (afresh text ms) cs hs → HintsKeptBy text ms cs hs
   same-hints ms [] hs s k = k
@@ -165,6 +201,11 @@ module _ (text : List ℕ) (loads : loadText text .answer ≡ 0) where
         routes = f .routes;
         again = sym (f .again);
         moves = f .moves;
+        places = f .standing .inv .journal-size;
+        blanks = f .standing .inv .blanks;
+        accepted-again = f .accepted;
+        in-play = standing-playing (afresh text (standingMoves text [] cs)) (f .standing);
+        none-over = rw (same-answers [] cs none) (none-over [] cs none);
         same-answers = same-answers [] cs none;
         hinted = λ hs k. same-hints [] cs hs none k;
         finish = finish-completes (afresh text (standingMoves text [] cs)) (f .standing);

@@ -4,9 +4,12 @@
 use mathlib.Core.Path.{_≡_, refl, sym, ap, _∙_}
 use mathlib.Core.Bool.{true, false}
 use mathlib.Core.Logic.{_⊎_, inl, inr}
+use mathlib.Core.List.{List}
 use Prim.Native.Nat.{ℕ, zero, suc, _+_, _-_, _<_, _≤_}
 use native.Mathlib.Omega.{arith}
 use lib.Dec.{eqb}
+use lib.ListN.{take}
+use lib.Seq.{take-take, take-set-le}
 use borrow.Author.Tests.{eq-eqb}
 use Rattle.lists.specs.Choice.{either}
 use Rattle.lists.proofs.Laws.{Known, was-true, was-false, known, pick-yes, pick-no}
@@ -16,7 +19,9 @@ use Rattle.board.specs.declared.Network.{Network}
 use Rattle.board.specs.declared.Played.{Played}
 use Rattle.move_guard.specs.Guard.{playing}
 use Rattle.move_guard.proofs.Answers.{answered-yes}
-use Rattle.solve_next.specs.Choosing.{allHome, judge, acted, nextAct}
+use Rattle.move_carry.specs.Carries.{carried}
+use Rattle.move_turn.specs.Turns.{turned}
+use Rattle.solve_next.specs.Choosing.{Act, relocate, augment, allHome, judge, acted, nextAct}
 use Rattle.solve_next.specs.Hints.{hintRefusal}
 use Rattle.solve_finish.specs.declared.Finished.{Finished}
 use Rattle.solve_finish.specs.Finishes.{stepped, steppedOn, playedOut, finishRefusal, ended, finishCall}
@@ -24,13 +29,14 @@ use Rattle.theorem_keep.specs.Bound.{movesBound}
 use Rattle.theorem_keep.specs.Invariant.{Invariant}
 use Rattle.theorem_keep.proofs.Potential.{potential, bound-fits}
 use Rattle.theorem_keep.proofs.Standing.{Standing, standing-playing}
-use Rattle.theorem_list.specs.Complete.{Complete}
+use Rattle.theorem_list.specs.Complete.{SolvedBy, Complete}
 use Rattle.theorem_list.proofs.Ends.{home-facts, ended-simple, ended-below}
 use Rattle.theorem_list.proofs.Acts.{act-standing, act-falls, act-network, act-acyclic, act-moves}
 use Rattle.theorem_list.proofs.Next.{next-accepted}
+use Rattle.theorem_list.proofs.Stops.{all-dry}
 
 -- the board after the solver's move
-abbrev next : Board → Board
+abbrev pub next : Board → Board
 next b = acted b (nextAct b)
 
 -- one step: none is made with every terminal at the source, an accepted move else
@@ -42,11 +48,11 @@ step-made : (b : Board) → allHome b ≡ false → judge b (nextAct b) ≡ 0 �
 unfolding stepped
 step-made b away free = pick-no (allHome b) _ _ away ∙ answered-yes (judge b (nextAct b)) b (next b) free
 
-on-stays : (k : ℕ) (b : Board) → allHome b ≡ true → steppedOn (suc k) b ≡ b
+pub on-stays : (k : ℕ) (b : Board) → allHome b ≡ true → steppedOn (suc k) b ≡ b
 unfolding steppedOn
 on-stays k b all = rw (step-refused b all, steppedOn) refl
 
-on-goes : (k : ℕ) (b : Board) → allHome b ≡ false → judge b (nextAct b) ≡ 0 → steppedOn (suc k) b ≡ steppedOn k (next b)
+pub on-goes : (k : ℕ) (b : Board) → allHome b ≡ false → judge b (nextAct b) ≡ 0 → steppedOn (suc k) b ≡ steppedOn k (next b)
 unfolding steppedOn
 on-goes k b away free =
     let made = step-made b away free in
@@ -88,6 +94,43 @@ out (suc k) b st = go (known (allHome b)) (λ s. out k (next b) s)
         at (inl h) = inl h
         at (inr l) = inr (omega (arith, l, act-falls b (nextAct b) st free))
 
+-- lists that agree on their first n agree on fewer
+shorter : {A : Type 0} (m n : ℕ) (xs ys : List A) → m ≤ n → take n xs ≡ take n ys → take m xs ≡ take m ys
+shorter m n xs ys h q = sym (take-take m n xs h) ∙ ap (take m) q ∙ take-take m n ys h
+
+-- the moves of a finish: how many, and what they keep of the journal
+record Solving (b c : Board) : Type 0 where
+  count : ℕ
+  solved : SolvedBy count b c
+  moves : c .moves ≡ b .moves + count
+  kept : take (b .moves) (c .journal) ≡ take (b .moves) (b .journal)
+
+-- an accepted move keeps the entries of before
+entries-kept : (b : Board) (a : Act) → take (b .moves) (acted b a .journal) ≡ take (b .moves) (b .journal)
+unfolding carried turned
+entries-kept b (relocate i e) = take-set-le (b .moves) (b .journal) (b .moves) _ (omega arith)
+entries-kept b (augment w) = take-set-le (b .moves) (b .journal) (b .moves) _ (omega arith)
+
+solves : (k : ℕ) (b : Board) → Standing b → allHome (steppedOn k b) ≡ true → Solving b (steppedOn k b)
+unfolding steppedOn
+solves zero b st h = record { count = 0; solved = (h, refl); moves = omega arith; kept = refl }
+solves (suc k) b st h = go (known (allHome b)) (λ s t. solves k (next b) s t)
+  where
+    go : Known (allHome b) → (Standing (next b) → allHome (steppedOn k (next b)) ≡ true → Solving (next b) (steppedOn k (next b))) → Solving b (steppedOn (suc k) b)
+    go (was-true t) ih = rw (on-stays k b t) (record { count = 0; solved = (t, refl); moves = omega arith; kept = refl })
+    go (was-false t) ih = rw (on-goes k b t free) (record {
+      count = suc (rest .count);
+      solved = (t, free, rest .solved);
+      moves = omega (arith, rest .moves, act-moves b (nextAct b));
+      kept = shorter (b .moves) (next b .moves) _ _ (omega (arith, act-moves b (nextAct b))) (rest .kept) ∙ entries-kept b (nextAct b);
+    })
+      where
+        free : judge b (nextAct b) ≡ 0
+        free = next-accepted b st t
+
+        rest : Solving (next b) (steppedOn k (next b))
+        rest = ih (act-standing b (nextAct b) st free) (rw (on-goes k b t free) at h)
+
 module _ (b : Board) (st : Standing b) where
   pub over : Out maxMoves b (playedOut b)
   unfolding playedOut
@@ -106,6 +149,10 @@ module _ (b : Board) (st : Standing b) where
       go (was-false t) (inr l) =
           let free : judge (playedOut b) (nextAct (playedOut b)) ≡ 0 = next-accepted (playedOut b) (over .standing) t in
           absurd (omega (arith, l, st .room, fits, act-falls (playedOut b) (nextAct (playedOut b)) (over .standing) free))
+
+  solving : Solving b (playedOut b)
+  unfolding playedOut
+  solving = solves maxMoves b st over-home
 
   finish-taken : finishRefusal b ≡ 0
   unfolding finishRefusal
@@ -127,6 +174,13 @@ module _ (b : Board) (st : Standing b) where
     accepted = refl;
     network = over .network;
     acyclic = over .acyclic;
+    stopped = all-dry (playedOut b) inv over-home;
+    last = playedOut b;
+    solved = rw (count-is) (done .solved);
+    over = refl;
+    kept = done .kept;
+    blanks = inv .blanks;
+    places = inv .journal-size;
     home = λ i h. home-facts (playedOut b) inv over-home i (within i h) ∙ ap (λ (n : Network). n .source) (over .network);
     simple = λ i h. ended-simple (playedOut b) inv (b .moves) over-home i (within i h);
     below = ended-below (playedOut b) inv (b .moves);
@@ -135,6 +189,12 @@ module _ (b : Board) (st : Standing b) where
     room = fits;
   }
     where
+      done : Solving b (playedOut b)
+      done = solving
+
+      count-is : playedOut b .moves - b .moves ≡ done .count
+      count-is = omega (arith, done .moves)
+
       inv : Invariant (playedOut b)
       inv = over .standing .inv
 

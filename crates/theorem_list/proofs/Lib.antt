@@ -4,6 +4,7 @@ pub mod Walks
 pub mod NextCycle
 pub mod Next
 pub mod Ends
+pub mod Stops
 pub mod Acts
 pub mod Finish
 pub mod Stands

@@ -7,7 +7,7 @@ use mathlib.Core.List.{List, [], _∷_, _++_, append-nil, append-assoc}
 use Prim.Native.Nat.{ℕ, _+_, _-_, _<_}
 use native.Mathlib.Omega.{arith}
 use lib.Dec.{eqb}
-use lib.ListN.{length, take, length-append}
+use lib.ListN.{length, take, replicate, length-append}
 use lib.Seq.{take-append-seam}
 use borrow.Author.Tests.{eq-eqb, ne-eqb}
 use Rattle.lists.proofs.Laws.{eq-or-ne, pick-yes, pick-no}
@@ -25,7 +25,7 @@ use Rattle.theorem_keep.proofs.Potential.{bound-fits}
 use Rattle.theorem_keep.proofs.CarriedRoutes.{route-moved, route-kept}
 use Rattle.theorem_keep.proofs.TurnedRoutes.{route-after}
 use Rattle.theorem_keep.proofs.Standing.{Standing, loaded-standing, never-full, carry-standing, carry-undone, turn-standing, turn-undone}
-use Rattle.move_list.specs.Calls.{Call, carry, turn, undo, hint, made, played}
+use Rattle.move_list.specs.Calls.{Call, carry, turn, undo, hint, made, played, answers}
 use Rattle.theorem_list.specs.Player.{listed, listedAll, afresh, goesOver, routeOf}
 
 -- ---- one accepted move c on board b
@@ -123,6 +123,16 @@ unfolding played
 played-more b [] c = refl
 played-more b (m ∷ ms) c = played-more (made b m .board) ms c
 
+answers-more : (b : Board) (ms : List Call) (c : Call) → answers b (ms ++ (c ∷ [])) ≡ answers b ms ++ (made (played b ms) c .answer ∷ [])
+unfolding answers played
+answers-more b [] c = refl
+answers-more b (m ∷ ms) c = ap (λ (l : List ℕ). made b m .answer ∷ l) (answers-more (made b m .board) ms c)
+
+-- a 0 for each of a list, and one more
+zeros-more : (ms : List Call) (c : Call) → _++_ {A = ℕ} (replicate (length ms) 0) (0 ∷ []) ≡ replicate (length (ms ++ (c ∷ []))) 0
+zeros-more [] c = refl
+zeros-more (m ∷ ms) c = ap (λ (l : List ℕ). 0 ∷ l) (zeros-more ms c)
+
 route-more : (i : ℕ) (ms : List Call) (c : Call) → routeOf i (ms ++ (c ∷ [])) ≡ goesOver i c ++ routeOf i ms
 unfolding routeOf
 route-more i [] c = sym (append-nil (goesOver i c))
@@ -139,15 +149,17 @@ pub record Follows (text : List ℕ) (ms : List Call) : Type 0 where
   pub moves : afresh text ms .moves ≡ length ms
   pub routes : (i : ℕ) → route (afresh text ms) i ≡ routeOf i ms
   pub again : played (loadText text .board) ms ≡ afresh text ms
+  pub accepted : answers (loadText text .board) ms ≡ replicate (length ms) 0
 
 module _ (text : List ℕ) (loads : loadText text .answer ≡ 0) where
   follows-none : Follows text []
-  unfolding afresh listedAll played routeOf route routeBy
+  unfolding afresh listedAll played answers routeOf route routeBy
   follows-none = record {
     standing = loaded-standing text loads;
     moves = rw (load-accepted text loads) refl;
     routes = λ i. rw (load-accepted text loads) refl;
     again = refl;
+    accepted = refl;
   }
 
   follows-more : (ms : List Call) (c : Call) → Follows text ms → AcceptedMove (afresh text ms) c → Follows text (ms ++ (c ∷ []))
@@ -160,6 +172,9 @@ module _ (text : List ℕ) (loads : loadText text .answer ≡ 0) where
         ∙ ap (λ (b : Board). made b c .board) (f .again)
         ∙ ap (λ (p : Played). p .board) (a .called)
         ∙ sym (afresh-more text ms c);
+    accepted =
+        let zeroed : made (played (loadText text .board) ms) c .answer ≡ 0 = rw (f .again) (ap (λ (p : Played). p .answer) (a .called)) in
+        answers-more (loadText text .board) ms c ∙ rw (f .accepted, zeroed) (zeros-more ms c);
   }
 
   pub stands-follows : (ms : List Call) → Stands text ms → Follows text ms

@@ -1,15 +1,18 @@
 -- "Finish completes a board when it is accepted and brings every mill to the spring", with simple routes, below the bound and within the moves.
 use mathlib.Core.Path.{_≡_}
-use mathlib.Core.Bool.{true}
+use mathlib.Core.Bool.{true, false}
 use mathlib.Core.List.{List, [], _∷_}
-use Prim.Native.Nat.{ℕ, _+_, _<_, _≤_}
-use lib.ListN.{getD}
+use Prim.Native.Nat.{ℕ, zero, suc, _+_, _<_, _≤_}
+use lib.ListN.{length, getD, take}
 use Rattle.lists.specs.Members.{has, Distinct}
 use Rattle.board.specs.Limits.{maxMoves}
+use Rattle.board.specs.Record.{blank}
 use Rattle.board.specs.declared.Board.{Board}
-use Rattle.move_guard.specs.Parts.{acyclicFlow, place}
+use Rattle.move_guard.specs.Parts.{flow, acyclicFlow, place}
 use Rattle.graph_flows.specs.Trails.{Trail, downs}
+use Rattle.solve_next.specs.Choosing.{allHome, judge, acted, nextAct}
 use Rattle.solve_finish.specs.declared.Finished.{Finished}
+use Rattle.solve_finish.specs.Finishes.{ended}
 use Rattle.report_routes.specs.Routes.{route, load, largest}
 use Rattle.theorem_keep.specs.Bound.{movesBound}
 
@@ -29,6 +32,11 @@ pub record InUse (b : Board) (e : ℕ) : Type 0 where
   pub on-board : terminal < b .network .terminals
   pub holds : has e (route b terminal) ≡ true
 
+-- k moves by the solver's rule, each accepted, lead from b to c, where every terminal is at the source and before which some was away
+abbrev pub SolvedBy : ℕ → Board → Board → Type 0
+SolvedBy zero b c = (allHome b ≡ true) × (b ≡ c)
+SolvedBy (suc k) b c = (allHome b ≡ false) × (judge b (nextAct b) ≡ 0) × SolvedBy k (acted b (nextAct b)) c
+
 -- what finish gave on board b
 pub record Complete (b : Board) (f : Finished) : Type 0 where
   pub accepted : f .answer ≡ 0
@@ -39,7 +47,17 @@ pub record Complete (b : Board) (f : Finished) : Type 0 where
   pub simple : (i : ℕ) → i < b .network .terminals → Simple (f .board) i
   -- the load of an edge in use, less its largest demand, is strictly below its flow in the acyclic flow
   pub below : (e : ℕ) → InUse (f .board) e → load (f .board) e < acyclicFlow (f .board) e + largest (f .board) e
+  -- so the procedure has stopped: no edge has a flow
+  pub stopped : (e : ℕ) → flow (f .board) e ≡ 0
+  -- "plays to the end and answers how many moves it made": so many accepted moves by the solver's rule, and then play is over
+  pub last : Board
+  pub solved : SolvedBy (f .count) b last
+  pub over : f .board ≡ ended (b .moves) last
+  -- the entries that stood are kept, and the places past all the moves are blank
+  pub kept : take (b .moves) (f .board .journal) ≡ take (b .moves) (b .journal)
+  pub blanks : (i : ℕ) → f .board .moves ≤ i → getD (f .board .journal) i blank ≡ blank
   -- the moves that stood and those of finish are in the journal, within the bound, which the journal has room for
   pub moves : f .board .moves ≡ b .moves + f .count
   pub few : b .moves + f .count ≤ movesBound (b .network)
   pub room : movesBound (b .network) ≤ maxMoves
+  pub places : length (f .board .journal) ≡ maxMoves

@@ -1,10 +1,15 @@
 -- Demand 3: document 01, "one claim about a whole list of carries, turns, hints and undos, of any length".
 use mathlib.Core.Path.{_≡_}
+use mathlib.Core.Bool.{true, false}
 use mathlib.Core.List.{List, []}
-use Prim.Native.Nat.{ℕ}
-use lib.ListN.{length}
+use Prim.Native.Nat.{ℕ, _≤_}
+use lib.ListN.{length, getD, replicate}
+use Rattle.lists.specs.Members.{has}
+use Rattle.board.specs.Limits.{maxMoves}
+use Rattle.board.specs.Record.{blank}
 use Rattle.board.specs.declared.Board.{Board}
 use Rattle.load.specs.Load.{loadText}
+use Rattle.move_guard.specs.Guard.{playing}
 use Rattle.solve_finish.specs.Finishes.{finishCall}
 use Rattle.solve_next.specs.declared.Suggestion.{Suggestion}
 use Rattle.report_routes.specs.Routes.{route}
@@ -23,6 +28,14 @@ pub record Faithful (text : List ℕ) (cs : List Call) (b : Board) : Type 0 wher
   -- "equals the one that a fresh load of the same text gives once the standing moves alone are called in order"
   pub again : b ≡ played (loadText text .board) (standingMoves text [] cs)
   pub moves : b .moves ≡ length (standingMoves text [] cs)
+  -- "The journal has 1,056 places"; "places beyond the standing moves all hold the same fixed blank"
+  pub places : length (b .journal) ≡ maxMoves
+  pub blanks : (i : ℕ) → b .moves ≤ i → getD (b .journal) i blank ≡ blank
+  -- the standing moves are each accepted when they are called again
+  pub accepted-again : answers (loadText text .board) (standingMoves text [] cs) ≡ replicate (length (standingMoves text [] cs)) 0
+  -- play goes on, so that no answer was 20
+  pub in-play : playing b ≡ true
+  pub none-over : has 20 (answers (loadText text .board) cs) ≡ false
   -- "Each carry, turn and undo answered this player's number; each hint kept the hint's rule on this player's board at that point"
   pub same-answers : answers (loadText text .board) cs ≡ says text [] cs
   pub hinted : (hs : List Suggestion) → HintsKept (loadText text .board) cs hs → HintsKeptBy text [] cs hs
