@@ -11,7 +11,7 @@ use lib.Seq.{getD-set-same, getD-set-other}
 use Rattle.lists.specs.Lists.{keyed, sumAt}
 use Rattle.lists.specs.Members.{has}
 use Rattle.lists.proofs.Pigeon.{has-nothing, has-here, has-later, has-cases, misses-both}
-use Rattle.graph_flows.specs.Trails.{Step, down, up, edgeOf, edgesOf, startOf, endOf, changedAlong, Trail, stay, go, Room, Fits}
+use Rattle.graph_flows.specs.Trails.{Step, down, up, edgeOf, edgesOf, In, startOf, endOf, changedAlong, Trail, stay, go, Room, Fits}
 use Rattle.graph_flows.proofs.Sums.{keyed-add, sum-set}
 
 -- the new flow of a step's edge
@@ -91,11 +91,6 @@ changed-other flows x (s ∷ w) e h =
     let m = misses-both e (edgeOf s) (edgesOf w) h in
     let y = after flows x s in
     rw (changed-step flows x s w) (changed-other (set flows (edgeOf s) y) x w e (m .1) ∙ getD-set-other flows (edgeOf s) e y 0 (m .0))
-
--- step s is one of the steps
-abbrev pub In : Step → List Step → Type 0
-In s [] = ⊥
-In s (t ∷ w) = (s ≡ t) ⊎ In s w
 
 pub in-edges : (s : Step) (w : List Step) → In s w → has (edgeOf s) (edgesOf w) ≡ true
 in-edges s [] i = absurd i

@@ -1,6 +1,7 @@
 -- A change of the flows along a trail.
 use mathlib.Core.Path.{_≡_}
 use mathlib.Core.Bool.{false}
+use mathlib.Core.Logic.{_⊎_}
 use mathlib.Core.List.{List, [], _∷_}
 use Prim.Native.Nat.{ℕ, _+_, _-_, _<_, _≤_}
 use lib.ListN.{length, getD, set}
@@ -24,6 +25,11 @@ edgeOf (up e) = e
 abbrev pub edgesOf : List Step → List ℕ
 edgesOf [] = []
 edgesOf (s ∷ w) = edgeOf s ∷ edgesOf w
+
+-- step s is one of the steps
+abbrev pub In : Step → List Step → Type 0
+In s [] = ⊥
+In s (t ∷ w) = (s ≡ t) ⊎ In s w
 
 -- where a step starts, and where it ends
 abbrev pub startOf : List ℕ → List ℕ → Step → ℕ

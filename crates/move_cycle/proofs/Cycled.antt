@@ -15,8 +15,8 @@ use Rattle.lists.proofs.Laws.{Known, was-true, was-false, known, eq-or-ne, pick
 use Rattle.lists.proofs.Pigeon.{has-nothing, has-here, has-later, has-cases}
 use Rattle.sets.specs.Sets.{hasBit, withBit}
 use Rattle.sets.proofs.Bits.{has-none, has-with-same, has-with-other, has-with-old}
-use Rattle.graph_flows.specs.Trails.{Step, down, up, edgeOf, edgesOf, startOf, endOf, Trail, stay, go, Closed}
-use Rattle.graph_flows.proofs.Change.{In, in-edges}
+use Rattle.graph_flows.specs.Trails.{Step, down, up, edgeOf, edgesOf, startOf, endOf, Trail, stay, go, Closed, In}
+use Rattle.graph_flows.proofs.Change.{in-edges}
 use Rattle.move_cycle.specs.Steps.{every, leadsBack, isCycle, goes, gather}
 
 -- every step

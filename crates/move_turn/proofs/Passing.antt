@@ -13,8 +13,7 @@ use borrow.Author.Tests.{ltb-true}
 use Rattle.lists.specs.Choice.{pick}
 use Rattle.sets.specs.Sets.{setWidth}
 use Rattle.board.specs.Limits.{maxEdges}
-use Rattle.graph_flows.specs.Trails.{Step, edgeOf}
-use Rattle.graph_flows.proofs.Change.{In}
+use Rattle.graph_flows.specs.Trails.{Step, edgeOf, In}
 use Rattle.move_cycle.specs.Steps.{stepOf, stepsOf, InSets, every, isCycle}
 use Rattle.move_cycle.proofs.Cycled.{every-in}
 use Rattle.move_edges.specs.Marking.{singularBy, ChartedOut}

@@ -13,10 +13,10 @@ use borrow.Author.Tests.{eqb-true, eqb-false, eq-eqb, ltb-true, ltb-false, lt-lt
 use Rattle.lists.specs.Choice.{pick}
 use Rattle.lists.proofs.Laws.{Known, was-true, was-false, known, eq-or-ne, pick-yes, pick-no, both-left, both-right, both-true}
 use Rattle.board.specs.declared.Board.{Board}
-use Rattle.graph_flows.specs.Trails.{Step, down, up, edgeOf, Trail, stay, go, Closed}
-use Rattle.graph_flows.proofs.Change.{In}
+use Rattle.graph_flows.specs.Trails.{Step, down, up, edgeOf, Trail, stay, go, Closed, In}
 use Rattle.move_guard.specs.Parts.{flow, head, demand, place}
 use Rattle.move_cycle.specs.Amounts.{smaller, isShort, raise, allowed, amountFrom, amount}
+use Rattle.theorem_keep.specs.Allowed.{Attained, zeroed, met}
 
 -- r is positive and at most a
 abbrev Under : ℕ → ℕ → Type 0
@@ -211,11 +211,6 @@ amount-up b w e i above m h p l =
       from-new b 0 w (up e) (demand b i - flow b e) above m
           (λ c. raise-new b e c 0 (b .network .terminals) i (omega arith) (omega arith) (record { here = p; lack = l })) .1,
     )
-
--- the amount makes a down-step's edge zero, or an up-step's edge the demand of a terminal at its head
-pub data Attained (b : Board) (w : List Step) : Type 0 where
-  zeroed : (e : ℕ) → In (down e) w → amount b w ≡ flow b e → Attained b w
-  met : (e i : ℕ) → In (up e) w → i < b .network .terminals → place b i ≡ head b e → flow b e + amount b w ≡ demand b i → Attained b w
 
 pub amount-attained : (b : Board) (w : List Step) (e : ℕ) → ((s : Step) → In s w → 0 < flow b (edgeOf s)) → In (down e) w → Attained b w
 unfolding amount

@@ -14,15 +14,7 @@ use Rattle.move_guard.specs.Parts.{flow, head, marked, demand, place}
 use Rattle.move_guard.specs.Guard.{playing}
 use Rattle.move_carry.specs.Opens.{flowFits, enters, isOpen, openEdge, hasOpen, openTerminal, someOpen}
 use Rattle.move_carry.specs.Carries.{onBoard, carryRefusal}
-
--- the carry of terminal i over edge e keeps the rules
-pub record Carriable (b : Board) (i e : ℕ) : Type 0 where
-  pub terminal : i < b .network .terminals
-  pub edge : e < b .network .edges
-  pub away : place b i ≢ b .network .source
-  pub enters : head b e ≡ place b i
-  pub covers : demand b i ≤ flow b e
-  pub exact : marked b e ≡ true → flow b e ≡ demand b i
+use Rattle.theorem_keep.specs.Allowed.{Carriable}
 
 -- the flow of an edge that may be carried over, both ways
 fits-facts : (m : Bool) (f d : ℕ) → flowFits m f d ≡ true → (d ≤ f) × (m ≡ true → f ≡ d)

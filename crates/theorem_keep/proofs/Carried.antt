@@ -25,7 +25,7 @@ use Rattle.move_guard.specs.Guard.{moveIntact}
 use Rattle.move_carry.specs.Carries.{carried}
 use Rattle.report_routes.specs.Routes.{route, load, largest}
 use Rattle.theorem_keep.specs.Invariant.{Marked, At, Invariant}
-use Rattle.theorem_keep.proofs.Carriable.{Carriable}
+use Rattle.theorem_keep.specs.Allowed.{Carriable}
 use Rattle.theorem_keep.proofs.CarriedRoutes.{route-moved, route-kept, load-kept, largest-kept, load-moved, largest-moved}
 
 module _ (b : Board) (i e : ℕ) (inv : Invariant b) (c : Carriable b i e) where

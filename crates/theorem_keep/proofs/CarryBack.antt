@@ -15,7 +15,7 @@ use Rattle.move_guard.specs.Moved.{lastEntry}
 use Rattle.move_carry.specs.Carries.{carried}
 use Rattle.move_undo.specs.Undone.{undoneMove, undone}
 use Rattle.theorem_keep.specs.Invariant.{Invariant}
-use Rattle.theorem_keep.proofs.Carriable.{Carriable}
+use Rattle.theorem_keep.specs.Allowed.{Carriable}
 use Rattle.theorem_keep.proofs.Carried.{in-flows, in-journal}
 
 module _ (b : Board) (i e : ℕ) (inv : Invariant b) (c : Carriable b i e) (room : b .moves < maxMoves) where

@@ -10,17 +10,17 @@ use lib.ListN.{getD}
 use Rattle.lists.specs.Choice.{pick}
 use Rattle.lists.proofs.Laws.{pick-yes, pick-no}
 use Rattle.board.specs.declared.Board.{Board}
-use Rattle.graph_flows.specs.Trails.{Step, down, up, edgeOf}
+use Rattle.graph_flows.specs.Trails.{Step, down, up, edgeOf, In}
 use Rattle.graph_flows.proofs.Positives.{positives, positives-some, positives-below, positives-fewer}
-use Rattle.graph_flows.proofs.Change.{In, after, changed-at}
+use Rattle.graph_flows.proofs.Change.{after, changed-at}
 use Rattle.move_guard.specs.Parts.{flow, head, marked, demand, place}
 use Rattle.move_carry.specs.Opens.{someOpen}
 use Rattle.move_cycle.specs.Amounts.{amount}
 use Rattle.move_turn.specs.Turns.{turned}
 use Rattle.theorem_keep.specs.Invariant.{Invariant}
 use Rattle.theorem_keep.proofs.Carriable.{facts-open, some-open}
-use Rattle.theorem_keep.proofs.Amounted.{amount-above, Attained, zeroed, met, amount-attained, SomeDown, some-down}
-use Rattle.theorem_keep.proofs.Turnable.{Turnable}
+use Rattle.theorem_keep.specs.Allowed.{Attained, Turnable, zeroed, met}
+use Rattle.theorem_keep.proofs.Amounted.{amount-above, amount-attained, SomeDown, some-down}
 use Rattle.theorem_keep.proofs.TurnedMarks.{now-single}
 use Rattle.theorem_keep.proofs.TurnedFlows.{turn-fits, now-changed, now-length, positive-before}
 use Rattle.theorem_keep.proofs.Potential.{level, levels, potential, level-rises}

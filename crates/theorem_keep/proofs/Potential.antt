@@ -27,7 +27,7 @@ use Rattle.move_carry.specs.Carries.{carried}
 use Rattle.theorem_keep.specs.Bound.{movesBound}
 use Rattle.theorem_keep.specs.Invariant.{Invariant}
 use Rattle.theorem_keep.proofs.Network.{within-acyclic, acyclic-of-acyclic}
-use Rattle.theorem_keep.proofs.Carriable.{Carriable}
+use Rattle.theorem_keep.specs.Allowed.{Carriable}
 use Rattle.theorem_keep.proofs.Carried.{in-flows}
 use Rattle.theorem_keep.proofs.TurnedMarks.{positive-inside}
 

@@ -25,10 +25,11 @@ use Rattle.theorem_keep.specs.Bound.{movesBound}
 use Rattle.theorem_keep.specs.Invariant.{Invariant}
 use Rattle.theorem_keep.proofs.Opened.{opened-invariant}
 use Rattle.theorem_keep.proofs.Kept.{kept-intact}
-use Rattle.theorem_keep.proofs.Carriable.{Carriable, carry-facts}
+use Rattle.theorem_keep.specs.Allowed.{Carriable, Turnable}
+use Rattle.theorem_keep.proofs.Carriable.{carry-facts}
 use Rattle.theorem_keep.proofs.Carried.{carried-invariant}
 use Rattle.theorem_keep.proofs.CarryBack.{carried-back}
-use Rattle.theorem_keep.proofs.Turnable.{Turnable, turn-facts}
+use Rattle.theorem_keep.proofs.Turnable.{turn-facts}
 use Rattle.theorem_keep.proofs.Turned.{turned-invariant}
 use Rattle.theorem_keep.proofs.TurnBack.{turned-back}
 use Rattle.theorem_keep.proofs.Potential.{potential, carried-falls, potential-first, bound-fits}

@@ -18,8 +18,8 @@ use Rattle.board.specs.Record.{blank}
 use Rattle.board.specs.declared.Board.{Board}
 use Rattle.board.specs.declared.Entry.{Entry}
 use Rattle.board.specs.declared.Move.the-variants.{Turn}
-use Rattle.graph_flows.specs.Trails.{Step, down, up, edgeOf, edgesOf}
-use Rattle.graph_flows.proofs.Change.{In, in-edges}
+use Rattle.graph_flows.specs.Trails.{Step, down, up, edgeOf, edgesOf, In}
+use Rattle.graph_flows.proofs.Change.{in-edges}
 use Rattle.move_guard.specs.Moved.{lastEntry}
 use Rattle.move_cycle.specs.Steps.{isUp, goes, gather}
 use Rattle.move_cycle.proofs.Cycled.{gather-from}
@@ -31,7 +31,7 @@ use Rattle.move_cycle.proofs.Shifting.{shifted-back}
 use Rattle.move_undo.specs.Undone.{undoneMove, undone}
 use Rattle.theorem_keep.specs.Invariant.{Invariant}
 use Rattle.theorem_keep.proofs.Amounted.{amount-down}
-use Rattle.theorem_keep.proofs.Turnable.{Turnable}
+use Rattle.theorem_keep.specs.Allowed.{Turnable}
 use Rattle.theorem_keep.proofs.TurnedMarks.{fresh-facts}
 
 -- a cycle goes over an edge one way

@@ -6,8 +6,7 @@ use Prim.Native.Nat.{ℕ, _<_}
 use borrow.Author.Tests.{ltb-true, lt-ltb}
 use Rattle.lists.proofs.Laws.{pick-yes, pick-no, pick-passed, pick-avoided}
 use Rattle.board.specs.declared.Board.{Board}
-use Rattle.graph_flows.specs.Trails.{Step, down, up, edgeOf, Closed}
-use Rattle.graph_flows.proofs.Change.{In}
+use Rattle.graph_flows.specs.Trails.{Step, down, up, edgeOf, Closed, In}
 use Rattle.move_guard.specs.Parts.{flow}
 use Rattle.move_guard.specs.Guard.{playing}
 use Rattle.move_carry.specs.Opens.{someOpen}
@@ -16,14 +15,7 @@ use Rattle.move_cycle.proofs.Cycled.{every-in, every-of, cycle-closed, closed-c
 use Rattle.move_turn.specs.declared.StepRule.the-variants.{OnBoard, Positive, UpSingular}
 use Rattle.move_edges.specs.Marking.{singular}
 use Rattle.move_turn.specs.Turns.{meets, turnRefusal}
-
--- the turn along the steps keeps the rules
-pub record Turnable (b : Board) (w : List Step) : Type 0 where
-  pub cycle : Closed (b .network .tails) (b .network .heads) w
-  pub inside : (s : Step) → In s w → edgeOf s < b .network .edges
-  pub none-open : someOpen b ≡ false
-  pub above : (s : Step) → In s w → 0 < flow b (edgeOf s)
-  pub climbs : (e : ℕ) → In (up e) w → singular b e ≡ true
+use Rattle.theorem_keep.specs.Allowed.{Turnable}
 
 module _ (b : Board) (w : List Step) where
   pub turn-facts : turnRefusal b w ≡ 0 → (playing b ≡ true) × Turnable b w

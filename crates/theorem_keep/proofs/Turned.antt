@@ -25,7 +25,7 @@ use Rattle.move_turn.specs.Turns.{turned}
 use Rattle.move_cycle.proofs.Raising.{amount-small}
 use Rattle.theorem_keep.specs.Invariant.{Invariant, Marked, At}
 use Rattle.theorem_keep.proofs.Kept.{small-flows}
-use Rattle.theorem_keep.proofs.Turnable.{Turnable}
+use Rattle.theorem_keep.specs.Allowed.{Turnable}
 use Rattle.theorem_keep.proofs.TurnedMarks.{Now, unmarked-now, now-one-out, now-down-closed, now-across-closed, now-all-fit, now-one-misfit, now-load-positive, now-load}
 use Rattle.theorem_keep.proofs.TurnedFlows.{flowsNow, now-length, positive-before, fit-after, unmarked-lower, balance-after}
 use Rattle.theorem_keep.proofs.TurnedRoutes.{route-after, load-after, largest-after}

@@ -13,8 +13,8 @@ use Rattle.lists.specs.Members.{has, Distinct}
 use Rattle.lists.proofs.Laws.{Known, was-true, was-false, known, lt-or-ge}
 use Rattle.sets.specs.Sets.{hasBit}
 use Rattle.board.specs.declared.Board.{Board}
-use Rattle.graph_flows.specs.Trails.{Step, down, up, edgeOf, edgesOf, changedAlong, Room, Fits}
-use Rattle.graph_flows.proofs.Change.{In, over, changed-length, changed-other, changed-at, closed-trail}
+use Rattle.graph_flows.specs.Trails.{Step, down, up, edgeOf, edgesOf, changedAlong, Room, Fits, In}
+use Rattle.graph_flows.proofs.Change.{over, changed-length, changed-other, changed-at, closed-trail}
 use Rattle.move_guard.specs.Parts.{flow, head, demand}
 use Rattle.move_cycle.specs.Steps.{gather}
 use Rattle.move_cycle.specs.Amounts.{amount}
@@ -23,7 +23,7 @@ use Rattle.move_cycle.proofs.Shifting.{shifted-changed}
 use Rattle.theorem_keep.specs.Invariant.{Invariant, At}
 use Rattle.theorem_keep.proofs.Kept.{tails-long, heads-long}
 use Rattle.theorem_keep.proofs.Amounted.{amount-down, amount-up}
-use Rattle.theorem_keep.proofs.Turnable.{Turnable}
+use Rattle.theorem_keep.specs.Allowed.{Turnable}
 use Rattle.theorem_keep.proofs.TurnedMarks.{marksNow, now-single, not-equal}
 
 fits-of : (flows : List ℕ) (x : ℕ) (w : List Step) → ((s : Step) → In s w → edgeOf s < length flows) → ((e : ℕ) → In (down e) w → x ≤ getD flows e 0)

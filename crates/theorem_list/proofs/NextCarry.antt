@@ -7,7 +7,8 @@ use native.Mathlib.Omega.{arith}
 use Rattle.board.specs.declared.Board.{Board}
 use Rattle.move_carry.specs.Opens.{isOpen, openTerminal, someOpen}
 use Rattle.theorem_keep.specs.Invariant.{Invariant}
-use Rattle.theorem_keep.proofs.Carriable.{Carriable, open-facts}
+use Rattle.theorem_keep.specs.Allowed.{Carriable}
+use Rattle.theorem_keep.proofs.Carriable.{open-facts}
 use Rattle.solve_next.specs.Choosing.{chosenEdge}
 use Rattle.solve_finish.proofs.Making.{chosen}
 use Rattle.theorem_list.proofs.Degrees.{never-enters}

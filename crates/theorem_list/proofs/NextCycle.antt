@@ -21,7 +21,7 @@ use Rattle.solve_next.specs.Choosing.{allHome, nextCycle}
 use Rattle.theorem_keep.specs.Invariant.{Invariant}
 use Rattle.theorem_keep.proofs.Single.{Leaves, leaves-so, so-leaves, leaves-inside, unparted-straight}
 use Rattle.theorem_keep.proofs.TurnedMarks.{positive-inside}
-use Rattle.theorem_keep.proofs.Turnable.{Turnable}
+use Rattle.theorem_keep.specs.Allowed.{Turnable}
 use Rattle.theorem_list.proofs.Degrees.{fed-vertex, second, starts}
 use Rattle.theorem_list.proofs.Walks.{Rich, FoundCycle, found}
 

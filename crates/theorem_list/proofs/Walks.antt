@@ -19,8 +19,8 @@ use Rattle.lists.proofs.Joined.{has-not, has-last, has-front, has-joined, disti
 use Rattle.lists.proofs.Pigeon.{has-nothing, has-here, has-later, both-missed, pigeon}
 use Rattle.move_edges.specs.Singular.{leaving}
 use Rattle.graph_flows.specs.Paths.{First, OneLeaves, Unparted}
-use Rattle.graph_flows.specs.Trails.{Step, down, up, edgeOf, edgesOf, startOf, endOf, Trail, stay, go, Closed}
-use Rattle.graph_flows.proofs.Change.{In, over}
+use Rattle.graph_flows.specs.Trails.{Step, down, up, edgeOf, edgesOf, startOf, endOf, Trail, stay, go, Closed, In}
+use Rattle.graph_flows.proofs.Change.{over}
 use Rattle.graph_flows.proofs.Walk.{path-cases}
 use Rattle.solve_walk.proofs.Loops.{starts-length}
 use Rattle.solve_walk.specs.Walk.{parts, startsOf, firstMet, downWalk, upWalk}
