@@ -12,11 +12,12 @@ use Rattle.lists.specs.Choice.{both}
 use Rattle.lists.specs.Lists.{all}
 use Rattle.lists.proofs.Laws.{Known, was-true, was-false, known, lt-or-ge, pick-yes, pick-no, both-left, both-right, all-from}
 use Rattle.board.specs.Limits.{maxVertices, maxEdges, maxTerminals, maxMoves, maxFlow, maxTotal}
+use Rattle.board.specs.Record.{playStage}
 use Rattle.board.specs.declared.Board.{Board}
 use Rattle.text_rules.specs.Rules.{countsFit}
 use Rattle.move_guard.specs.Moved.{lastEntry}
 use Rattle.move_guard.specs.Parts.{flow, tail, head, demand}
-use Rattle.move_guard.specs.Guard.{edgeIntact, terminalIntact, moveIntact, intact, playing}
+use Rattle.move_guard.specs.Guard.{edgeIntact, terminalIntact, moveIntact, intact, loaded, playing}
 
 -- past the end of a list there is 0, which is a vertex
 vertex-past : (ends : List ℕ) → length ends ≡ maxEdges → ((e : ℕ) → e < maxEdges → getD ends e 0 < maxVertices) → (e : ℕ) → getD ends e 0 < maxVertices
@@ -104,10 +105,18 @@ module _ (b : Board) (sound : intact b ≡ true) where
           let z : demand b j ≡ 0 = List·getD-eq-default (b .network .demands) 0 (omega (arith, long)) in
           omega arith
 
+-- the stage of play is within the stages of a loaded board, so that of these two tests the second is left
+pub playing-staged : (b : Board) → playing b ≡ both (eqb (b .stage) playStage) (intact b)
+unfolding playing loaded both
+playing-staged b = go (known (eqb (b .stage) playStage))
+  where
+    go : Known (eqb (b .stage) playStage) → playing b ≡ both (eqb (b .stage) playStage) (intact b)
+    go (was-true t) = rw (t, eqb-true (b .stage) playStage t)
+    go (was-false t) = rw t
+
 module _ (b : Board) (play : playing b ≡ true) where
   pub playing-intact : intact b ≡ true
-  unfolding playing
-  playing-intact = both-right _ _ play
+  playing-intact = both-right _ _ (sym (playing-staged b) ∙ play)
 
   pub playing-edges : b .network .edges ≤ maxEdges
   playing-edges = intact-edges b playing-intact

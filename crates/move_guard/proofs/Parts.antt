@@ -14,6 +14,7 @@ use Rattle.board.specs.declared.Board.{Board}
 use Rattle.board.specs.declared.Entry.{Entry}
 use Rattle.move_guard.specs.Moved.{lastEntry}
 use Rattle.move_guard.specs.Guard.{intactIn, intact, playing}
+use Rattle.move_guard.proofs.Facts.{playing-staged}
 
 -- inside a list it does not matter what is past its end
 inside : (l : List Entry) (k : ℕ) (a d : Entry) → k < length l → getD l k a ≡ getD l k d
@@ -29,5 +30,5 @@ module _ (b : Board) where
 
   pub in-play : (last : Entry) (fits inPlay : Bool) → last ≡ lastEntry b → fits ≡ intactIn (b .network) (b .acyclic) (b .flows) (b .places) (b .moves) (last .step)
       → inPlay ≡ both (eqb (b .stage) playStage) fits → inPlay ≡ playing b
-  unfolding playing intact
-  in-play last fits inPlay el ef ep = rw (ep, ef, el)
+  unfolding intact
+  in-play last fits inPlay el ef ep = rw (playing-staged b, ep, ef, el)

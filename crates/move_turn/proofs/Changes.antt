@@ -20,7 +20,7 @@ use Rattle.board.specs.declared.Move.{Move}
 use Rattle.graph_flows.specs.Trails.{Step}
 use Rattle.move_edges.specs.Incidence.{Incident, PositiveSet}
 use Rattle.move_guard.specs.Guard.{intactIn, intact, playing}
-use Rattle.move_guard.proofs.Facts.{playing-edges, playing-head, playing-flow, playing-demand}
+use Rattle.move_guard.proofs.Facts.{playing-staged, playing-edges, playing-head, playing-flow, playing-demand}
 use Rattle.move_guard.specs.declared.Change.{Change}
 use Rattle.move_guard.specs.Moved.{lastEntry, moved, answered, unchanged, changed}
 use Rattle.move_guard.proofs.Answers.{answered-yes, answered-no}
@@ -158,8 +158,8 @@ past-room net acyclic flows places moves x y h = rw h
 pub play-made : (b : Board) (k : ℕ) (play fits : Bool) → (b .moves ≤ maxMoves → k ≡ b .moves - 1)
     → fits ≡ intactIn (b .network) (b .acyclic) (b .flows) (b .places) (b .moves) (getD (b .journal) k blank .step)
     → play ≡ both (eqb (b .stage) playStage) fits → play ≡ playing b
-unfolding playing intact
-play-made b k play fits hk hf hp = hp ∙ ap (both (eqb (b .stage) playStage)) (hf ∙ go (lt-or-ge maxMoves (b .moves)))
+unfolding intact
+play-made b k play fits hk hf hp = hp ∙ ap (both (eqb (b .stage) playStage)) (hf ∙ go (lt-or-ge maxMoves (b .moves))) ∙ sym (playing-staged b)
   where
     at : Entry → Bool
     at last = intactIn (b .network) (b .acyclic) (b .flows) (b .places) (b .moves) (last .step)

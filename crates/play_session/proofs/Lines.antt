@@ -17,7 +17,7 @@ use Rattle.board.specs.Limits.{maxEdges}
 use Rattle.board.specs.declared.Board.{Board}
 use Rattle.board.specs.declared.Played.{Played}
 use Rattle.move_guard.specs.Guard.{intact, playing}
-use Rattle.move_guard.proofs.Facts.{playing-edges}
+use Rattle.move_guard.proofs.Facts.{playing-intact, playing-edges}
 use Rattle.move_guard.specs.Moved.{answered}
 use Rattle.move_guard.proofs.Answers.{answered-no}
 use Rattle.graph_flows.specs.Trails.{Step, edgeOf, edgesOf}
@@ -70,8 +70,8 @@ module _ (b : Board) where
       split (inr q) t ih = rw (le-ltb (edgeOf s) (b .network .edges) q, every)
 
   some-edge : playing b ≡ true → 0 < b .network .edges
-  unfolding playing intact
-  some-edge p = leb-true _ _ (both-left _ _ (both-left _ _ (both-right _ _ (both-left _ _ (both-right _ _ p)))))
+  unfolding intact
+  some-edge p = leb-true _ _ (both-left _ _ (both-left _ _ (both-right _ _ (both-left _ _ (playing-intact b p)))))
 
   no-cycle : (w : List Step) → playing b ≡ true → greatestEdge w < b .network .edges → maxEdges < length w
       → isCycle (b .network .tails) (b .network .heads) w ≡ false

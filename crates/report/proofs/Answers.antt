@@ -18,7 +18,7 @@ use Rattle.board.specs.declared.Entry.{Entry}
 use Rattle.board.specs.declared.Network.{Network}
 use Rattle.text.specs.Text.{lineText, linesText}
 use Rattle.move_guard.specs.Moved.{lastEntry}
-use Rattle.move_guard.specs.Guard.{intactIn, intact}
+use Rattle.move_guard.specs.Guard.{intactIn, intact, loaded}
 use Rattle.move_guard.proofs.Facts.{intact-edges, intact-terminals, intact-demand}
 use Rattle.text_writer.proofs.Writing.{TextLeft, left-part, left-none}
 use Rattle.report_routes.specs.Tables.{routesFit}
@@ -27,13 +27,19 @@ use Rattle.report.specs.Reports.{reportText, started, unreported, unrepo
 use Rattle.report.specs.Rows.{tableRouteRow, tableLoadRow, tableText, Printable}
 use Rattle.report.proofs.Rows.{countsBy, rowsBy, counts-small, route-lines, load-lines}
 
+-- a board that is not intact was not started, whatever its stage and its routes are
+not-started : (staged fit : Bool) → both (both staged false) fit ≡ false
+unfolding both
+not-started true fit = refl
+not-started false fit = refl
+
 module _ (b : Board) where
   -- the number by the parts is the number of the board: where the board is not intact, its routes do not matter
   pub number-made : (last : Entry) (sound fit : Bool) (n : ℕ) → last ≡ lastEntry b
       → sound ≡ intactIn (b .network) (b .acyclic) (b .flows) (b .places) (b .moves) (last .step)
       → fit ≡ all (λ i. leb (getD (countsBy b) i 0) maxVertices) 0 (b .network .terminals)
       → n ≡ unreportedIn (b .stage) sound fit → n ≡ unreported b
-  unfolding unreported started intact both
+  unfolding unreported started loaded intact
   number-made last sound fit n el es ef en = en ∙ go (known (intact b))
     where
       same : sound ≡ intact b
@@ -41,7 +47,7 @@ module _ (b : Board) where
 
       go : Known (intact b) → unreportedIn (b .stage) sound fit ≡ unreported b
       go (was-true t) = rw (same, ef, fits-route b (intact-terminals b t))
-      go (was-false t) = rw (same, t)
+      go (was-false t) = rw (same, t) (pick-no _ _ _ (not-started _ fit) ∙ sym (pick-no _ _ _ (not-started _ (routesFit b))))
 
 -- a board with a report
 module _ (b : Board) (reported : unreported b ≡ 0) where
@@ -50,12 +56,12 @@ module _ (b : Board) (reported : unreported b ≡ 0) where
   tests = pick-passed _ _ 28 reported .0
 
   report-intact : intact b ≡ true
-  unfolding started
-  report-intact = both-left _ _ (both-right _ _ tests)
+  unfolding started loaded
+  report-intact = both-right _ _ (both-left _ _ tests)
 
   report-fits : routesFit b ≡ true
   unfolding started
-  report-fits = both-right _ _ (both-right _ _ tests)
+  report-fits = both-right _ _ tests
 
   report-terminals : b .network .terminals ≤ maxTerminals
   report-terminals = intact-terminals b report-intact

@@ -10,7 +10,7 @@ use Rattle.board.specs.Record.{playStage, finishedStage}
 use Rattle.board.specs.declared.Board.{Board}
 use Rattle.text.specs.Text.{lineText, linesText}
 use Rattle.text.specs.declared.Written.{Written}
-use Rattle.move_guard.specs.Guard.{intact}
+use Rattle.move_guard.specs.Guard.{loaded}
 use Rattle.report_routes.specs.Routes.{route, load}
 use Rattle.report_routes.specs.Tables.{routesFit}
 
@@ -28,9 +28,9 @@ reportText b =
     lineText 82 (b .network .terminals ∷ b .network .edges ∷ [])
     ++ (linesText 77 (routeRow b) 0 (b .network .terminals) ++ linesText 76 (loadRow b) 0 (b .network .edges))
 
--- a board that a load gave: in play or finished. Its routes are simple, so they have room in their rows: see the theorem about every finish
+-- a board that a load gave. Its routes are simple, so they have room in their rows: see the theorem about every finish
 unfoldable pub started : Board → Bool
-started b = both (both (leb playStage (b .stage)) (leb (b .stage) finishedStage)) (both (intact b) (routesFit b))
+started b = both (loaded b) (routesFit b)
 
 -- "29 nothing was loaded. 28 not finished"; 0 where there is a report
 unfoldable pub unreported : Board → ℕ
@@ -39,7 +39,7 @@ unreported b = pick (started b) (pick (eqb (b .stage) finishedStage) 0 28) 29
 -- the same by the stage, whether the board is intact, and whether its routes have room
 abbrev pub unreportedIn : ℕ → Bool → Bool → ℕ
 unreportedIn stage sound fit =
-    pick (both (both (leb playStage stage) (leb stage finishedStage)) (both sound fit)) (pick (eqb stage finishedStage) 0 28) 29
+    pick (both (both (both (leb playStage stage) (leb stage finishedStage)) sound) fit) (pick (eqb stage finishedStage) 0 28) 29
 
 -- "Sheet: 29, 28, 8", for a buffer of n bytes
 unfoldable pub sheetRefusal : Board → ℕ → ℕ

@@ -28,8 +28,8 @@ fn unreported_in(stage: u32, sound: bool, fit: bool) -> u32
     ensures { λ r. ⌜ r ≡ unreportedIn stage sound fit ⌝ }
 {
     let staged = lists::and(Board::PLAY <= stage, stage <= Board::FINISHED);
-    let whole = lists::and(sound, fit);
-    if !lists::and(staged, whole) {
+    let loaded = lists::and(staged, sound);
+    if !lists::and(loaded, fit) {
         return 29;
     }
     if stage == Board::FINISHED { 0 } else { 28 }

@@ -21,7 +21,7 @@ use Rattle.board.specs.declared.Entry.{Entry}
 use Rattle.text_rules.specs.Rules.{countsFit}
 use Rattle.graph_flows.specs.Trails.{Step, edgeOf}
 use Rattle.move_guard.specs.Parts.{flow, tail, demand, place}
-use Rattle.move_guard.proofs.Facts.{playing-edges, playing-flow, playing-demand}
+use Rattle.move_guard.proofs.Facts.{intact-edge, intact-terminal, playing-staged, playing-intact, playing-edges, playing-flow, playing-demand}
 use Rattle.move_guard.specs.Guard.{edgeIntact, edgeIntactIn, terminalIntact, terminalIntactIn, moveIntact, intact, playing}
 use Rattle.move_guard.specs.Moved.{moved}
 use Rattle.move_carry.specs.Carries.{onBoard, carryRefusal, carried}
@@ -84,20 +84,17 @@ order s c x t y m hs hc ht hm = rw (hs, hc, ht, hm) (go x y)
 
 module _ (b : Board) (play : playing b ≡ true) where
   pub in-play : eqb (b .stage) playStage ≡ true
-  unfolding playing
-  in-play = both-left _ _ play
+  in-play = both-left _ _ (sym (playing-staged b) ∙ play)
 
   counts : countsFit (b .network) ≡ true
-  unfolding playing intact
-  counts = both-left _ _ (both-right _ _ play)
+  unfolding intact
+  counts = both-left _ _ (playing-intact b play)
 
   edge : (e : ℕ) → e < maxEdges → edgeIntact b e ≡ true
-  unfolding playing intact
-  edge e h = all-from (edgeIntact b) maxEdges e (both-left _ _ (both-right _ _ (both-right _ _ play))) h
+  edge = intact-edge b (playing-intact b play)
 
   terminal : (j : ℕ) → j < maxTerminals → terminalIntact b j ≡ true
-  unfolding playing intact
-  terminal j h = all-from (terminalIntact b) maxTerminals j (both-left _ _ (both-right _ _ (both-right _ _ (both-right _ _ play)))) h
+  terminal = intact-terminal b (playing-intact b play)
 
   -- an edge is intact with another flow, which is 0 where it was, where that is small
   edge-now : (flows : List ℕ) (e : ℕ) → e < maxEdges → (flow b e ≡ 0 → getD flows e 0 ≡ 0)
@@ -116,9 +113,10 @@ module _ (b : Board) (play : playing b ≡ true) where
   stays : (flows : List ℕ) (marks : ℕ) (places : List ℕ) (entry : Entry) → ((e : ℕ) → flow b e ≡ 0 → getD flows e 0 ≡ 0)
       → ((j : ℕ) → j < maxTerminals → terminalIntactIn (b .network) places j ≡ true) → moveIntact (entry .step) ≡ true
       → playing (moved b flows marks places entry) ≡ both (leb (b .moves + 1) maxMoves) (allSmall flows)
-  unfolding playing intact allSmall
+  unfolding intact allSmall
   stays flows marks places entry zeros there fits =
-      rw
+      playing-staged (moved b flows marks places entry)
+      ∙ rw
       (all-same (edgeIntactIn (b .network) (b .acyclic) flows) (λ e. leb (getD flows e 0) maxTotal) 0 maxEdges
       (λ e l h. edge-now flows e (omega arith) (zeros e)))
       (order _ _ _ _ _ _ in-play counts (all-zero (terminalIntactIn (b .network) places) maxTerminals there) last)

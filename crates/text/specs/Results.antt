@@ -31,14 +31,14 @@ unfoldable pub readText : List ℕ → Reading
 unfolding layout readingOf
 readText s = readingOf (layout s)
 
--- a board that a load gave: in play or finished, over a lawful network
-unfoldable pub loaded : ℕ → Network → Bool
-loaded stage net = both (both (leb playStage stage) (leb stage finishedStage)) (lawful net)
+-- what the writer asks of a board: in play or finished, over a lawful network
+unfoldable pub writable : ℕ → Network → Bool
+writable stage net = both (both (leb playStage stage) (leb stage finishedStage)) (lawful net)
 
 -- writing into a buffer of n bytes: 29 where no board was loaded, then 8, else 0 and the length of the text
 unfoldable pub writeText : Board → ℕ → Written
 writeText b n =
-    pick (loaded (b .stage) (b .network))
+    pick (writable (b .stage) (b .network))
     (pick (leb (length (textOf (b .network))) n)
     (record { answer = 0; used = length (textOf (b .network)) })
     (record { answer = 8; used = 0 }))

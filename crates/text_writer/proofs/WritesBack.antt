@@ -14,14 +14,14 @@ use Rattle.board.specs.declared.Board.{Board}
 use Rattle.text_rules.specs.Rules.{lawful}
 use Rattle.text_rules.proofs.Meaning.{lawful-tested}
 use Rattle.text.specs.Text.{textOf}
-use Rattle.text.specs.Results.{readText, loaded, writeText, written}
+use Rattle.text.specs.Results.{readText, writable, writeText, written}
 use Rattle.text.proofs.Accepted.{acceptedAs, accepted-text}
 
-loaded-stage : (stage : ℕ) (net : Network) → (playStage ≤ stage) × (stage ≤ finishedStage) → lawful net ≡ true → loaded stage net ≡ true
-unfolding loaded
-loaded-stage stage net h l = both-true _ _ (both-true _ _ (le-leb _ _ (h .0)) (le-leb _ _ (h .1))) l
+writable-stage : (stage : ℕ) (net : Network) → (playStage ≤ stage) × (stage ≤ finishedStage) → lawful net ≡ true → writable stage net ≡ true
+unfolding writable
+writable-stage stage net h l = both-true _ _ (both-true _ _ (le-leb _ _ (h .0)) (le-leb _ _ (h .1))) l
 
-writes : (b : Board) (buf : List ℕ) → loaded (b .stage) (b .network) ≡ true → length (textOf (b .network)) ≤ length buf
+writes : (b : Board) (buf : List ℕ) → writable (b .stage) (b .network) ≡ true → length (textOf (b .network)) ≤ length buf
     → (writeText b (length buf) ≡ record { answer = 0; used = length (textOf (b .network)) }) × (written b buf ≡ textOf (b .network) ++ drop (length (textOf (b .network))) buf)
 unfolding writeText written pick
 writes b buf l fits = let e = le-leb (length (textOf (b .network))) (length buf) fits in (rw (l, e), rw (l, e))
@@ -31,5 +31,5 @@ pub writes-loaded : (s : List ℕ) (b : Board) (buf : List ℕ) → readText s �
     → (writeText b (length buf) ≡ record { answer = 0; used = length s }) × (written b buf ≡ s ++ drop (length s) buf)
 writes-loaded s b buf h stage fits =
     let a = accepted-text s (b .network) h in
-    let l = loaded-stage (b .stage) (b .network) stage (lawful-tested (b .network) (a .1)) in
+    let l = writable-stage (b .stage) (b .network) stage (lawful-tested (b .network) (a .1)) in
     rw (a .0) (writes b buf l (rw (a .0) at fits))

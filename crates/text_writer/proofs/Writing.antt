@@ -19,7 +19,7 @@ use Rattle.board.specs.declared.Board.{Board}
 use Rattle.board.specs.declared.Network.{Network}
 use Rattle.board.specs.Limits.{maxEdges, maxTerminals}
 use Rattle.text_rules.specs.Rules.{lawful}
-use Rattle.text.specs.Results.{loaded, writeText, written}
+use Rattle.text.specs.Results.{writable, writeText, written}
 use Rattle.text.proofs.Ends.{end-after}
 
 pub sets-append : (xs l ys : List ℕ) (i : ℕ) → sets l i (xs ++ ys) ≡ sets (sets l i xs) (i + length xs) ys
@@ -107,10 +107,10 @@ module _ (net : Network) (buf b1 b2 b3 : List ℕ) (p1 p2 p3 : ℕ) where
       let l2 = left-part edges terminals b2 p2 l1 e2 q2 in
       left-none (left-part terminals [] b3 p3 (rw append-nil l2) e3 q3)
 
--- what a loaded board's counts allow
-pub loaded-counts : (stage : ℕ) (net : Network) → loaded stage net ≡ true → (net .edges ≤ maxEdges) × (net .terminals ≤ maxTerminals)
-unfolding loaded lawful
-loaded-counts stage net h =
+-- what the counts of a writable board allow
+pub writable-counts : (stage : ℕ) (net : Network) → writable stage net ≡ true → (net .edges ≤ maxEdges) × (net .terminals ≤ maxTerminals)
+unfolding writable lawful
+writable-counts stage net h =
     let counts = both-left _ _ (both-right _ _ h) in
     let rest = both-right _ _ counts in
     (leb-true _ _ (both-right _ _ (both-left _ _ rest)), leb-true _ _ (both-right _ _ (both-left _ _ (both-right _ _ rest))))
@@ -120,11 +120,11 @@ module _ (b : Board) (buf : List ℕ) where
   abbrev the-text : List ℕ
   the-text = textOf (b .network)
 
-  pub write-closed : loaded (b .stage) (b .network) ≡ false → (record { answer = 29; used = 0 } ≡ writeText b (length buf)) × (buf ≡ written b buf)
+  pub write-closed : writable (b .stage) (b .network) ≡ false → (record { answer = 29; used = 0 } ≡ writeText b (length buf)) × (buf ≡ written b buf)
   unfolding writeText written pick
   write-closed h = (rw h, rw h)
 
-  module _ (h : loaded (b .stage) (b .network) ≡ true) where
+  module _ (h : writable (b .stage) (b .network) ≡ true) where
     pub write-short : length buf < length the-text → (record { answer = 8; used = 0 } ≡ writeText b (length buf)) × (buf ≡ written b buf)
     unfolding writeText written pick
     write-short less = let e = lt-leb (length the-text) (length buf) less in (rw (h, e), rw (h, e))

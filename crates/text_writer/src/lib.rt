@@ -8,7 +8,7 @@ ghost use lib.ListN.{length};
 ghost use lib.Seq.{sets};
 ghost use Rattle.board.specs.Limits.{maxEdges, maxTerminals};
 ghost use Rattle.text.specs.Text.{lineText, linesText, edgeRow, terminalRow, textOf};
-ghost use Rattle.text.specs.Results.{loaded, writeText, written};
+ghost use Rattle.text.specs.Results.{writable, writeText, written};
 
 // ---- The text of a network, written into a buffer. A byte past the end of the buffer is dropped, so writing into a
 // short buffer measures the text.
@@ -101,9 +101,9 @@ fn put_text(buf: &mut [u8], net: Network) -> usize
 
 // ---- The call `write`.
 
-// Whether a board of this stage and network is one that a load gave.
-fn loaded(stage: u32, net: Network) -> bool
-    ensures { λ r. ⌜ r ≡ loaded stage net ⌝ }
+// Whether a board of this stage and network is in play or finished, over a lawful network.
+fn writable(stage: u32, net: Network) -> bool
+    ensures { λ r. ⌜ r ≡ writable stage net ⌝ }
 {
     let open = lists::and(Board::PLAY <= stage, stage <= Board::FINISHED);
     let fits = text_judge::lawful(net);
@@ -116,7 +116,7 @@ pub fn write(b: Board, buf: &mut [u8]) -> Written
     ensures { λ r. ⌜ now (buf .exit) ≡ written b (now (buf .entry)) ⌝ }
 {
     let net = b.network;
-    if !loaded(b.stage, net) {
+    if !writable(b.stage, net) {
         return Written {
             answer: 29,
             used: 0,

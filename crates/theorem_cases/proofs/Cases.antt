@@ -25,7 +25,7 @@ use Rattle.load.specs.declared.Loaded.{Loaded}
 use Rattle.load.specs.Load.{loadText}
 use Rattle.move_edges.specs.Singular.{leaves, leaving, straight}
 use Rattle.move_guard.specs.Moved.{lastEntry, answered}
-use Rattle.move_guard.specs.Guard.{intact, playing}
+use Rattle.move_guard.specs.Guard.{intact, loaded, playing}
 use Rattle.move_carry.specs.Opens.{flowFits, enters, isOpen, openEdge, hasOpen, openTerminal, someOpen}
 use Rattle.move_carry.specs.Carries.{onBoard, carryRefusal, carried, carryCall}
 use Rattle.move_cycle.specs.Steps.{stepOf, stepsOf, every, leadsBack, isCycle, gather}
@@ -122,13 +122,13 @@ routed : Board → ℕ → List (List ℕ) → Bool
 routed b i [] = eqb i (b .network .terminals)
 routed b i (r ∷ rs) = both (same (route b i) r) (routed b (suc i) rs)
 
-loaded : Board → ℕ → List ℕ → Bool
-loaded b e [] = eqb e (b .network .edges)
-loaded b e (l ∷ ls) = both (eqb (load b e) l) (loaded b (suc e) ls)
+loadsFrom : Board → ℕ → List ℕ → Bool
+loadsFrom b e [] = eqb e (b .network .edges)
+loadsFrom b e (l ∷ ls) = both (eqb (load b e) l) (loadsFrom b (suc e) ls)
 
 -- what finish gives, where the case has routes
 completes : Case → Finished → Bool
-completes x f = both (eqb (f .answer) 0) (both (routed (f .board) 0 (x .routes)) (loaded (f .board) 0 (x .loads)))
+completes x f = both (eqb (f .answer) 0) (both (routed (f .board) 0 (x .routes)) (loadsFrom (f .board) 0 (x .loads)))
 
 finishes : Case → List (List ℕ) → Board → Bool
 finishes x [] b = true
@@ -148,10 +148,10 @@ hold (x ∷ xs) = both (holds x (loadText (bytes (x .text)))) (hold xs)
 pub starred : T (hold cases)
 unfolding loadText readText bytes cases hold holds same both pick indexOf numberOf valueFrom ranged all lowest sumAt keyed closedBoard
     opens pass passes reached leads onward since follow smallest lowered lowerCycle onCycle cycleVertex cycleFrom cancelled acyclicFlows
-    loading calling withCycle boardT around amountOf ends played answers answered intact playing
+    loading calling withCycle boardT around amountOf ends played answers answered intact loaded playing
     flowFits enters isOpen openEdge hasOpen openTerminal someOpen onBoard carryRefusal carried carryCall
     hasBit withBit collect stepOf stepsOf every leadsBack isCycle gather leaves leaving straight singular isFresh fresh
     smaller isShort raise amountFrom amount shiftedAt shiftFrom shifted turnRefusal turned turnCall undoRefusal undone undoCall
-    finishing routed loaded completes finishes total has touches another parts firstMet downWalk cycleOf isHome allHome markedOpen markedEdge chosenEdge nextCycle nextAct
+    finishing routed loadsFrom completes finishes total has touches another parts firstMet downWalk cycleOf isHome allHome markedOpen markedEdge chosenEdge nextCycle nextAct
     stepped steppedOn playedOut finishRefusal finishCall routeBy route load
 starred = tt

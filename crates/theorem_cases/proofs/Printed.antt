@@ -18,7 +18,7 @@ use Rattle.graph_cancel.specs.Cancelling.{cancelled, acyclicFlows}
 use Rattle.load.specs.Load.{loadText}
 use Rattle.move_edges.specs.Singular.{leaves, leaving, straight}
 use Rattle.move_guard.specs.Moved.{answered}
-use Rattle.move_guard.specs.Guard.{intact, playing}
+use Rattle.move_guard.specs.Guard.{intact, loaded, playing}
 use Rattle.move_carry.specs.Opens.{flowFits, enters, isOpen, openEdge, hasOpen, openTerminal, someOpen}
 use Rattle.move_carry.specs.Carries.{onBoard, carryRefusal, carried, carryCall}
 use Rattle.move_cycle.specs.Steps.{stepOf, stepsOf, every, leadsBack, isCycle, gather}
@@ -62,7 +62,7 @@ unfolding asShown lines answersT playOutput repliesFrom replyText replied hintRe
     field numbers then fieldsOf onto isLetter carryOf turnOf byFields orderOf same bytes boardT sheetT sheetOutput finishOutput reportOf reportText
     started unreported routesFit route routeBy load decimal decimalFrom numbersText lineText linesText loadText readText both pick indexOf numberOf
     valueFrom ranged all lowest sumAt keyed closedBoard opens pass passes reached leads onward since follow smallest lowered lowerCycle onCycle
-    cycleVertex cycleFrom cancelled acyclicFlows answered intact playing flowFits enters isOpen openEdge hasOpen openTerminal someOpen onBoard
+    cycleVertex cycleFrom cancelled acyclicFlows answered intact loaded playing flowFits enters isOpen openEdge hasOpen openTerminal someOpen onBoard
     carryRefusal carried carryCall hasBit withBit collect stepOf stepsOf every leadsBack isCycle gather leaves leaving straight singular isFresh fresh
     smaller isShort raise amountFrom amount shiftedAt shiftFrom shifted turnRefusal turned undoRefusal undone undoCall total has touches another parts
     firstMet downWalk cycleOf isHome allHome markedOpen markedEdge chosenEdge nextCycle nextAct stepped steppedOn playedOut finishRefusal finishCall

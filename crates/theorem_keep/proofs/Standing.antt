@@ -17,6 +17,7 @@ use Rattle.load.specs.Load.{acyclicOf, opened, loadText}
 use Rattle.load.proofs.Loads.{load-accepted, loaded-lawful}
 use Rattle.graph_flows.specs.Trails.{Step}
 use Rattle.move_guard.specs.Guard.{playing}
+use Rattle.move_guard.proofs.Facts.{playing-staged}
 use Rattle.move_guard.proofs.Answers.{answered-yes}
 use Rattle.move_carry.specs.Carries.{carryRefusal, carried}
 use Rattle.move_turn.specs.Turns.{turnRefusal, turned}
@@ -61,8 +62,7 @@ module _ (b : Board) (st : Standing b) where
   fits = bound-fits (b .network) (st .inv .lawful)
 
   pub standing-playing : playing b ≡ true
-  unfolding playing
-  standing-playing = both-true _ _ (eq-eqb _ _ (st .stage)) (kept-intact b (st .inv) (omega (arith, never-full, fits)))
+  standing-playing = playing-staged b ∙ both-true _ _ (eq-eqb _ _ (st .stage)) (kept-intact b (st .inv) (omega (arith, never-full, fits)))
 
 -- undo after a move
 undo-taken : (b : Board) → Standing b → 0 < b .moves → undoRefusal b ≡ 0

@@ -7,11 +7,12 @@ use Prim.Native.Nat.{ℕ, _≤_}
 use native.Mathlib.Omega.{arith}
 use lib.Dec.{eqb}
 use borrow.Author.Tests.{le-leb, eq-eqb, ne-eqb}
-use Rattle.lists.proofs.Laws.{pick-yes, pick-no, both-right, both-true}
+use Rattle.lists.proofs.Laws.{pick-yes, pick-no, both-true}
 use Rattle.board.specs.Record.{playStage, finishedStage}
 use Rattle.board.specs.declared.Board.{Board}
 use Rattle.load.specs.Load.{loadText}
-use Rattle.move_guard.specs.Guard.{intact, playing}
+use Rattle.move_guard.specs.Guard.{intact, loaded}
+use Rattle.move_guard.proofs.Facts.{playing-intact}
 use Rattle.report_routes.specs.Routes.{route}
 use Rattle.report_routes.specs.Tables.{routesFit}
 use Rattle.report.specs.Reports.{started, unreported, reportText}
@@ -29,14 +30,13 @@ use Rattle.theorem_list.proofs.Rooms.{routes-fit}
 
 -- the test of a board, from its parts
 all-started : (b : Board) → playStage ≤ b .stage → b .stage ≤ finishedStage → intact b ≡ true → routesFit b ≡ true → started b ≡ true
-unfolding started
-all-started b from to whole room = both-true _ _ (both-true _ _ (le-leb _ _ from) (le-leb _ _ to)) (both-true _ _ whole room)
+unfolding started loaded
+all-started b from to whole room = both-true _ _ (both-true _ _ (both-true _ _ (le-leb _ _ from) (le-leb _ _ to)) whole) room
 
 -- a board of play, and the same once play is over
 module _ (b : Board) (st : Standing b) where
   standing-intact : intact b ≡ true
-  unfolding playing
-  standing-intact = both-right _ _ (standing-playing b st)
+  standing-intact = playing-intact b (standing-playing b st)
 
   standing-unreported : unreported b ≡ 28
   unfolding unreported

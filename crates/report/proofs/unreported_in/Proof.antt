@@ -23,21 +23,21 @@ returns : tie.Need-returns
 returns c =
     let args = c .before .before .before .before .args in
     let refused = not-true (c .before .and3 .result) (c .if1 .taken) in
-    let t : both (both (leb playStage (args .stage)) (leb (args .stage) finishedStage)) (both (args .sound) (args .fit)) ≡ false = cc in
+    let t : both (both (both (leb playStage (args .stage)) (leb (args .stage) finishedStage)) (args .sound)) (args .fit) ≡ false = cc in
     sym (pick-no _ _ _ t)
 
 returns-2 : tie.Need-returns-2
 returns-2 c =
     let args = c .before .before .before .before .before .args in
     let passed = not-false (c .before .before .and3 .result) (c .before .if1 .left) in
-    let t : both (both (leb playStage (args .stage)) (leb (args .stage) finishedStage)) (both (args .sound) (args .fit)) ≡ true = cc in
+    let t : both (both (both (leb playStage (args .stage)) (leb (args .stage) finishedStage)) (args .sound)) (args .fit) ≡ true = cc in
     sym (pick-yes _ _ _ t ∙ pick-yes _ _ _ (eq-eqb _ _ (c .if2 .taken)))
 
 returns-3 : tie.Need-returns-3
 returns-3 c =
     let args = c .before .before .before .before .before .args in
     let passed = not-false (c .before .before .and3 .result) (c .before .if1 .left) in
-    let t : both (both (leb playStage (args .stage)) (leb (args .stage) finishedStage)) (both (args .sound) (args .fit)) ≡ true = cc in
+    let t : both (both (both (leb playStage (args .stage)) (leb (args .stage) finishedStage)) (args .sound)) (args .fit) ≡ true = cc in
     sym (pick-yes _ _ _ t ∙ pick-no _ _ _ (ne-eqb _ _ (c .if2 .left)))
 
 pub unreported-in-spec : {M : Type 1} → statement M
