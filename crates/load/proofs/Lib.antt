@@ -1,1 +1,2 @@
 pub mod Loads
+pub mod Longest

@@ -2,3 +2,4 @@ pub mod Ends
 pub mod Fields
 pub mod FieldColumns
 pub mod Accepted
+pub mod Lengths

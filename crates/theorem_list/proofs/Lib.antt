@@ -11,3 +11,4 @@ pub mod Stands
 pub mod EveryList
 pub mod Rooms
 pub mod Reports
+pub mod Longest

@@ -8,12 +8,14 @@ use Prim.Native.Nat.{ℕ, suc, _<_, _≤_}
 use native.Mathlib.Omega.{arith}
 use lib.ListN.{length, getD}
 use borrow.Author.Tests.{le-leb}
-use Rattle.lists.specs.Members.{Below}
+use Rattle.lists.specs.Members.{Distinct, Below}
 use Rattle.lists.proofs.Laws.{lt-or-ge, all-zero}
 use Rattle.lists.proofs.Pigeon.{pigeon}
 use Rattle.board.specs.Limits.{maxVertices}
 use Rattle.board.specs.declared.Board.{Board}
-use Rattle.move_guard.specs.Parts.{head, place}
+use Rattle.board.specs.declared.Network.{Network}
+use Rattle.text_rules.specs.Rules.{Lawful}
+use Rattle.move_guard.specs.Parts.{place}
 use Rattle.report_routes.specs.Routes.{route}
 use Rattle.report_routes.specs.Tables.{routesFit}
 use Rattle.theorem_keep.specs.Invariant.{Invariant}
@@ -30,22 +32,28 @@ vertices-along-below : (heads : List ℕ) (n v : ℕ) (es : List ℕ) → v < n 
 vertices-along-below heads n v [] h ends = (h, tt)
 vertices-along-below heads n v (e ∷ es) h ends = (h, vertices-along-below heads n (getD heads e 0) es (ends e) ends)
 
-module _ (b : Board) (inv : Invariant b) where
+module _ (net : Network) (law : Lawful net) where
   -- a place past the edges holds 0, which is a vertex
-  head-below : (e : ℕ) → head b e < b .network .vertices
-  head-below e = go (lt-or-ge e (b .network .edges))
+  head-below : (e : ℕ) → getD (net .heads) e 0 < net .vertices
+  head-below e = go (lt-or-ge e (net .edges))
     where
-      go : (e < b .network .edges) ⊎ (b .network .edges ≤ e) → head b e < b .network .vertices
-      go (inl h) = inv .lawful .head e h
-      go (inr h) = omega (arith, inv .lawful .no-edge e h .1, inv .lawful .vertices)
+      go : (e < net .edges) ⊎ (net .edges ≤ e) → getD (net .heads) e 0 < net .vertices
+      go (inl h) = law .head e h
+      go (inr h) = omega (arith, law .no-edge e h .1, law .vertices)
 
+  -- edges that lead over distinct vertices are fewer than the vertices
+  pub distinct-few : (v : ℕ) (es : List ℕ) → v < net .vertices → Distinct (verticesAlong (net .heads) v es) → length es < net .vertices
+  distinct-few v es h once =
+      let below = vertices-along-below (net .heads) (net .vertices) v es h head-below in
+      let few = pigeon (net .vertices) (verticesAlong (net .heads) v es) once below in
+      omega (arith, few, vertices-along-length (net .heads) v es)
+
+module _ (b : Board) (inv : Invariant b) where
   route-short : (i : ℕ) → i < b .network .terminals → length (route b i) ≤ maxVertices
   route-short i h =
       let once =
       rising-once (b .network .tails) (b .network .heads) (level b) (route b i) (inv .routes i h) (λ e t. acyclic-rises b inv e (inv .on-routes i e h t)) in
-      let below = vertices-along-below (b .network .heads) (b .network .vertices) (place b i) (route b i) (inv .placed i h) head-below in
-      let few = pigeon (b .network .vertices) (verticesAlong (b .network .heads) (place b i) (route b i)) once below in
-      omega (arith, few, vertices-along-length (b .network .heads) (place b i) (route b i), inv .lawful .vertices)
+      omega (arith, distinct-few (b .network) (inv .lawful) (place b i) (route b i) (inv .placed i h) once, inv .lawful .vertices)
 
   pub routes-fit : routesFit b ≡ true
   unfolding routesFit
