@@ -10,10 +10,12 @@ use Rattle.lists.proofs.Laws.{Known, was-true, was-false, known, pick-yes, pick
 use Rattle.board.specs.Limits.{maxVertices}
 use Rattle.board.specs.Record.{closedBoard}
 use Rattle.board.specs.declared.Board.{Board}
+use Rattle.board.specs.declared.Network.{Network}
 use Rattle.text_rules.specs.Rules.{Lawful}
 use Rattle.text.specs.declared.Reading.{Reading}
+use Rattle.text.specs.Text.{textOf}
 use Rattle.text.specs.Results.{readText}
-use Rattle.text.proofs.Accepted.{acceptedAs, accepted-text}
+use Rattle.text.proofs.Accepted.{acceptedAs, accepted-text, accepts}
 use Rattle.load.specs.declared.Loaded.{Loaded}
 use Rattle.load.specs.Load.{acyclicOf, opened, loadText}
 
@@ -66,3 +68,11 @@ module _ (s : List ℕ) where
 
     pub loaded-lawful : Lawful (readText s .network)
     loaded-lawful = read-lawful s (sym load-answer ∙ h)
+
+-- the text of a lawful network gives the board of that network
+pub load-text : (net : Network) → Lawful net → loadText (textOf net) ≡ record { answer = 0; board = opened net (acyclicOf net) }
+load-text net law =
+    let read = accepts net law in
+    let same : readText (textOf net) .network ≡ net = ap (λ (r : Reading). r .network) read in
+    let given = accepted-as (textOf net) (ap (λ (r : Reading). r .answer) read) in
+    rw same at given

@@ -3,9 +3,9 @@
 use mathlib.Core.Path.{_≡_}
 use mathlib.Core.Bool.{true}
 use mathlib.Core.List.{List, _++_}
-use Prim.Native.Nat.{ℕ, _≤_}
+use Prim.Native.Nat.{ℕ, _≤_, _<_}
 use lib.ListN.{length, drop}
-use borrow.Author.Tests.{le-leb}
+use borrow.Author.Tests.{le-leb, lt-leb}
 use Rattle.lists.specs.Choice.{pick}
 use Rattle.lists.proofs.Laws.{both-true}
 use Rattle.board.specs.declared.Network.{Network}
@@ -33,3 +33,16 @@ writes-loaded s b buf h stage fits =
     let a = accepted-text s (b .network) h in
     let l = writable-stage (b .stage) (b .network) stage (lawful-tested (b .network) (a .1)) in
     rw (a .0) (writes b buf l (rw (a .0) at fits))
+
+-- a buffer that is too short for the text is refused, and nothing is written
+refuses-short : (b : Board) (buf : List ℕ) → writable (b .stage) (b .network) ≡ true → length buf < length (textOf (b .network))
+    → (writeText b (length buf) ≡ record { answer = 8; used = 0 }) × (written b buf ≡ buf)
+unfolding writeText written pick
+refuses-short b buf l short = let e = lt-leb (length (textOf (b .network))) (length buf) short in (rw (l, e), rw (l, e))
+
+pub short-refused : (s : List ℕ) (b : Board) (buf : List ℕ) → readText s ≡ acceptedAs (b .network) → (playStage ≤ b .stage) × (b .stage ≤ finishedStage)
+    → length buf < length s → (writeText b (length buf) ≡ record { answer = 8; used = 0 }) × (written b buf ≡ buf)
+short-refused s b buf h stage short =
+    let a = accepted-text s (b .network) h in
+    let l = writable-stage (b .stage) (b .network) stage (lawful-tested (b .network) (a .1)) in
+    refuses-short b buf l (rw (a .0) at short)

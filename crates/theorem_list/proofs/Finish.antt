@@ -154,7 +154,7 @@ module _ (b : Board) (st : Standing b) where
   unfolding playedOut
   solving = solves maxMoves b st over-home
 
-  finish-taken : finishRefusal b ≡ 0
+  pub finish-taken : finishRefusal b ≡ 0
   unfolding finishRefusal
   finish-taken = pick-yes (playing b) _ 20 (standing-playing b st) ∙ pick-yes (allHome (playedOut b)) 0 20 over-home
 

@@ -59,7 +59,7 @@ unfolding finishOutput reportOf
 report-printed f taken there = pick-yes (eqb (f .answer) 0) _ _ (eq-eqb _ 0 taken) ∙ pick-yes (eqb (unreported (f .board)) 0) _ _ (eq-eqb _ 0 there)
 
 -- the board after any calls is one of play
-played-standing : (text : List ℕ) (cs : List Call) → loadText text .answer ≡ 0 → Standing (played (loadText text .board) cs)
+pub played-standing : (text : List ℕ) (cs : List Call) → loadText text .answer ≡ 0 → Standing (played (loadText text .board) cs)
 played-standing text cs loads =
     rw (every-list text cs loads .board) (stands-follows text loads (standingMoves text [] cs) (all-stand text loads [] cs none) .standing)
 

@@ -1,0 +1,28 @@
+-- The book, whole.
+use Rattle.graph_flows.proofs.Walk.{on-cycle-first, first-on-cycle}
+use Rattle.theorem_keep.proofs.Network.{acyclic-of-below, acyclic-of-acyclic, acyclic-of-balance}
+use Rattle.theorem_list.proofs.EveryList.{every-list}
+use Rattle.promises.specs.Cancelling.{AboutCancelling}
+use Rattle.promises.specs.Book.{Book}
+use Rattle.promises.proofs.Texts.{about-texts}
+use Rattle.promises.proofs.Moves.{about-moves}
+use Rattle.promises.proofs.Sheets.{about-sheets}
+use Rattle.promises.proofs.Refusals.{about-refusals}
+
+about-cancelling : AboutCancelling
+about-cancelling = record {
+  on-cycle = λ tails heads flows n v w h. (on-cycle-first tails heads flows n v, first-on-cycle tails heads flows n v w h);
+  none-left = acyclic-of-acyclic;
+  none-raised = acyclic-of-below;
+  still-balanced = acyclic-of-balance;
+}
+
+pub book : Book
+book = record {
+  texts = about-texts;
+  cancelling = about-cancelling;
+  moves = about-moves;
+  every-list = every-list;
+  sheets = about-sheets;
+  refusals = about-refusals;
+}

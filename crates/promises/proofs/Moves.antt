@@ -1,0 +1,103 @@
+-- Moves. What a board of play keeps, the invariant, gives what a mark means, the amount of a turn and the board that an undo gives back; the rules of a carry and of
+-- a turn hold on any board.
+use mathlib.Core.Path.{_≡_, refl, sym, ap, _∙_}
+use mathlib.Core.Bool.{true, false}
+use mathlib.Core.Logic.{_⊎_, _↔_}
+use mathlib.Core.List.{List}
+use Prim.Native.Nat.{ℕ, _+_, _<_, _≤_}
+use lib.Dec.{eqb}
+use borrow.Author.Tests.{eq-eqb}
+use Rattle.lists.proofs.Laws.{pick-yes}
+use Rattle.sets.specs.Sets.{hasBit}
+use Rattle.board.specs.declared.Board.{Board}
+use Rattle.graph_flows.specs.Paths.{Unparted}
+use Rattle.graph_flows.specs.Trails.{Step, down, up, In}
+use Rattle.load.specs.Load.{loadText}
+use Rattle.load.proofs.Loads.{load-accepted}
+use Rattle.move_guard.specs.Parts.{flow, head, marked, demand, place}
+use Rattle.move_edges.specs.Marking.{singular, fresh}
+use Rattle.move_carry.specs.Carries.{carried}
+use Rattle.move_cycle.specs.Amounts.{amount}
+use Rattle.move_turn.specs.Turns.{turnRefusal}
+use Rattle.solve_next.specs.Choosing.{noKind, allHome}
+use Rattle.solve_next.specs.Hints.{offers, Hinted}
+use Rattle.solve_next.specs.declared.Suggestion.{Suggestion}
+use Rattle.theorem_keep.specs.Allowed.{Turnable, Attained}
+use Rattle.theorem_keep.specs.Invariant.{Invariant}
+use Rattle.theorem_keep.proofs.Kept.{joined}
+use Rattle.theorem_keep.proofs.Single.{straight-unparted}
+use Rattle.theorem_keep.proofs.Carriable.{carry-facts, carry-accepted}
+use Rattle.theorem_keep.proofs.Turnable.{turn-facts, turn-accepted}
+use Rattle.theorem_keep.proofs.TurnedMarks.{Fresh, fresh-facts, fresh-of, unparted-single}
+use Rattle.theorem_keep.proofs.MarkedEdges.{turn-marks, marked-singular}
+use Rattle.theorem_keep.proofs.Amounted.{SomeDown, amount-down, amount-above, amount-up, amount-attained, some-down}
+use Rattle.theorem_keep.proofs.Potential.{level, level-rises}
+use Rattle.theorem_keep.proofs.Standing.{Standing, carry-undone, turn-undone}
+use Rattle.theorem_list.specs.Player.{Offered}
+use Rattle.theorem_list.proofs.Ends.{home-facts}
+use Rattle.theorem_list.proofs.Finish.{hint-taken}
+use Rattle.theorem_list.proofs.Next.{next-accepted}
+use Rattle.promises.specs.Plays.{OfPlay}
+use Rattle.promises.specs.Moves.{AboutMoves}
+use Rattle.promises.proofs.Plays.{play-standing}
+
+single : (b : Board) (e : ℕ) → Invariant b → e < b .network .edges
+    → (singular b e ≡ true) ↔ Unparted (b .network .tails) (b .network .heads) (b .flows) (head b e)
+unfolding singular
+single b e inv h =
+    (
+      λ s. straight-unparted (b .network .tails) (b .network .heads) (b .flows) (b .network .vertices) (head b e) (joined b inv) (inv .lawful .head e h) s,
+      λ u. unparted-single b inv e u,
+    )
+
+unmarked : (text : List ℕ) → loadText text .answer ≡ 0 → loadText text .board .marks ≡ 0
+unmarked text h = ap (λ (b : Board). b .marks) (load-accepted text h)
+
+newly : (b : Board) (e : ℕ) → (hasBit (fresh b) e ≡ true) ↔ ((marked b e ≡ false) × (0 < flow b e) × (singular b e ≡ true))
+newly b e =
+    (λ h. let f = fresh-facts b e h in (f .unmarked, f .above, f .single), λ f. fresh-of b e (record { unmarked = f .0; above = f .1; single = f .2 }))
+
+carry-kept : (b : Board) (i e : ℕ) → carried b i e .marks ≡ b .marks
+unfolding carried
+carry-kept b i e = refl
+
+-- an accepted turn has a down-step, so that its amount is one of those that document 01 names
+module _ (b : Board) (w : List Step) (st : Standing b) (h : turnRefusal b w ≡ 0) where
+  turns : Turnable b w
+  turns = turn-facts b w h .1
+
+  down-step : SomeDown w
+  down-step = some-down (b .network .tails) (b .network .heads) (level b) w (turns .cycle) (λ s i. level-rises b (st .inv) _ (turns .above s i))
+
+  one : (0 < amount b w) × Attained b w
+  one = (amount-above b w (down-step .edge) (turns .above) (down-step .among), amount-attained b w (down-step .edge) (turns .above) (down-step .among))
+
+-- a hint that is taken
+offered : (b : Board) (h : Suggestion) → Standing b → Hinted b h → Offered b h
+offered b h st k = let taken = k .number ∙ hint-taken b st in record { number = taken; move = k .move taken }
+
+-- it gives no move only with every terminal at the source
+none-home : (b : Board) (h : Suggestion) → Offered b h → h .advice .kind ≡ noKind → allHome b ≡ true
+unfolding offers
+none-home b h o q = sym (pick-yes (eqb (h .advice .kind) noKind) (allHome b) _ (eq-eqb _ _ q)) ∙ o .move
+
+pub about-moves : AboutMoves
+about-moves = record {
+  single-iff = λ text b e p. single b e (play-standing text b p .inv);
+  none-marked = unmarked;
+  turn-marks = turn-marks;
+  carry-marks = carry-kept;
+  newly-marked = newly;
+  marked-single = λ text b e p m h. marked-singular b (play-standing text b p .inv) e (record { mark = m; above = h });
+  carry-iff = λ b i e. (carry-facts b i e, λ h. carry-accepted b i e (h .0) (h .1));
+  turn-iff = λ b w. (turn-facts b w, λ h. turn-accepted b w (h .0) (h .1));
+  amount-down = λ text b w e p h i. amount-down b w e (turn-facts b w h .1 .above) i;
+  amount-up = λ text b w e i p h. amount-up b w e i (turn-facts b w h .1 .above);
+  amount-one = λ text b w p h. one b w (play-standing text b p) h;
+  carry-undone = λ text b i e p h. carry-undone b i e (play-standing text b p) h;
+  turn-undone = λ text b w p h. turn-undone b w (play-standing text b p) h;
+  hint-offers = λ text b h p k. offered b h (play-standing text b p) k;
+  hint-none = λ text b h p k q.
+      let st = play-standing text b p in home-facts b (st .inv) (none-home b h (offered b h st k) q);
+  next-accepted = λ text b p away. next-accepted b (play-standing text b p) away;
+}

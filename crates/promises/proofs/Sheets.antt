@@ -1,0 +1,64 @@
+-- The shelf, the sheets and what the programs print: each is proved where its definition stands, and gathered here.
+use mathlib.Core.Path.{_≡_, ap, _∙_}
+use mathlib.Core.Bool.{true}
+use mathlib.Core.Logic.{_≢_}
+use mathlib.Core.List.{List}
+use Prim.Native.Nat.{ℕ, _≤_, _<_}
+use native.Mathlib.Omega.{arith}
+use lib.Dec.{leb, eqb}
+use lib.ListN.{length}
+use borrow.Author.Tests.{ne-eqb, le-leb, lt-leb, leb-true}
+use Rattle.lists.proofs.Laws.{pick-yes, pick-no}
+use Rattle.board.specs.declared.Board.{Board}
+use Rattle.load.specs.Load.{loadText}
+use Rattle.solve_finish.specs.declared.Finished.{Finished}
+use Rattle.solve_finish.specs.Finishes.{finishCall}
+use Rattle.report.specs.Reports.{reportText, unreported}
+use Rattle.sheet_output.specs.Outputs.{numberLine, sheetOutput}
+use Rattle.sheet_output.proofs.Prefix.{sheet-prefix}
+use Rattle.catalog.specs.Table.{table}
+use Rattle.catalog.specs.Catalog.{boards, catalogText, catalogCall}
+use Rattle.catalog.proofs.Rule.{all-accepted}
+use Rattle.catalog.proofs.Assured.{loads}
+use Rattle.theorem_list.proofs.Reports.{every-report, sheet-printed}
+use Rattle.theorem_list.proofs.Longest.{report-short}
+use Rattle.promises.specs.Plays.{OfPlay, OfFinish}
+use Rattle.promises.specs.Sheets.{AboutSheets}
+
+large : 1500 ≤ length table
+large = leb-true 1500 (length table) refl
+
+above : (k n : ℕ) → 39 < k → catalogCall k n ≡ record { answer = 2; used = 0 }
+unfolding catalogCall
+above k n h = pick-yes (leb boards k) _ _ (le-leb boards k (omega arith))
+
+short : (k n : ℕ) → k ≤ 39 → n < length (catalogText k) → catalogCall k n ≡ record { answer = 8; used = 0 }
+unfolding catalogCall
+short k n low h =
+    pick-no (leb boards k) _ _ (lt-leb boards k (omega (arith, low))) ∙ pick-no (leb (length (catalogText k)) n) _ _ (lt-leb (length (catalogText k)) n h)
+
+-- a board that finish gave, by the board before it
+after : (text : List ℕ) (f : Board) → OfFinish text f → unreported f ≡ 0
+after text f p = let q = p .play in rw (p .given, q .after) (every-report text (q .calls) (q .accepted) .after)
+
+room : (text : List ℕ) (f : Board) → OfFinish text f → length (reportText f) ≤ 2948
+room text f p = let q = p .play in rw (p .given, q .after) (report-short text (q .calls) (q .accepted))
+
+refused : (text : List ℕ) → loadText text .answer ≢ 0 → sheetOutput text ≡ numberLine (loadText text .answer)
+unfolding sheetOutput
+refused text h = pick-no _ _ _ (ne-eqb _ 0 h)
+
+pub about-sheets : AboutSheets
+about-sheets = record {
+  table-size = large;
+  forty-boards = all-accepted;
+  shelf-accepted = loads;
+  shelf-above = above;
+  shelf-short = short;
+  sheet-before = λ text b p. rw (p .after) (every-report text (p .calls) (p .accepted) .before);
+  sheet-after = after;
+  sheet-printed = λ text h. sheet-printed text h .printed;
+  sheet-refused = refused;
+  sheet-reads = sheet-prefix;
+  sheet-room = room;
+}

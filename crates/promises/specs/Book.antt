@@ -1,0 +1,22 @@
+-- The book of promises: every sentence of document 01 and of the three demands that claims something, in the paper's order. Demand 1 besides: no function traps, wraps or
+-- runs on, which is what the checker proves of each.
+use mathlib.Core.Path.{_≡_}
+use mathlib.Core.List.{List}
+use Prim.Native.Nat.{ℕ}
+use Rattle.load.specs.Load.{loadText}
+use Rattle.move_list.specs.Calls.{Call, played}
+use Rattle.theorem_list.specs.Faithful.{Faithful}
+use Rattle.promises.specs.Texts.{AboutTexts}
+use Rattle.promises.specs.Cancelling.{AboutCancelling}
+use Rattle.promises.specs.Moves.{AboutMoves}
+use Rattle.promises.specs.Sheets.{AboutSheets}
+use Rattle.promises.specs.Refusals.{AboutRefusals}
+
+pub record Book : Type 0 where
+  pub texts : AboutTexts
+  pub cancelling : AboutCancelling
+  pub moves : AboutMoves
+  -- "Demand 3 is one claim about a whole list of carries, turns, hints and undos, of any length, and not a claim for each call"
+  pub every-list : (text : List ℕ) (cs : List Call) → loadText text .answer ≡ 0 → Faithful text cs (played (loadText text .board) cs)
+  pub sheets : AboutSheets
+  pub refusals : AboutRefusals

@@ -1,0 +1,7 @@
+pub mod Plays
+pub mod Texts
+pub mod Cancelling
+pub mod Moves
+pub mod Refusals
+pub mod Sheets
+pub mod Book

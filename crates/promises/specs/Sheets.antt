@@ -1,0 +1,36 @@
+-- Document 01, "The shelf" and "Route sheet". The sheet itself is `reportText`, over the routes and loads of the player.
+use mathlib.Core.Path.{_≡_}
+use mathlib.Core.Bool.{true}
+use mathlib.Core.Logic.{_≢_}
+use mathlib.Core.List.{List}
+use Prim.Native.Nat.{ℕ, _≤_, _<_}
+use lib.ListN.{length, take}
+use Rattle.board.specs.declared.Board.{Board}
+use Rattle.load.specs.Load.{loadText}
+use Rattle.solve_finish.specs.Finishes.{finishCall}
+use Rattle.report.specs.Reports.{reportText, unreported}
+use Rattle.sheet_output.specs.Inputs.{textSpace}
+use Rattle.sheet_output.specs.Outputs.{numberLine, sheetOutput}
+use Rattle.catalog.specs.Table.{table}
+use Rattle.catalog.specs.Catalog.{boards, catalogText, catalogCall, allAccepted}
+use Rattle.promises.specs.Plays.{OfPlay, OfFinish}
+
+pub record AboutSheets : Type 0 where
+  -- "Forty boards of the team's making, one constant table of at least 1,500 numbers": nothing is left behind the fortieth
+  pub table-size : 1500 ≤ length table
+  pub forty-boards : allAccepted 40 table ≡ true
+  -- "every entry, written as text, is an accepted board"
+  pub shelf-accepted : (k : ℕ) → k < 40 → loadText (catalogText k) .answer ≡ 0
+  -- "refused 2 for a number above 39, then 8"
+  pub shelf-above : (k n : ℕ) → 39 < k → catalogCall k n ≡ record { answer = 2; used = 0 }
+  pub shelf-short : (k n : ℕ) → k ≤ 39 → n < length (catalogText k) → catalogCall k n ≡ record { answer = 8; used = 0 }
+  -- "28 not finished": so it is on every board of play; a board that a finish gave has a sheet
+  pub sheet-before : (text : List ℕ) (b : Board) → OfPlay text b → unreported b ≡ 28
+  pub sheet-after : (text : List ℕ) (f : Board) → OfFinish text f → unreported f ≡ 0
+  -- "Program `sheet` reads a board on standard input, finishes it and prints the sheet, or the refusal number alone on a line"
+  pub sheet-printed : (text : List ℕ) → loadText text .answer ≡ 0 → sheetOutput text ≡ reportText (finishCall (loadText text .board) .board)
+  pub sheet-refused : (text : List ℕ) → loadText text .answer ≢ 0 → sheetOutput text ≡ numberLine (loadText text .answer)
+  -- it reads no more of a long input than decides
+  pub sheet-reads : (input : List ℕ) → sheetOutput (take textSpace input) ≡ sheetOutput input
+  -- the room that a sheet needs
+  pub sheet-room : (text : List ℕ) (f : Board) → OfFinish text f → length (reportText f) ≤ 2948
