@@ -9,7 +9,7 @@ use native.Mathlib.Omega.{arith}
 use lib.Dec.{leb, eqb}
 use lib.ListN.{length, getD, set}
 use borrow.Author.Tests.{eq-eqb, ne-eqb, lt-leb}
-use Rattle.lists.specs.Choice.{both}
+use Rattle.lists.specs.Choice.{pick, both}
 use Rattle.lists.proofs.Laws.{lt-or-ge, eq-or-ne, pick-yes, pick-no, pick-passed}
 use Rattle.board.specs.Limits.{maxEdges, maxMoves}
 use Rattle.board.specs.Record.{blank, playStage}
@@ -104,21 +104,31 @@ module _ (play anyOpen : Bool) (net : Network) (flows : List ℕ) where
       let on = pick-passed (every (meetsOn OnBoard (net .edges) (net .tails) (net .heads) flows (net .vertices)) (stepsOf s)) _ 5 (pick-passed play _ 19 h .1) .0 in
       (now, in-sets (net .edges) (net .tails) (net .heads) flows (net .vertices) (now .room) s on)
 
+-- whether a carry is open counts on a board in play alone
+pub refusal-in-play : (play anyOpen : Bool) (net : Network) (flows : List ℕ) (w : List Step)
+    → turnRefusalIn play (both play anyOpen) net flows w ≡ turnRefusalIn play anyOpen net flows w
+unfolding turnRefusalIn pick both
+refusal-in-play true anyOpen net flows w = refl
+refusal-in-play false anyOpen net flows w = refl
+
+change-in-play : (play anyOpen : Bool) (net : Network) (flows : List ℕ) (marks : ℕ) (places : List ℕ) (w : List Step)
+    → turnChange play (both play anyOpen) net flows marks places w ≡ turnChange play anyOpen net flows marks places w
+unfolding turnChange
+change-in-play play anyOpen net flows marks places w =
+    ap (λ n. pick (eqb n 0) (turnedIn net flows marks places w) (unchanged n flows marks places)) (refusal-in-play play anyOpen net flows w)
+
 -- what the call changes on a board
-abbrev pub turnMade : Board → List ℕ → Change
-turnMade b s = turnChange (playing b) (someOpen b) (b .network) (b .flows) (b .marks) (b .places) (stepsOf s)
+abbrev pub turnMade : Board → List Step → Change
+turnMade b w = turnChange (playing b) (someOpen b) (b .network) (b .flows) (b .marks) (b .places) w
 
-pub turn-changes : (b : Board) (s : List ℕ) → turnCall b s ≡ changed b (turnMade b s)
+pub turn-changes : (b : Board) (w : List Step) → turnCall b w ≡ changed b (turnMade b w)
 unfolding turnCall
-turn-changes b s = go (eq-or-ne number 0)
+turn-changes b w = go (eq-or-ne number 0)
   where
-    w : List Step
-    w = stepsOf s
-
     number : ℕ
     number = turnRefusalIn (playing b) (someOpen b) (b .network) (b .flows) w
 
-    go : (number ≡ 0) ⊎ (number ≢ 0) → answered (turnRefusal b w) b (turned b w) ≡ changed b (turnMade b s)
+    go : (number ≡ 0) ⊎ (number ≢ 0) → answered (turnRefusal b w) b (turned b w) ≡ changed b (turnMade b w)
     go (inl z) =
         answered-yes _ b (turned b w) (sym (refusal-same b w) ∙ z)
         ∙ ap (λ (n : Board). record { answer = 0; board = n }) (sym (turned-same b w))
@@ -129,26 +139,26 @@ turn-changes b s = go (eq-or-ne number 0)
         ∙ sym (ap (changed b) (change-refused _ _ _ _ _ _ w n) ∙ answered-no number b _ n)
 
 -- the call's answer by the change
-module _ (b : Board) (s : List ℕ) (c : Change) (e : c ≡ turnMade b s) where
-  by-change : changed b c ≡ turnCall b s
-  by-change = ap (changed b) e ∙ sym (turn-changes b s)
+module _ (b : Board) (w : List Step) (c : Change) (e : c ≡ turnMade b w) where
+  by-change : changed b c ≡ turnCall b w
+  by-change = ap (changed b) e ∙ sym (turn-changes b w)
 
-  pub turn-refused : c .answer ≢ 0 → numbered c b ≡ turnCall b s
+  pub turn-refused : c .answer ≢ 0 → numbered c b ≡ turnCall b w
   turn-refused h = stores.change-refused b c h ∙ by-change
 
   -- a turn keeps the places, so the code stores none
-  pub turn-change-made : c .answer ≡ 0 → numbered c (moved b (c .flows) (c .marks) (b .places) (c .entry)) ≡ turnCall b s
+  pub turn-change-made : c .answer ≡ 0 → numbered c (moved b (c .flows) (c .marks) (b .places) (c .entry)) ≡ turnCall b w
   turn-change-made h =
       let kept : c .places ≡ b .places = ap (λ (k : Change). k .places) e ∙ change-places _ _ _ _ _ _ _ in
       ap (λ (p : List ℕ). numbered c (moved b (c .flows) (c .marks) p (c .entry))) (sym kept) ∙ stores.change-stored b c h ∙ by-change
 
   -- the board's parts as the code stores them, the journal whole
   pub turn-stored : (j : List Entry) → c .answer ≡ 0 → j ≡ set (b .journal) (b .moves) (c .entry)
-      → numbered c (withParts b (c .flows) (c .marks) (b .places) j (b .moves + 1)) ≡ turnCall b s
+      → numbered c (withParts b (c .flows) (c .marks) (b .places) j (b .moves + 1)) ≡ turnCall b w
   turn-stored j h e = rw e (turn-change-made h)
 
   pub turn-plays : c .answer ≡ 0 → playing b ≡ true
-  turn-plays h = accepted-plays _ _ _ _ (stepsOf s) (sym (ap (λ (k : Change). k .answer) e ∙ change-answer _ _ _ _ _ _ _) ∙ h)
+  turn-plays h = accepted-plays _ _ _ _ w (sym (ap (λ (k : Change). k .answer) e ∙ change-answer _ _ _ _ _ _ _) ∙ h)
 
 past-room : (net : Network) (acyclic flows places : List ℕ) (moves : ℕ) (x y : Move) → leb moves maxMoves ≡ false → intactIn net acyclic flows places moves x ≡ intactIn net acyclic flows places moves y
 unfolding both
@@ -169,10 +179,12 @@ play-made b k play fits hk hf hp = hp ∙ ap (both (eqb (b .stage) playStage)) (
     go (inr h) = rw (hk h)
 
 -- the change that the code makes of the parts of a board
-pub made-by : (b : Board) (s : List ℕ) (k : ℕ) (play fits anyOpen : Bool) (c : Change) → (b .moves ≤ maxMoves → k ≡ b .moves - 1)
+pub made-by : (b : Board) (w : List Step) (k : ℕ) (play fits anyOpen : Bool) (c : Change) → (b .moves ≤ maxMoves → k ≡ b .moves - 1)
     → fits ≡ intactIn (b .network) (b .acyclic) (b .flows) (b .places) (b .moves) (getD (b .journal) k blank .step)
-    → play ≡ both (eqb (b .stage) playStage) fits → anyOpen ≡ someOpenIn (b .network) (b .flows) (b .marks) (b .places)
-    → c ≡ turnChange play anyOpen (b .network) (b .flows) (b .marks) (b .places) (stepsOf s) → c ≡ turnMade b s
-made-by b s k play fits anyOpen c hk hf hp ho hc =
+    → play ≡ both (eqb (b .stage) playStage) fits → anyOpen ≡ both play (someOpenIn (b .network) (b .flows) (b .marks) (b .places))
+    → c ≡ turnChange play anyOpen (b .network) (b .flows) (b .marks) (b .places) w → c ≡ turnMade b w
+made-by b w k play fits anyOpen c hk hf hp ho hc =
     hc
-    ∙ ap₂ (λ p o. turnChange p o (b .network) (b .flows) (b .marks) (b .places) (stepsOf s)) (play-made b k play fits hk hf hp) (ho ∙ some-same b)
+    ∙ ap (λ o. turnChange play o (b .network) (b .flows) (b .marks) (b .places) w) ho
+    ∙ change-in-play play (someOpenIn (b .network) (b .flows) (b .marks) (b .places)) _ _ _ _ w
+    ∙ ap₂ (λ p o. turnChange p o (b .network) (b .flows) (b .marks) (b .places) w) (play-made b k play fits hk hf hp) (some-same b)

@@ -17,7 +17,7 @@ use Rattle.move_guard.specs.Guard.{playing}
 use Rattle.move_guard.specs.declared.Change.{Change}
 use Rattle.move_guard.specs.Moved.{moved, answered, unchanged}
 use Rattle.move_carry.specs.Opens.{someOpen}
-use Rattle.move_cycle.specs.Steps.{stepsOf, isUp, every, isCycle, gather}
+use Rattle.move_cycle.specs.Steps.{isUp, every, isCycle, gather}
 use Rattle.move_turn.specs.declared.StepRule.{StepRule}
 use Rattle.move_turn.specs.declared.StepRule.the-variants.{OnBoard, Positive, UpSingular}
 use Rattle.move_edges.specs.Marking.{singularIn, singular, isFreshIn, fresh}
@@ -68,9 +68,9 @@ turned b w =
     moved b (shifted (amount b w) (gather false 0 w) (gather true 0 w) (b .flows)) (joined (b .marks) (fresh b)) (b .places)
     (record { step = Turn (record { amount = amount b w; down = gather false 0 w; up = gather true 0 w; marked = fresh b }) })
 
--- the call, with the steps as bytes
-unfoldable pub turnCall : Board → List ℕ → Played
-turnCall b s = answered (turnRefusal b (stepsOf s)) b (turned b (stepsOf s))
+-- the call
+unfoldable pub turnCall : Board → List Step → Played
+turnCall b w = answered (turnRefusal b w) b (turned b w)
 
 -- the amount and the new marks by the parts of a board
 abbrev pub amountOn : Network → List ℕ → List ℕ → List Step → ℕ

@@ -12,9 +12,10 @@ ghost use mathlib.Core.Bool.{true};
 ghost use Prim.Native.Nat.{_-_, _≤_, _<_};
 ghost use lib.Dec.{ltb};
 ghost use lib.ListN.{getD};
-ghost use Rattle.lists.specs.Choice.{pick};
+ghost use Rattle.lists.specs.Choice.{pick, both};
 ghost use Rattle.graph_flows.specs.Trails.{edgeOf};
 ghost use Rattle.board.specs.Limits.{maxEdges, maxMoves};
+ghost use Rattle.move_carry.specs.Opens.{someOpenIn};
 ghost use Rattle.move_cycle.specs.Steps.{stepOf, stepsOf, InSets, isUp, every};
 ghost use Rattle.move_edges.specs.Incidence.{Incident, PositiveSet};
 ghost use Rattle.move_edges.specs.Marking.{singularBy, ChartedOut};
@@ -218,6 +219,23 @@ fn refusal<'a>(
     )
 }
 
+// Whether the board is in play and a carry is open. The search runs over the network's own counts, and so on a board in
+// play alone, whose counts are within the limits.
+fn open_in_play<'a>(
+    in_play: bool,
+    net: Network,
+    flows: &'a [u32],
+    marks: EdgeSet,
+    places: &'a [u32],
+) -> bool
+    ensures { λ r. ⌜ r ≡ both «in_play» (someOpenIn net (now (flows .entry)) marks (now (places .entry))) ⌝ }
+{
+    if !in_play {
+        return false;
+    }
+    move_carry::some_open_in(net, flows, marks, places)
+}
+
 // 20, 6, 7, 24, 25 or 26, in this order; 0 where the turn is accepted.
 pub fn turn_refusal(board: Board, steps: &[u8]) -> u32
     ensures { λ r. ⌜ r ≡ turnRefusal board (stepsOf (now (steps .entry))) ⌝ }
@@ -226,7 +244,7 @@ pub fn turn_refusal(board: Board, steps: &[u8]) -> u32
     let net = board.network;
     let flows = board.flows;
     let places = board.places;
-    let any_open = move_carry::some_open_in(net, &flows, board.marks, &places);
+    let any_open = open_in_play(play, net, &flows, board.marks, &places);
     let tails = net.tails;
     let leaving = move_edges::at_vertices(tails);
     let positive = move_edges::positive(flows);
@@ -351,7 +369,7 @@ fn last_place(moves: u32) -> usize
 
 // Augments along the cycle of the steps. The board is changed in place, so that it is copied once.
 pub fn turn(board: Board, steps: &[u8]) -> Played
-    ensures { λ r. ⌜ r ≡ turnCall board (now (steps .entry)) ⌝ }
+    ensures { λ r. ⌜ r ≡ turnCall board (stepsOf (now (steps .entry))) ⌝ }
 {
     let mut next = board;
     let net = next.network;
@@ -363,7 +381,7 @@ pub fn turn(board: Board, steps: &[u8]) -> Played
     let step = last.step;
     let fits = move_guard::intact_in(net, acyclic, flows, places, next.moves, step);
     let play = lists::and(next.stage == Board::PLAY, fits);
-    let any_open = move_carry::some_open_in(net, &flows, next.marks, &places);
+    let any_open = open_in_play(play, net, &flows, next.marks, &places);
     let made = change(play, any_open, net, flows, next.marks, places, steps);
     if made.answer == 0 {
         let m = next.moves as usize;
