@@ -82,8 +82,8 @@ unfolding noted
 one-told b (carry i e) given makes cs buf r out k k' er ek t =
     let u = no-hint b (carry i e) given makes cs buf r out k k' er ek refl t in
     record { hints = u .hints; kept = u .kept; written = u .written }
-one-told b (turn s) given makes cs buf r out k k' er ek t =
-    let u = no-hint b (turn s) given makes cs buf r out k k' er ek refl t in
+one-told b (turn w) given makes cs buf r out k k' er ek t =
+    let u = no-hint b (turn w) given makes cs buf r out k k' er ek refl t in
     record { hints = u .hints; kept = u .kept; written = u .written }
 one-told b undo given makes cs buf r out k k' er ek t =
     let u = no-hint b undo given makes cs buf r out k k' er ek refl t in

@@ -10,6 +10,7 @@ use lib.Seq.{sets}
 use Rattle.board.specs.Limits.{maxEdges}
 use Rattle.board.specs.declared.Board.{Board}
 use Rattle.board.specs.declared.Played.{Played}
+use Rattle.graph_flows.specs.Trails.{Step}
 use Rattle.move_carry.specs.Carries.{carryCall}
 use Rattle.move_turn.specs.Turns.{turnCall}
 use Rattle.move_undo.specs.Undone.{undoCall}
@@ -19,17 +20,17 @@ use Rattle.solve_next.specs.declared.Suggestion.{Suggestion}
 use Rattle.solve_next.specs.Hints.{hintRefusal, Hinted}
 use Rattle.move_list.specs.declared.Reply.{Reply}
 
--- a call with its arguments: a carry of a terminal over an edge, a turn along steps as bytes, an undo, or a hint
+-- a call with its arguments: a carry of a terminal over an edge, a turn along steps, an undo, or a hint
 pub data Call : Type 0 where
   carry : ℕ → ℕ → Call
-  turn : List ℕ → Call
+  turn : List Step → Call
   undo : Call
   hint : Call
 
 -- what one call gives; of a hint, its number
 abbrev pub made : Board → Call → Played
 made b (carry i e) = carryCall b i e
-made b (turn s) = turnCall b s
+made b (turn w) = turnCall b w
 made b undo = undoCall b
 made b hint = record { answer = hintRefusal b; board = b }
 
@@ -48,13 +49,13 @@ HintsKept b [] hs = hs ≡ []
 HintsKept b (hint ∷ cs) [] = ⊥
 HintsKept b (hint ∷ cs) (h ∷ hs) = Hinted b h × HintsKept b cs hs
 HintsKept b (carry i e ∷ cs) hs = HintsKept (made b (carry i e) .board) cs hs
-HintsKept b (turn s ∷ cs) hs = HintsKept (made b (turn s) .board) cs hs
+HintsKept b (turn w ∷ cs) hs = HintsKept (made b (turn w) .board) cs hs
 HintsKept b (undo ∷ cs) hs = HintsKept (made b undo .board) cs hs
 
 -- whether a call is a hint
 abbrev pub isHint : Call → Bool
 isHint (carry i e) = false
-isHint (turn s) = false
+isHint (turn w) = false
 isHint undo = false
 isHint hint = true
 

@@ -8,15 +8,16 @@ use lib.Seq.{sets}
 use Rattle.board.specs.declared.Entry.{Entry}
 use Rattle.board.specs.declared.Move.{Move}
 use Rattle.board.specs.declared.Move.the-variants.{Carry, Turn}
+use Rattle.move_cycle.specs.Steps.{stepsOf}
 use Rattle.move_list.specs.Calls.{Call, carry, turn, undo, hint}
 
--- the steps from a up to c; none where there are no such
+-- the bytes from a up to c; none where there are no such
 unfoldable pub part : List ℕ → ℕ → ℕ → List ℕ
 part steps a c = pick (both (leb a c) (leb c (length steps))) (take (c - a) (drop a steps)) []
 
--- 0: a carry of terminal a over edge c; 1: a turn along the steps from a up to c; 2: an undo; anything else: a hint
+-- 0: a carry of terminal a over edge c; 1: a turn along the steps of the bytes from a up to c; 2: an undo; anything else: a hint
 unfoldable pub callOf : List ℕ → ℕ → ℕ → ℕ → Call
-callOf steps kind a c = pick (eqb kind 0) (carry a c) (pick (eqb kind 1) (turn (part steps a c)) (pick (eqb kind 2) undo hint))
+callOf steps kind a c = pick (eqb kind 0) (carry a c) (pick (eqb kind 1) (turn (stepsOf (part steps a c))) (pick (eqb kind 2) undo hint))
 
 -- three numbers a call; one or two left over are no call
 unfoldable pub callsOf : List ℕ → List ℕ → List Call

@@ -15,6 +15,7 @@ ghost use lib.ListN.{set};
 ghost use Rattle.move_turn.specs.Turns.{turnCall};
 ghost use Rattle.lists.specs.Choice.{pick, either};
 ghost use Rattle.board.specs.Limits.{maxMoves};
+ghost use Rattle.move_cycle.specs.Steps.{stepsOf};
 ghost use Rattle.move_carry.specs.Carries.{carryChange};
 ghost use Rattle.move_undo.specs.Undone.{Small, undoChange};
 ghost use Rattle.move_list.specs.Calls.{
@@ -33,7 +34,7 @@ ghost use lib.Seq.{sets};
 
 // A turn along the steps from a up to c.
 fn turn_part(board: Board, steps: &[u8], a: usize, c: usize) -> Played
-    ensures { λ r. ⌜ r ≡ turnCall board (part (now (steps .entry)) a c) ⌝ }
+    ensures { λ r. ⌜ r ≡ turnCall board (stepsOf (part (now (steps .entry)) a c)) ⌝ }
 {
     let inside = lists::and(a <= c, c <= steps.len());
     if !inside {

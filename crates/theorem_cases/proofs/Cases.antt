@@ -21,6 +21,7 @@ use Rattle.graph.specs.Graph.{opens, pass, passes, reached, leads, onward}
 use Rattle.graph_cancel.specs.Cycles.{since, follow, onCycle, cycleVertex, cycleFrom}
 use Rattle.graph_cancel.specs.Lowering.{smallest, lowered, lowerCycle}
 use Rattle.graph_cancel.specs.Cancelling.{cancelled, acyclicFlows}
+use Rattle.graph_flows.specs.Trails.{Step, down, up}
 use Rattle.load.specs.declared.Loaded.{Loaded}
 use Rattle.load.specs.Load.{loadText}
 use Rattle.move_edges.specs.Singular.{leaves, leaving, straight}
@@ -28,7 +29,7 @@ use Rattle.move_guard.specs.Moved.{lastEntry, answered}
 use Rattle.move_guard.specs.Guard.{intact, loaded, playing}
 use Rattle.move_carry.specs.Opens.{flowFits, enters, isOpen, openEdge, hasOpen, openTerminal, someOpen}
 use Rattle.move_carry.specs.Carries.{onBoard, carryRefusal, carried, carryCall}
-use Rattle.move_cycle.specs.Steps.{stepOf, stepsOf, every, leadsBack, isCycle, gather}
+use Rattle.move_cycle.specs.Steps.{every, leadsBack, isCycle, gather}
 use Rattle.move_edges.specs.Marking.{singular, isFresh, fresh}
 use Rattle.move_cycle.specs.Amounts.{smaller, isShort, raise, amountFrom, amount}
 use Rattle.move_cycle.specs.Shifts.{shiftedAt, shiftFrom, shifted}
@@ -78,9 +79,9 @@ withCycle = "B,3,3,1,0\nC,0,1,4\nC,1,2,3\nC,2,1,3\nW,1,4\n"
 unfoldable pub boardT : String
 boardT = "B,4,4,2,0\nC,0,1,3\nC,0,2,3\nC,1,3,3\nC,2,3,3\nW,3,2\nW,3,4\n"
 
--- down 0, down 2, up 3, up 1
-around : List ℕ
-around = 0 ∷ 2 ∷ 131 ∷ 129 ∷ []
+-- "down 0, down 2, up 3, up 1"
+around : List Step
+around = down 0 ∷ down 2 ∷ up 3 ∷ up 1 ∷ []
 
 -- S and S with other lines, the drained board, and T, whose finish is document 01's sheet
 pub cases : List Case
@@ -93,7 +94,7 @@ cases =
     ∷ loading "B,2,1,1,0\nC,0,1,1000001\nW,1,1000001\n" 2 []
     ∷ loading "B,2,1,1,0\nC,0,1,05\nW,1,5\n" 1 []
     ∷ loading withCycle 0 (4 ∷ 0 ∷ 0 ∷ [])
-    ∷ calling withCycle (carry 0 0 ∷ turn (1 ∷ 2 ∷ []) ∷ []) (0 ∷ 25 ∷ []) (0 ∷ 0 ∷ 0 ∷ []) 0
+    ∷ calling withCycle (carry 0 0 ∷ turn (down 1 ∷ down 2 ∷ []) ∷ []) (0 ∷ 25 ∷ []) (0 ∷ 0 ∷ 0 ∷ []) 0
     ∷ calling boardT (carry 0 0 ∷ []) (22 ∷ []) (3 ∷ 3 ∷ 3 ∷ 3 ∷ []) 0
     ∷ calling boardT (carry 1 2 ∷ []) (23 ∷ []) (3 ∷ 3 ∷ 3 ∷ 3 ∷ []) 0
     ∷ calling boardT (carry 2 0 ∷ []) (6 ∷ []) (3 ∷ 3 ∷ 3 ∷ 3 ∷ []) 0
@@ -150,7 +151,7 @@ unfolding loadText readText bytes cases hold holds same both pick indexOf number
     opens pass passes reached leads onward since follow smallest lowered lowerCycle onCycle cycleVertex cycleFrom cancelled acyclicFlows
     loading calling withCycle boardT around amountOf ends played answers answered intact loaded playing
     flowFits enters isOpen openEdge hasOpen openTerminal someOpen onBoard carryRefusal carried carryCall
-    hasBit withBit collect stepOf stepsOf every leadsBack isCycle gather leaves leaving straight singular isFresh fresh
+    hasBit withBit collect every leadsBack isCycle gather leaves leaving straight singular isFresh fresh
     smaller isShort raise amountFrom amount shiftedAt shiftFrom shifted turnRefusal turned turnCall undoRefusal undone undoCall
     finishing routed loadsFrom completes finishes total has touches another parts firstMet downWalk cycleOf isHome allHome markedOpen markedEdge chosenEdge nextCycle nextAct
     stepped steppedOn playedOut finishRefusal finishCall routeBy route load

@@ -20,7 +20,7 @@ use Rattle.load.specs.Load.{loadText}
 use Rattle.move_guard.specs.Guard.{playing}
 use Rattle.move_guard.proofs.Answers.{answered-no}
 use Rattle.move_carry.specs.Carries.{carryRefusal, carried, carryCall}
-use Rattle.move_cycle.specs.Steps.{stepsOf}
+use Rattle.graph_flows.specs.Trails.{Step}
 use Rattle.move_turn.specs.Turns.{turnRefusal, turned, turnCall}
 use Rattle.move_undo.specs.Undone.{undoRefusal, undone, undoCall}
 use Rattle.solve_next.specs.declared.Suggestion.{Suggestion}
@@ -76,13 +76,13 @@ module _ (text : List ℕ) (ms : List Call) (s : Stands text ms) where
       go (inl h) = joins (carry i e) (carry-move-accepted (afresh text ms) i e st h) h (pick-yes _ _ _ (eq-eqb _ 0 h))
       go (inr n) = leaves (carry i e) (answered-no _ (afresh text ms) (carried (afresh text ms) i e) n) (pick-no _ _ _ (ne-eqb _ 0 n))
 
-  same-turn : (w : List ℕ) → Standing (afresh text ms) → Same text ms (turn w)
+  same-turn : (w : List Step) → Standing (afresh text ms) → Same text ms (turn w)
   unfolding saysTo standingAfter turnCall
-  same-turn w st = go (eq-or-ne (turnRefusal (afresh text ms) (stepsOf w)) 0)
+  same-turn w st = go (eq-or-ne (turnRefusal (afresh text ms) w) 0)
     where
-      go : (turnRefusal (afresh text ms) (stepsOf w) ≡ 0) ⊎ (turnRefusal (afresh text ms) (stepsOf w) ≢ 0) → Same text ms (turn w)
+      go : (turnRefusal (afresh text ms) w ≡ 0) ⊎ (turnRefusal (afresh text ms) w ≢ 0) → Same text ms (turn w)
       go (inl h) = joins (turn w) (turn-move-accepted (afresh text ms) w st h) h (pick-yes _ _ _ (eq-eqb _ 0 h))
-      go (inr n) = leaves (turn w) (answered-no _ (afresh text ms) (turned (afresh text ms) (stepsOf w)) n) (pick-no _ _ _ (ne-eqb _ 0 n))
+      go (inr n) = leaves (turn w) (answered-no _ (afresh text ms) (turned (afresh text ms) w) n) (pick-no _ _ _ (ne-eqb _ 0 n))
 
   -- a hint that is taken
   same-hint : hintRefusal (afresh text ms) ≡ 0 → Same text ms hint

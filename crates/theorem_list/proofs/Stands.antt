@@ -17,7 +17,7 @@ use Rattle.load.specs.Load.{loadText}
 use Rattle.load.proofs.Loads.{load-accepted}
 use Rattle.move_guard.proofs.Answers.{answered-yes}
 use Rattle.move_carry.specs.Carries.{carryRefusal, carried, carryCall}
-use Rattle.move_cycle.specs.Steps.{stepsOf}
+use Rattle.graph_flows.specs.Trails.{Step}
 use Rattle.move_turn.specs.Turns.{turnRefusal, turned, turnCall}
 use Rattle.move_undo.specs.Undone.{undoCall}
 use Rattle.report_routes.specs.Routes.{route, routeBy}
@@ -64,14 +64,14 @@ module _ (b : Board) (i e : ℕ) (st : Standing b) (h : carryRefusal b i e ≡ 0
     routes = carry-routes;
   }
 
-pub turn-move-accepted : (b : Board) (s : List ℕ) → Standing b → turnRefusal b (stepsOf s) ≡ 0 → AcceptedMove b (turn s)
+pub turn-move-accepted : (b : Board) (w : List Step) → Standing b → turnRefusal b w ≡ 0 → AcceptedMove b (turn w)
 unfolding turnCall turned
-turn-move-accepted b s st h = record {
-  called = answered-yes (turnRefusal b (stepsOf s)) b (turned b (stepsOf s)) h;
-  back = turn-undone b (stepsOf s) st h;
-  standing = turn-standing b (stepsOf s) st h;
+turn-move-accepted b w st h = record {
+  called = answered-yes (turnRefusal b w) b (turned b w) h;
+  back = turn-undone b w st h;
+  standing = turn-standing b w st h;
   moves = refl;
-  routes = λ i. route-after b (stepsOf s) i;
+  routes = λ i. route-after b w i;
 }
 
 -- ---- a list with one more at its end
@@ -97,7 +97,7 @@ record Unmoved (b next : Board) : Type 0 where
 unmoved : (b : Board) (c : Call) → Unmoved b (listed b c)
 unfolding carried turned
 unmoved b (carry i e) = record { network = refl; acyclic = refl }
-unmoved b (turn s) = record { network = refl; acyclic = refl }
+unmoved b (turn w) = record { network = refl; acyclic = refl }
 unmoved b undo = record { network = refl; acyclic = refl }
 unmoved b hint = record { network = refl; acyclic = refl }
 

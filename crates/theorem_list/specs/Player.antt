@@ -8,7 +8,6 @@ use lib.ListN.{length, take}
 use Rattle.lists.specs.Choice.{pick}
 use Rattle.board.specs.declared.Board.{Board}
 use Rattle.move_carry.specs.Carries.{carryRefusal, carried}
-use Rattle.move_cycle.specs.Steps.{stepsOf}
 use Rattle.move_turn.specs.Turns.{turnRefusal, turned}
 use Rattle.load.specs.Load.{loadText}
 use Rattle.solve_next.specs.declared.Suggestion.{Suggestion}
@@ -18,7 +17,7 @@ use Rattle.move_list.specs.Calls.{Call, carry, turn, undo, hint}
 -- what a listed move does to the player's board, "as under Moves"; only carries and turns are listed
 abbrev pub listed : Board → Call → Board
 listed b (carry i e) = carried b i e
-listed b (turn s) = turned b (stepsOf s)
+listed b (turn w) = turned b w
 listed b undo = b
 listed b hint = b
 
@@ -40,14 +39,14 @@ module _ (text : List ℕ) where
   -- "Each call is judged on that board"; undo: "27 on an empty list. Else 0"; a hint is not refused
   unfoldable pub saysTo : List Call → Call → ℕ
   saysTo ms (carry i e) = carryRefusal (afresh ms) i e
-  saysTo ms (turn s) = turnRefusal (afresh ms) (stepsOf s)
+  saysTo ms (turn w) = turnRefusal (afresh ms) w
   saysTo ms undo = pick (eqb (length ms) 0) 27 0
   saysTo ms hint = 0
 
   -- "if refused .. the list stays. Else .. the move joins the list's end"; undo: "the last move leaves the list"; "Hint: the list stays"
   unfoldable pub standingAfter : List Call → Call → List Call
   standingAfter ms (carry i e) = pick (eqb (saysTo ms (carry i e)) 0) (ms ++ (carry i e ∷ [])) ms
-  standingAfter ms (turn s) = pick (eqb (saysTo ms (turn s)) 0) (ms ++ (turn s ∷ [])) ms
+  standingAfter ms (turn w) = pick (eqb (saysTo ms (turn w)) 0) (ms ++ (turn w ∷ [])) ms
   standingAfter ms undo = take (length ms - 1) ms
   standingAfter ms hint = ms
 
@@ -66,13 +65,13 @@ module _ (text : List ℕ) where
   HintsKeptBy ms (hint ∷ cs) [] = ⊥
   HintsKeptBy ms (hint ∷ cs) (h ∷ hs) = Offered (afresh ms) h × HintsKeptBy ms cs hs
   HintsKeptBy ms (carry i e ∷ cs) hs = HintsKeptBy (standingAfter ms (carry i e)) cs hs
-  HintsKeptBy ms (turn s ∷ cs) hs = HintsKeptBy (standingAfter ms (turn s)) cs hs
+  HintsKeptBy ms (turn w ∷ cs) hs = HintsKeptBy (standingAfter ms (turn w)) cs hs
   HintsKeptBy ms (undo ∷ cs) hs = HintsKeptBy (standingAfter ms undo) cs hs
 
 -- the edge that a call carries terminal i over; and the player's route of it, "last one first"
 abbrev pub goesOver : ℕ → Call → List ℕ
 goesOver i (carry j e) = pick (eqb j i) (e ∷ []) []
-goesOver i (turn s) = []
+goesOver i (turn w) = []
 goesOver i undo = []
 goesOver i hint = []
 
