@@ -118,15 +118,12 @@ pub fn write(b: Board, buf: &mut [u8]) -> Written
 {
     let net = b.network;
     if !writable(b.stage, net) {
-        return Written {
-            answer: 29,
-            used: 0,
-        };
+        return Written::refused(29);
     }
     let mut none = [0u8; 1];
     let length = put_text(&mut none, net);
     if buf.len() < length {
-        return Written { answer: 8, used: 0 };
+        return Written::refused(8);
     }
     let used = put_text(buf, net);
     Written {
