@@ -1,10 +1,10 @@
 // Total access to slices, and the loops that more than one layer uses.
 ghost use mathlib.Core.Path.{_≡_};
 ghost use mathlib.Core.Bool.{false};
-ghost use Prim.Native.Nat.{_+_, _-_, _*_, _≤_, _<_};
-ghost use lib.ListN.{getD, set, length};
+ghost use Prim.Native.Nat.{_-_};
+ghost use lib.ListN.{getD, set};
 ghost use Rattle.lists.specs.Choice.{both, either};
-ghost use Rattle.lists.specs.Lists.{indexOf, keyed, sumAt};
+ghost use Rattle.lists.specs.Lists.{indexOf};
 
 // Both tests, as one value: it stands where `&&` would, and `or` where `||` would. Those are compiled to a branch, and
 // where its arms meet a proof knows only by which of them it came, and has that to take apart. A call keeps the proof
@@ -96,28 +96,4 @@ pub fn index_of(s: &[u8], b: u8) -> usize
         i += 1;
     }
     i
-}
-
-fn keyed(k: u32, v: u32, x: u32) -> u64
-    ensures { λ r. ⌜ r ≡ keyed k v x ⌝ }
-    ensures { λ r. ⌜ r < 4294967296 ⌝ }
-{
-    if k == v { x as u64 } else { 0 }
-}
-
-// The sum of the values whose key is v, over lists of one length.
-pub fn sum_at<'a>(keys: &'a [u32], values: &'a [u32], v: u32) -> u64
-    requires { ⌜ length (now keys) ≤ 65536 ⌝ }
-    requires { ⌜ length (now keys) ≡ length (now values) ⌝ }
-    ensures { λ r. ⌜ r ≡ sumAt (now (keys .entry)) (now (values .entry)) v ⌝ }
-    ensures { λ r. ⌜ r ≤ 4294967296 * 65536 ⌝ }
-{
-    let mut sum: u64 = 0;
-    let mut i: usize = 0;
-    while i < keys.len() {
-        let x = keyed(keys[i], v, values[i]);
-        sum += x;
-        i += 1;
-    }
-    sum
 }

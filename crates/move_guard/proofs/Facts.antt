@@ -105,6 +105,10 @@ module _ (b : Board) (sound : intact b ≡ true) where
           let z : demand b j ≡ 0 = List·getD-eq-default (b .network .demands) 0 (omega (arith, long)) in
           omega arith
 
+pub loaded-then-intact : (b : Board) → loaded b ≡ true → intact b ≡ true
+unfolding loaded
+loaded-then-intact b h = both-right _ _ h
+
 -- the stage of play is within the stages of a loaded board, so that of these two tests the second is left
 pub playing-staged : (b : Board) → playing b ≡ both (eqb (b .stage) playStage) (intact b)
 unfolding playing loaded both
@@ -116,7 +120,8 @@ playing-staged b = go (known (eqb (b .stage) playStage))
 
 module _ (b : Board) (play : playing b ≡ true) where
   pub playing-intact : intact b ≡ true
-  playing-intact = both-right _ _ (sym (playing-staged b) ∙ play)
+  unfolding playing
+  playing-intact = loaded-then-intact b (both-right _ _ play)
 
   pub playing-edges : b .network .edges ≤ maxEdges
   playing-edges = intact-edges b playing-intact

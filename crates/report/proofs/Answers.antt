@@ -1,4 +1,4 @@
--- What the call answers, from the tests of the code: each is a test of the definition. A board that is not intact is refused whatever its routes are.
+-- What the call answers, from the tests of the code: each is a test of the definition. A board that was not loaded is refused whatever its routes are.
 use mathlib.Core.Path.{_≡_, refl, sym, _∙_}
 use mathlib.Core.Bool.{Bool, true, false}
 use mathlib.Core.List.{List, [], _∷_, _++_, append-nil}
@@ -19,35 +19,30 @@ use Rattle.board.specs.declared.Network.{Network}
 use Rattle.text.specs.Text.{lineText, linesText}
 use Rattle.move_guard.specs.Moved.{lastEntry}
 use Rattle.move_guard.specs.Guard.{intactIn, intact, loaded}
-use Rattle.move_guard.proofs.Facts.{intact-edges, intact-terminals, intact-demand}
+use Rattle.move_guard.proofs.Facts.{loaded-then-intact, intact-edges, intact-terminals, intact-demand}
 use Rattle.text_writer.proofs.Writing.{TextLeft, left-part, left-none}
 use Rattle.report_routes.specs.Tables.{routesFit}
 use Rattle.report_routes.proofs.Read.{fits-route}
-use Rattle.report.specs.Reports.{reportText, started, unreported, unreportedIn, sheetRefusal, sheetCall, sheeted, putRefusal, putCall, putIn}
+use Rattle.report.specs.Reports.{reportText, started, unreported, loadedIn, unreportedIn, sheetRefusal, sheetCall, sheeted, putRefusal, putCall, putIn}
 use Rattle.report.specs.Rows.{tableRouteRow, tableLoadRow, tableText, Printable}
 use Rattle.report.proofs.Rows.{countsBy, rowsBy, counts-small, route-lines, load-lines}
 
--- a board that is not intact was not started, whatever its stage and its routes are
-not-started : (staged fit : Bool) → both (both staged false) fit ≡ false
-unfolding both
-not-started true fit = refl
-not-started false fit = refl
-
 module _ (b : Board) where
-  -- the number by the parts is the number of the board: where the board is not intact, its routes do not matter
-  pub number-made : (last : Entry) (sound fit : Bool) (n : ℕ) → last ≡ lastEntry b
-      → sound ≡ intactIn (b .network) (b .acyclic) (b .flows) (b .places) (b .moves) (last .step)
-      → fit ≡ all (λ i. leb (getD (countsBy b) i 0) maxVertices) 0 (b .network .terminals)
-      → n ≡ unreportedIn (b .stage) sound fit → n ≡ unreported b
-  unfolding unreported started loaded intact
-  number-made last sound fit n el es ef en = en ∙ go (known (intact b))
-    where
-      same : sound ≡ intact b
-      same = rw (es, el)
+  -- the test by the stage and the parts is the test of the board
+  pub loaded-made : (last : Entry) (sound play : Bool) → last ≡ lastEntry b
+      → sound ≡ intactIn (b .network) (b .acyclic) (b .flows) (b .places) (b .moves) (last .step) → play ≡ loadedIn (b .stage) sound → play ≡ loaded b
+  unfolding loaded intact
+  loaded-made last sound play el es ep = rw (ep, es, el)
 
-      go : Known (intact b) → unreportedIn (b .stage) sound fit ≡ unreported b
-      go (was-true t) = rw (same, ef, fits-route b (intact-terminals b t))
-      go (was-false t) = rw (same, t) (pick-no _ _ _ (not-started _ fit) ∙ sym (pick-no _ _ _ (not-started _ (routesFit b))))
+  pub not-loaded : loaded b ≡ false → 29 ≡ unreported b
+  unfolding unreported started both
+  not-loaded h = sym (pick-no _ _ _ (rw h))
+
+  -- the counts of a loaded board are within the limits, so the test of the counted routes is the test of the board's
+  pub number-made : (fit : Bool) (n : ℕ) → loaded b ≡ true → fit ≡ all (λ i. leb (getD (countsBy b) i 0) maxVertices) 0 (b .network .terminals)
+      → n ≡ unreportedIn (b .stage) fit → n ≡ unreported b
+  unfolding unreported started both
+  number-made fit n h ef en = en ∙ rw (h, ef, fits-route b (intact-terminals b (loaded-then-intact b h)))
 
 -- a board with a report
 module _ (b : Board) (reported : unreported b ≡ 0) where
@@ -56,8 +51,8 @@ module _ (b : Board) (reported : unreported b ≡ 0) where
   tests = pick-passed _ _ 28 reported .0
 
   report-intact : intact b ≡ true
-  unfolding started loaded
-  report-intact = both-right _ _ (both-left _ _ tests)
+  unfolding started
+  report-intact = loaded-then-intact b (both-left _ _ tests)
 
   report-fits : routesFit b ≡ true
   unfolding started

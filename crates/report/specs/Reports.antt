@@ -36,10 +36,13 @@ started b = both (loaded b) (routesFit b)
 unfoldable pub unreported : Board → ℕ
 unreported b = pick (started b) (pick (eqb (b .stage) finishedStage) 0 28) 29
 
--- the same by the stage, whether the board is intact, and whether its routes have room
-abbrev pub unreportedIn : ℕ → Bool → Bool → ℕ
-unreportedIn stage sound fit =
-    pick (both (both (both (leb playStage stage) (leb stage finishedStage)) sound) fit) (pick (eqb stage finishedStage) 0 28) 29
+-- whether the board was loaded, by its stage and whether it is intact
+abbrev pub loadedIn : ℕ → Bool → Bool
+loadedIn stage sound = both (both (leb playStage stage) (leb stage finishedStage)) sound
+
+-- the number of a loaded board, by its stage and whether its routes have room
+abbrev pub unreportedIn : ℕ → Bool → ℕ
+unreportedIn stage fit = pick fit (pick (eqb stage finishedStage) 0 28) 29
 
 -- "Sheet: 29, 28, 8", for a buffer of n bytes
 unfoldable pub sheetRefusal : Board → ℕ → ℕ

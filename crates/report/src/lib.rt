@@ -12,7 +12,7 @@ ghost use lib.Seq.{sets};
 ghost use Rattle.board.specs.Limits.{maxVertices, maxEdges, maxTerminals};
 ghost use Rattle.text.specs.Text.{lineText, linesText};
 ghost use Rattle.report_routes.specs.Tables.{Moderate};
-ghost use Rattle.report.specs.Reports.{unreportedIn, sheetCall, sheeted, putCall, putIn};
+ghost use Rattle.report.specs.Reports.{loadedIn, unreportedIn, sheetCall, sheeted, putCall, putIn};
 ghost use Rattle.report.specs.Rows.{tableRouteRow, tableLoadRow, tableText, Printable};
 
 // How many numbers the line of a route has at most: the terminal, how many edges, and the edges.
@@ -22,14 +22,19 @@ const ROUTE_NUMBERS: usize = Board::MAX_VERTICES as usize + 2;
 // each edge.
 const REPORT_BYTES: usize = 8280;
 
-// 29 or 28, in this order; 0 where there is a report. `sound`: the board is intact; `fit`: its routes have room in
-// their rows.
-fn unreported_in(stage: u32, sound: bool, fit: bool) -> u32
-    ensures { λ r. ⌜ r ≡ unreportedIn stage sound fit ⌝ }
+// Whether a board of this stage is a loaded one; `sound`: it is intact.
+fn loaded_in(stage: u32, sound: bool) -> bool
+    ensures { λ r. ⌜ r ≡ loadedIn stage sound ⌝ }
 {
     let staged = lists::and(Board::PLAY <= stage, stage <= Board::FINISHED);
-    let loaded = lists::and(staged, sound);
-    if !lists::and(loaded, fit) {
+    lists::and(staged, sound)
+}
+
+// 29 or 28 of a loaded board, in this order; 0 where there is a report. `fit`: its routes have room in their rows.
+fn unreported_in(stage: u32, fit: bool) -> u32
+    ensures { λ r. ⌜ r ≡ unreportedIn stage fit ⌝ }
+{
+    if !fit {
         return 29;
     }
     if stage == Board::FINISHED { 0 } else { 28 }
@@ -171,7 +176,7 @@ fn has_room(
 // Writes the report of a board at a place of the buffer, and answers its length, or the number that it is refused with.
 // A byte past the end of the buffer is dropped. Where the report is to be whole, a buffer that is shorter than it is
 // refused: the whole buffer is measured and not what is left of it behind the place, so that is asked for at place 0
-// alone.
+// alone. The routes are looked at where the board was loaded, and its counts are within the limits.
 pub fn put_sheet(buf: &mut [u8], at: usize, whole: bool, board: Board) -> Written
     requires { ⌜ at ≤ 65536 ⌝ }
     ensures { λ r. ⌜ r ≡ putCall board whole (length (now (buf .entry))) ⌝ }
@@ -189,19 +194,19 @@ pub fn put_sheet(buf: &mut [u8], at: usize, whole: bool, board: Board) -> Writte
     }
     let step = last.step;
     let sound = move_guard::intact_in(net, acyclic, flows, places, board.moves, step);
+    if !loaded_in(board.stage, sound) {
+        return Written::refused(29);
+    }
     let mut counts = [0u32; Board::MAX_TERMINALS];
     let rows = report_routes::fill(board.journal, board.moves, &mut counts);
     let fit = report_routes::routes_fit(counts, net.terminals);
-    let number = unreported_in(board.stage, sound, fit);
+    let number = unreported_in(board.stage, fit);
     if number != 0 {
-        return Written {
-            answer: number,
-            used: 0,
-        };
+        return Written::refused(number);
     }
     if lists::and(whole, buf.len() < REPORT_BYTES) {
         if !has_room(buf.len(), net, counts, rows) {
-            return Written { answer: 8, used: 0 };
+            return Written::refused(8);
         }
     }
     let end = put_tables(buf, at, net, counts, rows);

@@ -3,6 +3,7 @@
 -- rows, and the text of a network gives back its rows and so its arrays. The rules are the three tests of `judged`, said of each place.
 use mathlib.Core.Path.{_≡_, refl, sym, ap, _∙_}
 use mathlib.Core.Logic.{_↔_}
+use mathlib.Core.Bool.{true}
 use mathlib.Core.List.{List, [], _∷_, _++_, append-nil}
 use Prim.Native.Nat.{ℕ, _+_, _<_, _≤_}
 use native.Mathlib.Omega.{arith}
@@ -15,8 +16,8 @@ use Rattle.text.specs.declared.Reading.{Reading}
 use Rattle.board.specs.Limits.{maxEdges, maxTerminals}
 use Rattle.text.specs.Text.{Read, refused, got, header, headed, headRanges, edgeRanges, terminalRanges, lines, withEdges}
 use Rattle.text.specs.Text.{withTerminals, nothingFollows, layout, lineText, linesText, headRow, edgeRow, terminalRow, textOf}
-use Rattle.text_rules.specs.Rules.{judged, Lawful}
-use Rattle.text_rules.proofs.Meaning.{Kept, kept, judged-zero}
+use Rattle.text_rules.specs.Rules.{judged, countsFit, Lawful}
+use Rattle.text_rules.proofs.Meaning.{Kept, kept, judged-zero, counts-tested}
 use Rattle.text.specs.Results.{judgement, readingOf, readText}
 use Rattle.text.proofs.Fields.{InRanges, Rows, Heading, rowsText, parts, parts-in, after, after-in, header-of-text, header-only}
 use Rattle.text.proofs.Fields.{lines-of-text, lines-only, refused-above}
@@ -142,6 +143,13 @@ module _ (ns : List ℕ) (rows homes : List (List ℕ)) (laid : Laid ns rows hom
         away = k .away;
         balance = k .balance;
       }
+
+-- a text that keeps the layout has counts and a source in their ranges, whatever rule its network breaks
+pub laid-counts : (s : List ℕ) (net : Network) (rest : List ℕ) → layout s ≡ got net rest → countsFit net ≡ true
+laid-counts s net rest h =
+    let l = layout-only s net rest h in
+    let f = first _ _ _ (l .laid) in
+    rw (l .network) (counts-tested (built (l .head) (l .rows) (l .homes)) (omega arith) (omega arith) (omega arith) (l .laid .heading .source-below))
 
 -- ---- the rows of a lawful network
 

@@ -35,14 +35,18 @@ readText s = readingOf (layout s)
 unfoldable pub writable : ℕ → Network → Bool
 writable stage net = both (both (leb playStage stage) (leb stage finishedStage)) (lawful net)
 
+-- a text that is refused, of which nothing is written
+abbrev pub unwritten : ℕ → Written
+unwritten n = record { answer = n; used = 0 }
+
 -- writing into a buffer of n bytes: 29 where no board was loaded, then 8, else 0 and the length of the text
 unfoldable pub writeText : Board → ℕ → Written
 writeText b n =
     pick (writable (b .stage) (b .network))
     (pick (leb (length (textOf (b .network))) n)
     (record { answer = 0; used = length (textOf (b .network)) })
-    (record { answer = 8; used = 0 }))
-    (record { answer = 29; used = 0 })
+    (unwritten 8))
+    (unwritten 29)
 
 -- the buffer then: the text with the bytes past it kept, or as it was
 unfoldable pub written : Board → List ℕ → List ℕ

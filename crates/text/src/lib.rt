@@ -5,7 +5,7 @@ ghost use Prim.Native.Nat.{_<_};
 ghost use lib.Dec.{leb, ltb};
 ghost use Rattle.lists.specs.Choice.{pick, both};
 ghost use Rattle.text.specs.Text.{vertexBelow};
-ghost use Rattle.text.specs.Results.{refusal};
+ghost use Rattle.text.specs.Results.{refusal, unwritten};
 
 // What reading a text gives: 0 and its network, or the number it is refused with and the empty network.
 pub struct Reading {
@@ -73,6 +73,17 @@ impl Part {
         Part {
             answer: answer,
             network: network,
+            used: 0,
+        }
+    }
+}
+
+impl Written {
+    pub fn refused(answer: u32) -> Written
+        ensures { λ r. ⌜ r ≡ unwritten answer ⌝ }
+    {
+        Written {
+            answer: answer,
             used: 0,
         }
     }

@@ -3,11 +3,13 @@ use board::Board;
 use board::Network;
 use text_rules::Rule;
 ghost use mathlib.Core.Path.{_≡_};
+ghost use mathlib.Core.Bool.{true};
 ghost use Prim.Native.Nat.{ℕ, _+_, _*_, _≤_, _<_};
 ghost use lib.Dec.{leb};
 ghost use lib.ListN.{length, getD, set};
 ghost use Rattle.lists.specs.Choice.{both};
 ghost use Rattle.lists.specs.Lists.{all, sumAt};
+ghost use Rattle.board.specs.Limits.{maxVertices};
 ghost use Rattle.text_rules.specs.Rules.{keeps, balanced, judged, countsFit, lawful};
 ghost use Rattle.text_judge.specs.Sums.{differAt, awayAt, evenAt};
 
@@ -102,14 +104,11 @@ fn all_even<'a>(xs: &'a [u64], ys: &'a [u64], source: u32, n: u32) -> bool
     true
 }
 
-// Whether each vertex but the source balances: the sums of all vertices at once, where there are no more of them than a
-// board can have; else vertex by vertex.
+// Whether each vertex but the source balances, by the sums of all vertices at once.
 fn all_balanced(net: Network) -> bool
+    requires { ⌜ net .vertices ≤ maxVertices ⌝ }
     ensures { λ r. ⌜ r ≡ all (balanced net) 0 (net .vertices) ⌝ }
 {
-    if Board::MAX_VERTICES < net.vertices {
-        return all_keep(Rule::Balanced, net, net.vertices);
-    }
     let mut inflow = [0u64; Board::MAX_VERTICES as usize];
     let mut outflow = [0u64; Board::MAX_VERTICES as usize];
     add_keyed(&net.heads, &net.flows, &mut inflow);
@@ -118,8 +117,9 @@ fn all_balanced(net: Network) -> bool
     all_even(&inflow, &outflow, net.source, net.vertices)
 }
 
-// 3, 4 or 5, in this order, each over the whole network; 0 where it keeps the rules.
+// 3, 4 or 5, in this order, each over the whole network; 0 where it keeps the rules. The counts are tested before.
 pub fn judged(net: Network) -> u32
+    requires { ⌜ countsFit net ≡ true ⌝ }
     ensures { λ r. ⌜ r ≡ judged net ⌝ }
 {
     if !all_differ(&net.tails, &net.heads, net.edges) {
@@ -155,12 +155,11 @@ pub fn counts_fit(net: Network) -> bool
 pub fn lawful(net: Network) -> bool
     ensures { λ r. ⌜ r ≡ lawful net ⌝ }
 {
-    let counts = counts_fit(net);
+    if !counts_fit(net) {
+        return false;
+    }
     let edges = all_keep(Rule::EdgeFits, net, Board::MAX_EDGES as u32);
     let terminals = all_keep(Rule::TerminalFits, net, Board::MAX_TERMINALS as u32);
     let answer = judged(net);
-    lists::and(
-        counts,
-        lists::and(edges, lists::and(terminals, answer == 0)),
-    )
+    lists::and(edges, lists::and(terminals, answer == 0))
 }

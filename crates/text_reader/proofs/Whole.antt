@@ -1,5 +1,6 @@
 -- The whole text from its parts, as the code reads them one after the other.
 use mathlib.Core.Path.{_≡_, refl, sym, _∙_}
+use mathlib.Core.Bool.{true}
 use mathlib.Core.List.{List}
 use Prim.Native.Nat.{ℕ, _<_, _≤_}
 use native.Mathlib.Omega.{arith}
@@ -7,7 +8,7 @@ use lib.ListN.{length, drop, drop-of-length-le}
 use lib.Seq.{drop-cons}
 use borrow.Author.Tests.{eq-eqb, ne-eqb}
 use Rattle.lists.proofs.Laws.{pick-yes, pick-no}
-use Rattle.text_rules.specs.Rules.{judged}
+use Rattle.text_rules.specs.Rules.{judged, countsFit}
 use Rattle.text.specs.Results.{refusal, judgement, readingOf, readText}
 use Rattle.board.specs.Limits.{maxEdges, maxTerminals}
 use Rattle.board.specs.declared.Network.{Network}
@@ -17,6 +18,7 @@ use Rattle.text.specs.Text.{Read, refused, got, then, lines, header, headed, he
 use Rattle.text_lines.proofs.Reading.{then-then, answer-read-got, answer-read-refused}
 use Rattle.text.proofs.Fields.{parts, after, header-only}
 use Rattle.text.proofs.FieldColumns.{spelled-within}
+use Rattle.text.proofs.Accepted.{laid-counts}
 
 -- what the lines of edges and terminals need of the first line
 pub record Counted (net : Network) : Type 0 where
@@ -116,6 +118,9 @@ module _ (s : List ℕ) (p : Part) (pr : partRead p s ≡ layout s) where
   pub read-stop : (p .answer ≡ 0 → ⊥) → refusal (p .answer) ≡ readText s
   unfolding readText readingOf
   read-stop z = rw (sym pr ∙ answer-read-refused _ _ _ _ _ refl z)
+
+  pub read-counts : p .answer ≡ 0 → countsFit (p .network) ≡ true
+  read-counts z = laid-counts s (p .network) _ (sym pr ∙ answer-read-got _ _ _ _ z)
 
   module _ (pz : p .answer ≡ 0) (n : ℕ) (j : n ≡ judged (p .network)) where
     through : readText s ≡ judgement n (p .network)

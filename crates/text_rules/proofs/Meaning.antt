@@ -13,7 +13,7 @@ use Rattle.lists.specs.Lists.{all}
 use Rattle.lists.proofs.Laws.{Known, was-true, was-false, known, pick-yes, pick-no, both-left, both-right, both-true, all-from, all-zero}
 use Rattle.board.specs.Limits.{maxVertices, maxEdges, maxTerminals, maxFlow}
 use Rattle.board.specs.declared.Network.{Network}
-use Rattle.text_rules.specs.Rules.{edgeFits, terminalFits, noLoop, awayFromSource, balanced, judged, lawful, inflow, outflow, demandAt, Lawful}
+use Rattle.text_rules.specs.Rules.{edgeFits, terminalFits, noLoop, awayFromSource, balanced, judged, countsFit, lawful, inflow, outflow, demandAt, Lawful}
 
 -- what `judged` tests, said of each place
 pub record Kept (net : Network) : Type 0 where
@@ -60,6 +60,13 @@ pub record Sized (net : Network) : Type 0 where
   pub homes : length (net .homes) ≡ maxTerminals
   pub demands : length (net .demands) ≡ maxTerminals
 
+pub counts-tested : (net : Network) → (2 ≤ net .vertices) × (net .vertices ≤ maxVertices) → (1 ≤ net .edges) × (net .edges ≤ maxEdges)
+    → (1 ≤ net .terminals) × (net .terminals ≤ maxTerminals) → net .source < net .vertices → countsFit net ≡ true
+counts-tested net vertices edges terminals source =
+    both-true _ _ (both-true _ _ (le-leb _ _ (vertices .0)) (le-leb _ _ (vertices .1)))
+    (both-true _ _ (both-true _ _ (le-leb _ _ (edges .0)) (le-leb _ _ (edges .1)))
+    (both-true _ _ (both-true _ _ (le-leb _ _ (terminals .0)) (le-leb _ _ (terminals .1))) (lt-ltb _ _ source)))
+
 module _ (net : Network) (law : Lawful net) where
   edge-fits : (i : ℕ) → edgeFits net i ≡ true
   edge-fits i = go (known (ltb i (net .edges)))
@@ -89,9 +96,7 @@ module _ (net : Network) (law : Lawful net) where
   unfolding lawful
   lawful-tested =
       both-true _ _
-      (both-true _ _ (both-true _ _ (le-leb _ _ (law .vertices .0)) (le-leb _ _ (law .vertices .1)))
-      (both-true _ _ (both-true _ _ (le-leb _ _ (law .edges .0)) (le-leb _ _ (law .edges .1)))
-      (both-true _ _ (both-true _ _ (le-leb _ _ (law .terminals .0)) (le-leb _ _ (law .terminals .1))) (lt-ltb _ _ (law .source)))))
+      (counts-tested net (law .vertices) (law .edges) (law .terminals) (law .source))
       (both-true _ _ (all-zero (edgeFits net) maxEdges (λ i h. edge-fits i))
       (both-true _ _ (all-zero (terminalFits net) maxTerminals (λ j h. terminal-fits j)) (eq-eqb _ _ (judged-zero net law))))
 

@@ -9,7 +9,7 @@ use Rattle.lists.specs.Lists.{all, sumAt}
 use Rattle.board.specs.Limits.{maxVertices, maxEdges, maxTerminals, maxFlow}
 use Rattle.board.specs.declared.Network.{Network}
 use Rattle.text_rules.specs.declared.Rule.{Rule}
-use Rattle.text_rules.specs.declared.Rule.the-variants.{EdgeFits, TerminalFits, Balanced}
+use Rattle.text_rules.specs.declared.Rule.the-variants.{EdgeFits, TerminalFits}
 
 -- the flow that enters v, the flow that leaves v, and what the terminals there need; places past the counts hold 0
 abbrev pub inflow : Network → ℕ → ℕ
@@ -56,7 +56,6 @@ terminalFits net j = terminalNumbersFit (ltb j (net .terminals)) (getD (net .hom
 abbrev pub keeps : Rule → Network → ℕ → Bool
 keeps EdgeFits net i = edgeFits net i
 keeps TerminalFits net j = terminalFits net j
-keeps Balanced net v = balanced net v
 
 -- 3, 4 or 5, in this order, each over the whole network; 0 where it keeps the rules
 unfoldable pub judged : Network → ℕ

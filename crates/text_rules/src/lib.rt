@@ -7,7 +7,6 @@ ghost use Rattle.text_rules.specs.Rules.{
   terminalNumbersFit,
   edgeFits,
   terminalFits,
-  balanced,
   keeps,
 };
 
@@ -15,7 +14,6 @@ ghost use Rattle.text_rules.specs.Rules.{
 pub enum Rule {
     EdgeFits,
     TerminalFits,
-    Balanced,
 }
 
 // Whether the numbers of a place are those of an edge, or all 0 where the place is past the edges.
@@ -63,25 +61,11 @@ fn terminal_fits(net: Network, j: u32) -> bool
     terminal_numbers_fit(j < net.terminals, home, demand, net.vertices)
 }
 
-fn balanced(net: Network, v: u32) -> bool
-    ensures { λ r. ⌜ r ≡ balanced net v ⌝ }
-{
-    let source = net.source;
-    if v == source {
-        return true;
-    }
-    let inflow = lists::sum_at(&net.heads, &net.flows, v);
-    let outflow = lists::sum_at(&net.tails, &net.flows, v);
-    let demand = lists::sum_at(&net.homes, &net.demands, v);
-    inflow == outflow + demand
-}
-
 pub fn keeps(rule: Rule, net: Network, i: u32) -> bool
     ensures { λ r. ⌜ r ≡ keeps rule net i ⌝ }
 {
     match rule {
         Rule::EdgeFits => edge_fits(net, i),
         Rule::TerminalFits => terminal_fits(net, i),
-        Rule::Balanced => balanced(net, i),
     }
 }

@@ -105,9 +105,10 @@ fn put_text(buf: &mut [u8], net: Network) -> usize
 fn writable(stage: u32, net: Network) -> bool
     ensures { λ r. ⌜ r ≡ writable stage net ⌝ }
 {
-    let open = lists::and(Board::PLAY <= stage, stage <= Board::FINISHED);
-    let fits = text_judge::lawful(net);
-    lists::and(open, fits)
+    if !lists::and(Board::PLAY <= stage, stage <= Board::FINISHED) {
+        return false;
+    }
+    text_judge::lawful(net)
 }
 
 // Writes the text that was loaded: 29 where no board was loaded, then 8 where the buffer is too short for the text.
@@ -117,15 +118,12 @@ pub fn write(b: Board, buf: &mut [u8]) -> Written
 {
     let net = b.network;
     if !writable(b.stage, net) {
-        return Written {
-            answer: 29,
-            used: 0,
-        };
+        return Written::refused(29);
     }
     let mut none = [0u8; 1];
     let length = put_text(&mut none, net);
     if buf.len() < length {
-        return Written { answer: 8, used: 0 };
+        return Written::refused(8);
     }
     let used = put_text(buf, net);
     Written {

@@ -1,18 +1,10 @@
--- More vertices than the limit are tested one by one. Else the sums are those of each vertex (proofs/Sums.antt);
--- they start at 0 and values are added to an array at most twice, so they stay within what `add_keyed` asks for.
+-- The sums are those of each vertex (proofs/Sums.antt). They start at 0 and values are added to an array at most twice, so they stay within what `add_keyed` asks for.
 use mathlib.Core.Path.{_∙_}
-use native.Mathlib.Omega.{arith}
 use Rattle.board.specs.Limits.{maxVertices}
 use Rattle.text_judge.proofs.Sums.{all-balanced, nothing-most, added-most}
 use borrow.Author.Needs.{needs}
 use Rattle.text_judge.proofs.all_balanced.Statement.{statement}
 use Rattle.text_judge.proofs.all_balanced.Tie as tie
-
-all-keep-requires : tie.Need-all-keep-requires
-all-keep-requires c κs = search needs
-
-returns : tie.Need-returns
-returns c = search needs
 
 slice-aggregate-add-keyed : tie.Need-slice-aggregate-add-keyed
 slice-aggregate-add-keyed c = search needs
@@ -43,22 +35,20 @@ slice-aggregate-all-even-2 c = search needs
 all-even-requires : tie.Need-all-even-requires
 all-even-requires c κs = search needs
 
-returns-2 : tie.Need-returns-2
-returns-2 c =
-    let at-args = c .before .before .before .before .before .before .before .before .before .before .before .before .before .before .before .before .before .before .before .before .before .before .before .before .before .before .before .before .args in
-    let at-add-keyed = c .before .before .before .before .before .before .before .before .before .before .before .before .before .before .before .before .before .before .before .before .add-keyed in
-    let at-add-keyed2 = c .before .before .before .before .before .before .before .before .before .before .before .before .add-keyed2 in
-    let at-add-keyed3 = c .before .before .before .before .add-keyed3 in
+returns : tie.Need-returns
+returns c =
+    let at-third = c .before .before .before .before in
+    let at-second = at-third .before .before .before .before .before .before .before .before in
+    let at-first = at-second .before .before .before .before .before .before .before .before in
+    let start = at-first .before .before .before .before .before .before .before in
     c .all-even .ensures
-    ∙ all-balanced (at-args .t1) maxVertices (at-add-keyed .last .1 .1 .0) (at-add-keyed2 .last .1 .1 .0) (at-add-keyed3 .last .1 .1 .0)
-    (at-add-keyed .ensures .0) (at-add-keyed2 .ensures .0) (search needs) (at-add-keyed3 .ensures .0) (omega (arith, c .before .before .before .before .before .before .before .before .before .before .before .before .before .before .before .before .before .before .before .before .before .before .before .before .before .before .before .if1 .left))
+    ∙ all-balanced (start .args .t1) maxVertices (at-first .add-keyed .last .1 .1 .0) (at-second .add-keyed2 .last .1 .1 .0) (at-third .add-keyed3 .last .1 .1 .0)
+    (at-first .add-keyed .ensures .0) (at-second .add-keyed2 .ensures .0) (search needs) (at-third .add-keyed3 .ensures .0) (start .pre)
 
 pub all-balanced-spec : {M : Type 1} → statement M
 all-balanced-spec =
     tie.close
     (tie.spec
-    all-keep-requires
-    returns
     slice-aggregate-add-keyed
     add-keyed-requires
     slice-aggregate-add-keyed-2
@@ -68,4 +58,4 @@ all-balanced-spec =
     slice-aggregate-all-even
     slice-aggregate-all-even-2
     all-even-requires
-    returns-2)
+    returns)

@@ -1,7 +1,9 @@
 -- Three tests in a row: the first that fails gives 3, 4 or 5, and where all hold the number is 0, as defined.
+-- That the vertices are within the limit is one of the counts asked for.
 use mathlib.Core.Path.{sym, _∙_}
-use borrow.Author.Tests.{not-true, not-false}
+use borrow.Author.Tests.{not-true, not-false, leb-true}
 use Rattle.lists.specs.Choice.{pick}
+use Rattle.lists.proofs.Laws.{both-left, both-right}
 use Rattle.text_rules.specs.Rules.{judged}
 use borrow.Author.Needs.{needs}
 use Rattle.text_judge.proofs.judged.Statement.{statement}
@@ -26,7 +28,10 @@ returns-2 c =
     rw (sym (at-all-differ .ensures) ∙ not-false _ (at-if1 .left), sym (at-all-away .ensures) ∙ not-true _ (c .if2 .taken))
 
 all-balanced-requires : tie.Need-all-balanced-requires
-all-balanced-requires c κs = search needs
+all-balanced-requires c κs =
+    let at-differ = c .before .before .before .before .before .before in
+    let start = at-differ .before .before .before .before .before .before in
+    leb-true _ _ (both-right _ _ (both-left _ _ (start .pre)))
 
 returns-3 : tie.Need-returns-3
 unfolding judged pick

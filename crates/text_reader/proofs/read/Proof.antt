@@ -1,6 +1,6 @@
 -- The number of the layout decides first, then that of the network judged; where both are 0 the network is given.
 use mathlib.Core.Path.{_∙_}
-use Rattle.text_reader.proofs.Whole.{read-stop, read-refused, read-accepted}
+use Rattle.text_reader.proofs.Whole.{read-stop, read-counts, read-refused, read-accepted}
 use borrow.Author.Needs.{needs}
 use Rattle.text_reader.proofs.read.Statement.{statement}
 use Rattle.text_reader.proofs.read.Tie as tie
@@ -18,7 +18,9 @@ returns c =
     c .refused .ensures ∙ read-stop _ (at-layout .result) (at-layout .ensures .0) (at-if1 .taken)
 
 judged-requires : tie.Need-judged-requires
-judged-requires c κs = search needs
+judged-requires c κs =
+    let at-layout = c .before .before .before .layout in
+    read-counts _ (at-layout .result) (at-layout .ensures .0) (c .before .if1 .left)
 
 refused-requires-2 : tie.Need-refused-requires-2
 refused-requires-2 c κs = search needs

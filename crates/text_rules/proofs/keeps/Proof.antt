@@ -1,4 +1,4 @@
--- By the rule: each of the three calls ensures the test that the definition has for that rule.
+-- By the rule: each of the two calls ensures the test that the definition has for that rule.
 use mathlib.Core.Path.{sym, ap, _∙_}
 use Rattle.text_rules.specs.declared.Rule.{Rule}
 use Rattle.text_rules.specs.Rules.{keeps}
@@ -18,12 +18,6 @@ enum-told-2 c = search needs
 terminal-fits-requires : tie.Need-terminal-fits-requires
 terminal-fits-requires c κs = search needs
 
-enum-told-3 : tie.Need-enum-told-3
-enum-told-3 c = search needs
-
-balanced-requires : tie.Need-balanced-requires
-balanced-requires c κs = search needs
-
 returns : tie.Need-returns
 returns c =
     let at-enum-told = c .before .enum-told in
@@ -36,12 +30,6 @@ returns-2 c =
     let at-args = c .before .before .before .args in
     c .terminal-fits .ensures ∙ ap (λ (rule : Rule). keeps rule (at-args .net) (at-args .i)) (sym (at-enum-told2 .given .1))
 
-returns-3 : tie.Need-returns-3
-returns-3 c =
-    let at-enum-told3 = c .before .enum-told3 in
-    let at-args = c .before .before .before .args in
-    c .balanced .ensures ∙ ap (λ (rule : Rule). keeps rule (at-args .net) (at-args .i)) (sym (at-enum-told3 .given .1))
-
 pub keeps-spec : {M : Type 1} → statement M
 keeps-spec =
     tie.close
@@ -50,8 +38,5 @@ keeps-spec =
     edge-fits-requires
     enum-told-2
     terminal-fits-requires
-    enum-told-3
-    balanced-requires
     returns
-    returns-2
-    returns-3)
+    returns-2)

@@ -1,4 +1,8 @@
--- The stage is from play to finished and the network is lawful: the two parts of the definition.
+-- A stage before play or past finished makes the definition false, and so the code; else the test of the network is what it joins.
+use mathlib.Core.Path.{sym, _∙_}
+use mathlib.Core.Bool.{true, false}
+use Rattle.lists.specs.Choice.{both}
+use borrow.Author.Tests.{not-true, not-false}
 use Rattle.text.specs.Results.{writable}
 use borrow.Author.Needs.{needs}
 use Rattle.text_writer.proofs.writable.Statement.{statement}
@@ -7,15 +11,16 @@ use Rattle.text_writer.proofs.writable.Tie as tie
 and-requires : tie.Need-and-requires
 and-requires c κs = search needs
 
+returns : tie.Need-returns
+unfolding writable both
+returns c = rw (sym (c .before .and .ensures) ∙ not-true _ (c .if1 .taken))
+
 lawful-requires : tie.Need-lawful-requires
 lawful-requires c κs = search needs
 
-and-requires-2 : tie.Need-and-requires-2
-and-requires-2 c κs = search needs
-
-returns : tie.Need-returns
-unfolding writable
-returns c = cc
+returns-2 : tie.Need-returns-2
+unfolding writable both
+returns-2 c = rw (sym (c .before .before .and .ensures) ∙ not-false _ (c .before .if1 .left)) (c .lawful .ensures)
 
 pub writable-spec : {M : Type 1} → statement M
-writable-spec = tie.close (tie.spec and-requires lawful-requires and-requires-2 returns)
+writable-spec = tie.close (tie.spec and-requires returns lawful-requires returns-2)
