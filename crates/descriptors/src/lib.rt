@@ -1,8 +1,14 @@
 // What the programs do with descriptors: bytes are handed on, and what the library answers is printed.
 use libc::STDOUT_FILENO;
 use play_session::Session;
+ghost use mathlib.Core.Path.{_≡_};
+ghost use mathlib.Core.Bool.{true};
 ghost use Prim.Native.Nat.{_≤_};
 ghost use lib.ListN.{length};
+ghost use lib.Seq.{sets};
+ghost use Rattle.sheet_output.specs.Outputs.{sheetOutput};
+ghost use Rattle.play_session.specs.Machine.{endTold, takenOf, fedSession, fedTold};
+ghost use Rattle.descriptors.specs.Serving.{ServedPart};
 
 // A session behind a piece of its input, how many bytes of the piece it took, and whether what it said was printed.
 struct Handed {
@@ -18,20 +24,26 @@ pub struct Served {
 }
 
 // Prints the first bytes of a buffer, so many.
-pub fn print_part(out: &[u8], used: usize) -> bool {
+pub fn print_part(out: &[u8], used: usize) -> bool
+    ensures { λ r. ⌜ (r ≡ true → used ≤ length (now (out .entry))) ⌝ }
+{
     if out.len() < used {
         return false;
     }
     io::write_all(STDOUT_FILENO, &out[..used])
 }
 
-// Hands bytes to the session, which takes those up to its first line feed, and prints what it says.
-fn hand_on(session: Session, bytes: &[u8]) -> Handed
-    ensures { λ r. ⌜ r .taken ≤ length (now (bytes .entry)) ⌝ }
+// Hands bytes to the session, which takes those up to its first line feed, and prints what it says, by way of the
+// buffer.
+fn hand_on(session: Session, bytes: &[u8], out: &mut [u8]) -> Handed
+    ensures { λ r. ⌜ r .session ≡ fedSession session (now (bytes .entry)) ⌝ }
+    ensures { λ r. ⌜ r .taken ≡ takenOf (now (bytes .entry)) ⌝ }
+    ensures { λ r. ⌜ (r .printed ≡ true →
+        length (fedTold session (now (bytes .entry))) ≤ length (now (out .entry))) ⌝ }
+    ensures { λ _. ⌜ now (out .exit) ≡ sets (now (out .entry)) 0 (fedTold session (now (bytes .entry))) ⌝ }
 {
-    let mut out = [0u8; Session::OUTPUT];
-    let fed = play_session::feed(session, bytes, &mut out);
-    let printed = print_part(&out, fed.used);
+    let fed = play_session::feed(session, bytes, out);
+    let printed = print_part(out, fed.used);
     let next = fed.session;
     Handed {
         session: next,
@@ -40,29 +52,25 @@ fn hand_on(session: Session, bytes: &[u8]) -> Handed
     }
 }
 
-// Hands all of the bytes to the session, and prints its answers.
-pub fn serve(session: Session, bytes: &[u8]) -> Served {
+// Hands all of the bytes to the session, and prints its answers, by way of the buffer. Where one cannot be printed, the
+// bytes behind it are left.
+fn hand_all(session: Session, bytes: &[u8], out: &mut [u8]) -> Served
+    ensures { λ r. ⌜ ServedPart session (now (bytes .entry)) r ⌝ }
+{
     let mut current = session;
     let mut from: usize = 0;
     while from < bytes.len() {
-        let handed = hand_on(current, &bytes[from..]);
+        let handed = hand_on(current, &bytes[from..], out);
         let taken = handed.taken;
         let printed = handed.printed;
         current = handed.session;
-        // A session takes a byte at least; the test spares a proof of it here.
-        if taken == 0 {
-            return Served {
-                session: current,
-                going: false,
-            };
-        }
+        from += taken;
         if !printed {
             return Served {
                 session: current,
                 going: false,
             };
         }
-        from += taken;
     }
     let going = current.stage != Session::OVER;
     Served {
@@ -71,16 +79,28 @@ pub fn serve(session: Session, bytes: &[u8]) -> Served {
     }
 }
 
-// Prints what the session says at the end of its input.
-pub fn close(session: Session) -> bool {
+// The same with a buffer of its own.
+pub fn serve(session: Session, bytes: &[u8]) -> Served
+    ensures { λ r. ⌜ ServedPart session (now (bytes .entry)) r ⌝ }
+{
     let mut out = [0u8; Session::OUTPUT];
-    let used = play_session::close(session, &mut out);
-    print_part(&out, used)
+    hand_all(session, bytes, &mut out)
 }
 
-// Prints what the program `sheet` says of an input.
-pub fn print_sheet(input: &[u8]) -> bool {
-    let mut out = [0u8; Session::OUTPUT];
-    let used = sheet_output::sheet_output(input, &mut out);
-    print_part(&out, used)
+// Prints what the session says at the end of its input, by way of the buffer.
+pub fn close(session: Session, out: &mut [u8]) -> bool
+    ensures { λ r. ⌜ (r ≡ true → length (endTold session) ≤ length (now (out .entry))) ⌝ }
+    ensures { λ _. ⌜ now (out .exit) ≡ sets (now (out .entry)) 0 (endTold session) ⌝ }
+{
+    let used = play_session::close(session, out);
+    print_part(out, used)
+}
+
+// Prints what the program `sheet` says of an input, by way of the buffer.
+pub fn print_sheet(input: &[u8], out: &mut [u8]) -> bool
+    ensures { λ r. ⌜ (r ≡ true → length (sheetOutput (now (input .entry))) ≤ length (now (out .entry))) ⌝ }
+    ensures { λ _. ⌜ now (out .exit) ≡ sets (now (out .entry)) 0 (sheetOutput (now (input .entry))) ⌝ }
+{
+    let size = sheet_output::sheet_output(input, out);
+    print_part(out, size)
 }

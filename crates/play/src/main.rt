@@ -36,5 +36,6 @@ fn all_pieces(session: Session) -> Session {
 fn main() {
     let session = Session::start();
     let last = all_pieces(session);
-    descriptors::close(last);
+    let mut out = [0u8; Session::OUTPUT];
+    descriptors::close(last, &mut out);
 }

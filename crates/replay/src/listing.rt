@@ -58,7 +58,8 @@ fn print_board(number: u32, text: &[u8]) -> bool {
     let last = finished.board;
     let counted = print_counts(number, last);
     let written = descriptors::print_part(text, text.len());
-    let reported = descriptors::print_sheet(text);
+    let mut out = [0u8; Session::OUTPUT];
+    let reported = descriptors::print_sheet(text, &mut out);
     counted && written && reported
 }
 

@@ -67,7 +67,8 @@ fn play_script(piece: u8, length: u32) -> bool {
         }
         left -= taken;
     }
-    descriptors::close(session)
+    let mut out = [0u8; Session::OUTPUT];
+    descriptors::close(session, &mut out)
 }
 
 // Reads past so many bytes.
@@ -130,7 +131,8 @@ fn fill(space: &mut [u8], n: usize) -> bool {
 // What `sheet` (S) or a caller prints for a text.
 fn answer(letter: u8, text: &[u8]) -> bool {
     if letter == b'S' {
-        descriptors::print_sheet(text)
+        let mut out = [0u8; Session::OUTPUT];
+        descriptors::print_sheet(text, &mut out)
     } else {
         call_script(text)
     }

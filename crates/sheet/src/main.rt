@@ -6,5 +6,6 @@ fn main() {
     // No input past this is read: its first bytes decide.
     let mut space = [0u8; Session::TEXT];
     let got = io::read_full(STDIN_FILENO, &mut space);
-    descriptors::print_sheet(&space[..got]);
+    let mut out = [0u8; Session::OUTPUT];
+    descriptors::print_sheet(&space[..got], &mut out);
 }

@@ -1,5 +1,6 @@
--- `descriptors::print_part` is safe and ends: the part that is printed lies within the buffer, as the code has tested.
+-- `descriptors::print_part` prints no more than the buffer has: the code has tested it.
 use mathlib.Core.Path.{sym}
+use mathlib.Core.Bool.{true≢false}
 use native.Mathlib.Omega.{arith}
 use lib.Seq.{length-take-le}
 use borrow.Author.Needs.{needs}
@@ -7,7 +8,7 @@ use Rattle.descriptors.proofs.print_part.Statement.{statement}
 use Rattle.descriptors.proofs.print_part.Tie as tie
 
 returns : tie.Need-returns
-returns c = search needs
+returns c = λ e. absurd (true≢false (sym e))
 
 slice-aggregate-write-all : tie.Need-slice-aggregate-write-all
 slice-aggregate-write-all c = sym (length-take-le _ _ (omega arith))

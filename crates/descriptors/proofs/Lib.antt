@@ -1,0 +1,2 @@
+pub mod Taking
+pub mod Printing
