@@ -44,11 +44,10 @@ use Rattle.promises.proofs.Plays.{play-standing}
 single : (b : Board) (e : ℕ) → Invariant b → e < b .network .edges
     → (singular b e ≡ true) ↔ Unparted (b .network .tails) (b .network .heads) (b .flows) (head b e)
 unfolding singular
-single b e inv h =
-    (
-      λ s. straight-unparted (b .network .tails) (b .network .heads) (b .flows) (b .network .vertices) (head b e) (joined b inv) (inv .lawful .head e h) s,
-      λ u. unparted-single b inv e u,
-    )
+single b e inv h = (
+  λ s. straight-unparted (b .network .tails) (b .network .heads) (b .flows) (b .network .vertices) (head b e) (joined b inv) (inv .lawful .head e h) s,
+  λ u. unparted-single b inv e u,
+)
 
 unmarked : (text : List ℕ) → loadText text .answer ≡ 0 → loadText text .board .marks ≡ 0
 unmarked text h = ap (λ (b : Board). b .marks) (load-accepted text h)

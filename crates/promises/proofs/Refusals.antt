@@ -79,7 +79,7 @@ module _ (b : Board) (shut : playing b ≡ false) where
   no-finish : finishCall b ≡ record { answer = 20; count = 0; board = b }
   unfolding finishCall
   no-finish =
-      pick-no (eqb (finishRefusal b) 0) _ _ (ne-eqb _ 0 (λ q. omega (arith, finish-number, q)))
+      pick-no (eqb (finishRefusal b) 0) _ _ (ne-eqb (finishRefusal b) 0 (λ q. omega (arith, finish-number, q)))
       ∙ (λ j. record { answer = finish-number j; count = 0; board = b })
 
   refuses-20 : Refuses20 b

@@ -1,5 +1,5 @@
 -- The shelf, the sheets and what the programs print: each is proved where its definition stands, and gathered here.
-use mathlib.Core.Path.{_≡_, ap, _∙_}
+use mathlib.Core.Path.{_≡_, refl, ap, _∙_}
 use mathlib.Core.Bool.{true}
 use mathlib.Core.Logic.{_≢_}
 use mathlib.Core.List.{List}
@@ -26,6 +26,7 @@ use Rattle.promises.specs.Plays.{OfPlay, OfFinish}
 use Rattle.promises.specs.Sheets.{AboutSheets}
 
 large : 1500 ≤ length table
+unfolding table
 large = leb-true 1500 (length table) refl
 
 above : (k n : ℕ) → 39 < k → catalogCall k n ≡ record { answer = 2; used = 0 }
