@@ -11,7 +11,8 @@ use Rattle.decimal.specs.declared.Number.{Number}
 use Rattle.decimal.specs.declared.Number.the-variants.{Value, Malformed}
 use Rattle.decimal.specs.Decimal.{numberOf}
 use Rattle.graph_flows.specs.Trails.{Step, down, up}
-use Rattle.play_lines.specs.Orders.{Order, carry, turn, hint, undo, finish, other, isLetter, carryBy, carryOf, inFront, pairBy, turnOf, alone, byFields}
+use Rattle.move_list.specs.Calls.{carry, turn, undo, hint}
+use Rattle.play_lines.specs.Orders.{Order, call, finish, other, isLetter, carryBy, carryOf, inFront, pairBy, turnOf, alone, byFields}
 
 -- nothing; a line of another form; `H`, `U`, `F`; `K` with no, one and both numbers; `T` with steps, and with an edge whose way is to come
 pub data Shape : Type 0 where
@@ -34,10 +35,10 @@ lastOf i (e ∷ f ∷ fs) = other
 
 -- steps in front of a turn
 abbrev pub behind : List Step → Order → Order
-behind w (carry i e) = other
-behind w (turn v) = turn (w ++ v)
-behind w hint = other
-behind w undo = other
+behind w (call (carry i e)) = other
+behind w (call (turn v)) = call (turn (w ++ v))
+behind w (call undo) = other
+behind w (call hint) = other
 behind w finish = other
 behind w other = other
 
@@ -49,12 +50,12 @@ wayOf e (way ∷ fs) = pairBy (Value e) way (turnOf fs)
 abbrev pub orderFrom : Shape → List (List ℕ) → Order
 orderFrom begin fs = byFields fs
 orderFrom wrong fs = other
-orderFrom hinted fs = alone hint fs
-orderFrom undone fs = alone undo fs
+orderFrom hinted fs = alone (call hint) fs
+orderFrom undone fs = alone (call undo) fs
 orderFrom finished fs = alone finish fs
 orderFrom carry-none fs = carryOf fs
 orderFrom (carry-one i) fs = lastOf i fs
-orderFrom (carry-both i e) fs = alone (carry i e) fs
+orderFrom (carry-both i e) fs = alone (call (carry i e)) fs
 orderFrom (turn-even w) fs = behind w (turnOf fs)
 orderFrom (turn-odd w e) fs = behind w (wayOf e fs)
 
@@ -85,10 +86,10 @@ shapeTaken (turn-odd w e) f = wayBy (isLetter 68 f) (isLetter 85 f) w e
 
 -- a turn with no steps in front of it
 none-front : (s : Step) (o : Order) → behind [] (inFront s o) ≡ inFront s o
-none-front s (carry i e) = refl
-none-front s (turn v) = refl
-none-front s hint = refl
-none-front s undo = refl
+none-front s (call (carry i e)) = refl
+none-front s (call (turn v)) = refl
+none-front s (call undo) = refl
+none-front s (call hint) = refl
 none-front s finish = refl
 none-front s other = refl
 
@@ -110,10 +111,10 @@ none-turn (e ∷ way ∷ fs) = none-pair (numberOf e) way (turnOf fs)
 
 -- a step between the steps read and the rest of the turn
 one-front : (w : List Step) (s : Step) (o : Order) → behind w (inFront s o) ≡ behind (w ++ (s ∷ [])) o
-one-front w s (carry i e) = refl
-one-front w s (turn v) = ap turn (sym (append-snoc w s v))
-one-front w s hint = refl
-one-front w s undo = refl
+one-front w s (call (carry i e)) = refl
+one-front w s (call (turn v)) = ap (λ (u : List Step). call (turn u)) (sym (append-snoc w s v))
+one-front w s (call undo) = refl
+one-front w s (call hint) = refl
 one-front w s finish = refl
 one-front w s other = refl
 
@@ -124,7 +125,7 @@ module _ (fs : List (List ℕ)) where
   begin-step f = split (isLetter 75 f) (isLetter 84 f) (isLetter 72 f) (isLetter 85 f) (isLetter 70 f)
     where
       split : (k t h u x : Bool)
-          → pick k (carryOf fs) (pick t (turnOf fs) (pick h (alone hint fs) (pick u (alone undo fs) (pick x (alone finish fs) other))))
+          → pick k (carryOf fs) (pick t (turnOf fs) (pick h (alone (call hint) fs) (pick u (alone (call undo) fs) (pick x (alone finish fs) other))))
           ≡ orderFrom (begunBy k t h u x) fs
       split true t h u x = refl
       split false true h u x = sym (none-turn fs)

@@ -9,13 +9,11 @@ use Rattle.decimal.specs.declared.Number.{Number}
 use Rattle.decimal.specs.declared.Number.the-variants.{Value, Malformed}
 use Rattle.decimal.specs.Decimal.{numberOf}
 use Rattle.graph_flows.specs.Trails.{Step, down, up}
+use Rattle.move_list.specs.Calls.{Call, carry, turn, undo, hint}
 
--- what a line asks for; `other` is "a line of another form"
+-- what a line asks for: a call, a finish, or nothing, where it is "a line of another form"
 pub data Order : Type 0 where
-  carry : ℕ → ℕ → Order
-  turn : List Step → Order
-  hint : Order
-  undo : Order
+  call : Call → Order
   finish : Order
   other : Order
 
@@ -36,7 +34,7 @@ isLetter x f = both (eqb (length f) 1) (eqb (getD f 0 0) x)
 
 -- `K,mill,channel`: "Numbers are written as in the board text"
 abbrev pub carryBy : Number → Number → Order
-carryBy (Value i) (Value e) = carry i e
+carryBy (Value i) (Value e) = call (carry i e)
 carryBy (Value i) Malformed = other
 carryBy Malformed n = other
 
@@ -48,10 +46,10 @@ carryOf (i ∷ e ∷ f ∷ fs) = other
 
 -- a step in front of a turn
 abbrev pub inFront : Step → Order → Order
-inFront s (carry i e) = other
-inFront s (turn w) = turn (s ∷ w)
-inFront s hint = other
-inFront s undo = other
+inFront s (call (carry i e)) = other
+inFront s (call (turn w)) = call (turn (s ∷ w))
+inFront s (call undo) = other
+inFront s (call hint) = other
 inFront s finish = other
 inFront s other = other
 
@@ -62,7 +60,7 @@ pairBy Malformed way rest = other
 
 -- `T` with such pairs; "`T` alone is the empty turn"
 unfoldable pub turnOf : List (List ℕ) → Order
-turnOf [] = turn []
+turnOf [] = call (turn [])
 turnOf (e ∷ []) = other
 turnOf (e ∷ way ∷ fs) = pairBy (numberOf e) way (turnOf fs)
 
@@ -76,7 +74,7 @@ byFields [] = other
 byFields (x ∷ fs) =
     pick (isLetter 75 x) (carryOf fs)
     (pick (isLetter 84 x) (turnOf fs)
-    (pick (isLetter 72 x) (alone hint fs) (pick (isLetter 85 x) (alone undo fs) (pick (isLetter 70 x) (alone finish fs) other))))
+    (pick (isLetter 72 x) (alone (call hint) fs) (pick (isLetter 85 x) (alone (call undo) fs) (pick (isLetter 70 x) (alone finish fs) other))))
 
 -- a line, without its line feed
 unfoldable pub orderOf : List ℕ → Order

@@ -12,10 +12,11 @@ use Rattle.decimal.specs.declared.Number.the-variants.{Value, Malformed}
 use Rattle.board.specs.Limits.{maxEdges}
 use Rattle.graph_flows.specs.Trails.{Step, edgeOf}
 use Rattle.move_cycle.specs.Steps.{upFrom, stepsOf}
+use Rattle.move_list.specs.Calls.{carry, turn, undo, hint}
 use Rattle.play_lines.specs.declared.Piece.{Piece}
 use Rattle.play_lines.specs.declared.Form.{Form}
 use Rattle.play_lines.specs.declared.Scan.{Scan}
-use Rattle.play_lines.specs.Orders.{Order, carry, turn, hint, undo, finish, other}
+use Rattle.play_lines.specs.Orders.{Order, call, finish, other}
 
 -- ---- a field: how many bytes, more than seven counted as eight; the first; whether all are digits; and their number
 
@@ -181,9 +182,9 @@ pub record Nothing (f : Form) : Type 0 where
   pub no-turn : eqb (f .kind) turnForm ≡ false
 
 abbrev pub StandsFor : Order → Form → Type 0
-StandsFor (carry i e) f = (f .kind ≡ carryWhole) × (f .first ≡ i) × (f .second ≡ e)
-StandsFor (turn w) f = KeepsSteps w f
-StandsFor hint f = f .kind ≡ hintForm
-StandsFor undo f = f .kind ≡ undoForm
+StandsFor (call (carry i e)) f = (f .kind ≡ carryWhole) × (f .first ≡ i) × (f .second ≡ e)
+StandsFor (call (turn w)) f = KeepsSteps w f
+StandsFor (call undo) f = f .kind ≡ undoForm
+StandsFor (call hint) f = f .kind ≡ hintForm
 StandsFor finish f = f .kind ≡ finishForm
 StandsFor other f = Nothing f

@@ -18,15 +18,15 @@ use Rattle.board.specs.declared.Board.{Board}
 use Rattle.board.specs.declared.Played.{Played}
 use Rattle.move_guard.specs.Guard.{intact, playing}
 use Rattle.move_guard.proofs.Facts.{playing-intact, playing-edges}
-use Rattle.move_guard.specs.Moved.{answered}
 use Rattle.move_guard.proofs.Answers.{answered-no}
 use Rattle.graph_flows.specs.Trails.{Step, edgeOf, edgesOf}
 use Rattle.move_cycle.specs.Steps.{stepsOf, every, isCycle}
 use Rattle.move_cycle.proofs.Cycled.{cycle-closed}
 use Rattle.move_turn.specs.declared.StepRule.the-variants.{OnBoard}
 use Rattle.move_turn.specs.Turns.{meets, turnRefusal, turned, turnCall}
+use Rattle.move_list.specs.Calls.{carry, turn, undo, hint}
 use Rattle.play_lines.specs.declared.Form.{Form}
-use Rattle.play_lines.specs.Orders.{Order, carry, turn, hint, undo, finish, other}
+use Rattle.play_lines.specs.Orders.{Order, call, finish, other}
 use Rattle.play_lines.specs.Scans.{finishForm, carryWhole, turnForm, greatestEdge, KeepsSteps, StandsFor}
 use Rattle.play_session.specs.Replies.{replied, isFinish, replyText}
 use Rattle.play_session.specs.Machine.{unkept, turnReplied, formReplied, formText}
@@ -97,12 +97,13 @@ module _ (b : Board) where
   unfolding turnRefusal
   turn-many w p h m = pick-yes _ _ _ p ∙ pick-yes _ _ _ (on-board w h) ∙ pick-no _ _ _ (no-cycle w p h m)
 
-  refused-turn : (w : List Step) (n : ℕ) → turnRefusal b w ≡ suc n → answered (turnRefusal b w) b (turned b w) ≡ record { answer = suc n; board = b }
+  refused-turn : (w : List Step) (n : ℕ) → turnRefusal b w ≡ suc n → turnCall b w ≡ record { answer = suc n; board = b }
+  unfolding turnCall
   refused-turn w n e = rw e (answered-no (suc n) b (turned b w) (λ z. omega (arith, z)))
 
   module _ (w : List Step) (f : Form) (k : KeepsSteps w f) where
     abbrev Answer : Played → Type 0
-    Answer p = p ≡ answered (turnRefusal b w) b (turned b w)
+    Answer p = p ≡ turnCall b w
 
     few-steps : f .count ≤ maxEdges → length w ≤ maxEdges
     few-steps h = split (lt-or-ge maxEdges (length w))
@@ -119,11 +120,10 @@ module _ (b : Board) where
         split (inr m) = absurd (omega (arith, h, k .few m))
 
     -- the steps were kept
-    turn-kept : f .count ≤ maxEdges → f .greatest < b .network .edges → Answer (turnCall b (take (f .count) (f .steps)))
-    unfolding turnCall
+    turn-kept : f .count ≤ maxEdges → f .greatest < b .network .edges → Answer (turnCall b (stepsOf (take (f .count) (f .steps))))
     turn-kept h g = split (known (playing b))
       where
-        split : Known (playing b) → Answer (turnCall b (take (f .count) (f .steps)))
+        split : Known (playing b) → Answer (turnCall b (stepsOf (take (f .count) (f .steps))))
         split (was-true p) = rw (k .steps (few-steps h) (omega (arith, g, k .greatest, playing-edges b p)))
         split (was-false p) =
             refused-turn (stepsOf (take (f .count) (f .steps))) 19 (turn-out (stepsOf (take (f .count) (f .steps))) p) ∙ sym (refused-turn w 19 (turn-out w p))
@@ -159,11 +159,11 @@ module _ (b : Board) where
 
 pub form-replied : (b : Board) (o : Order) (f : Form) → StandsFor o f → formReplied b f ≡ replied b o
 unfolding formReplied replied pick
-form-replied b (carry i e) f s = rw (s .0, s .1, s .2)
-form-replied b (turn w) f s =
+form-replied b (call (carry i e)) f s = rw (s .0, s .1, s .2)
+form-replied b (call (turn w)) f s =
     pick-no (eqb (f .kind) carryWhole) _ _ (rw (s .kind)) ∙ pick-yes (eqb (f .kind) turnForm) _ _ (rw (s .kind)) ∙ turn-replied b w f s
-form-replied b hint f s = rw s
-form-replied b undo f s = rw s
+form-replied b (call undo) f s = rw s
+form-replied b (call hint) f s = rw s
 form-replied b finish f s = rw s
 form-replied b other f s = rw (s .no-carry, s .no-turn, s .no-hint, s .no-undo, s .no-finish)
 
@@ -172,9 +172,9 @@ unfolding formText replyText
 form-text b o f s = rw (form-replied b o f s, is-finish o s)
   where
     is-finish : (o : Order) → StandsFor o f → eqb (f .kind) finishForm ≡ isFinish o
-    is-finish (carry i e) s = rw (s .0)
-    is-finish (turn w) s = rw (s .kind)
-    is-finish hint s = rw s
-    is-finish undo s = rw s
+    is-finish (call (carry i e)) s = rw (s .0)
+    is-finish (call (turn w)) s = rw (s .kind)
+    is-finish (call undo) s = rw s
+    is-finish (call hint) s = rw s
     is-finish finish s = rw s
     is-finish other s = s .no-finish

@@ -13,6 +13,7 @@ use Rattle.lists.proofs.Laws.{pick-yes, pick-no}
 use Rattle.board.specs.Limits.{maxEdges}
 use Rattle.board.specs.declared.Board.{Board}
 use Rattle.board.specs.declared.Played.{Played}
+use Rattle.move_cycle.specs.Steps.{stepsOf}
 use Rattle.move_turn.specs.Turns.{turnCall}
 use Rattle.play_lines.specs.declared.Form.{Form}
 use Rattle.play_lines.specs.Scans.{finishForm}
@@ -27,7 +28,7 @@ module _ (b : Board) (f : Form) (t : Bool) (e : t ≡ both (leb (f .count) maxEd
   unfolding turnReplied
   turn-unkept n h q = rw q (sym (pick-no _ _ _ (sym e ∙ h)))
 
-  pub turn-kept : (p : Played) → t ≡ true → p ≡ turnCall b (take (f .count) (f .steps)) → p ≡ turnReplied b f
+  pub turn-kept : (p : Played) → t ≡ true → p ≡ turnCall b (stepsOf (take (f .count) (f .steps))) → p ≡ turnReplied b f
   unfolding turnReplied
   turn-kept p h q = q ∙ sym (pick-yes _ _ _ (sym e ∙ h))
 

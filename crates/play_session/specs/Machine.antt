@@ -13,6 +13,7 @@ use Rattle.board.specs.declared.Board.{Board}
 use Rattle.board.specs.declared.Played.{Played}
 use Rattle.move_guard.specs.Guard.{playing}
 use Rattle.move_carry.specs.Carries.{carryCall}
+use Rattle.move_cycle.specs.Steps.{stepsOf}
 use Rattle.move_turn.specs.Turns.{turnCall}
 use Rattle.move_undo.specs.Undone.{undoCall}
 use Rattle.solve_next.specs.Hints.{hintRefusal}
@@ -34,7 +35,7 @@ unkept b f = pick (playing b) (pick (ltb (f .greatest) (b .network .edges)) 7 6)
 unfoldable pub turnReplied : Board → Form → Played
 turnReplied b f =
     pick (both (leb (f .count) maxEdges) (ltb (f .greatest) (b .network .edges)))
-    (turnCall b (take (f .count) (f .steps)))
+    (turnCall b (stepsOf (take (f .count) (f .steps))))
     (record { answer = unkept b f; board = b })
 
 unfoldable pub formReplied : Board → Form → Played

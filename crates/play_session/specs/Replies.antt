@@ -7,31 +7,21 @@ use lib.ListN.{length}
 use Rattle.lists.specs.Choice.{pick, both}
 use Rattle.board.specs.declared.Board.{Board}
 use Rattle.board.specs.declared.Played.{Played}
-use Rattle.move_guard.specs.Moved.{answered}
-use Rattle.move_carry.specs.Carries.{carryCall}
-use Rattle.move_turn.specs.Turns.{turnRefusal, turned}
-use Rattle.move_undo.specs.Undone.{undoCall}
-use Rattle.solve_next.specs.Hints.{hintRefusal}
+use Rattle.move_list.specs.Calls.{made}
 use Rattle.solve_finish.specs.Finishes.{finishCall}
 use Rattle.load.specs.Load.{loadText}
-use Rattle.play_lines.specs.Orders.{Order, carry, turn, hint, undo, finish, other, orderOf}
+use Rattle.play_lines.specs.Orders.{Order, call, finish, other, orderOf}
 use Rattle.sheet_output.specs.Outputs.{numberLine, reportOf}
 use Rattle.sheet_output.specs.Inputs.{boardPart, movesPart}
 
 -- "0 or the refusal number for each, 1 for a line of another form"; and the board after it
 unfoldable pub replied : Board → Order → Played
-replied b (carry i e) = carryCall b i e
-replied b (turn w) = answered (turnRefusal b w) b (turned b w)
-replied b hint = record { answer = hintRefusal b; board = b }
-replied b undo = undoCall b
+replied b (call c) = made b c
 replied b finish = record { answer = finishCall b .answer; board = finishCall b .board }
 replied b other = record { answer = 1; board = b }
 
 abbrev pub isFinish : Order → Bool
-isFinish (carry i e) = false
-isFinish (turn w) = false
-isFinish hint = false
-isFinish undo = false
+isFinish (call c) = false
 isFinish finish = true
 isFinish other = false
 

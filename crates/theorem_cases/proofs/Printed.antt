@@ -21,11 +21,11 @@ use Rattle.move_guard.specs.Moved.{answered}
 use Rattle.move_guard.specs.Guard.{intact, loaded, playing}
 use Rattle.move_carry.specs.Opens.{flowFits, enters, isOpen, openEdge, hasOpen, openTerminal, someOpen}
 use Rattle.move_carry.specs.Carries.{onBoard, carryRefusal, carried, carryCall}
-use Rattle.move_cycle.specs.Steps.{stepOf, stepsOf, every, leadsBack, isCycle, gather}
+use Rattle.move_cycle.specs.Steps.{every, leadsBack, isCycle, gather}
 use Rattle.move_edges.specs.Marking.{singular, isFresh, fresh}
 use Rattle.move_cycle.specs.Amounts.{smaller, isShort, raise, amountFrom, amount}
 use Rattle.move_cycle.specs.Shifts.{shiftedAt, shiftFrom, shifted}
-use Rattle.move_turn.specs.Turns.{turnRefusal, turned}
+use Rattle.move_turn.specs.Turns.{turnRefusal, turned, turnCall}
 use Rattle.move_undo.specs.Undone.{undoRefusal, undone, undoCall}
 use Rattle.solve_walk.specs.Walk.{touches, another, parts, firstMet, downWalk, cycleOf}
 use Rattle.solve_next.specs.Choosing.{isHome, allHome, markedOpen, markedEdge, chosenEdge, nextCycle, nextAct}
@@ -63,8 +63,8 @@ unfolding asShown lines answersT playOutput repliesFrom replyText replied hintRe
     started unreported routesFit route routeBy load decimal decimalFrom numbersText lineText linesText loadText readText both pick indexOf numberOf
     valueFrom ranged all lowest sumAt keyed closedBoard opens pass passes reached leads onward since follow smallest lowered lowerCycle onCycle
     cycleVertex cycleFrom cancelled acyclicFlows answered intact loaded playing flowFits enters isOpen openEdge hasOpen openTerminal someOpen onBoard
-    carryRefusal carried carryCall hasBit withBit collect stepOf stepsOf every leadsBack isCycle gather leaves leaving straight singular isFresh fresh
-    smaller isShort raise amountFrom amount shiftedAt shiftFrom shifted turnRefusal turned undoRefusal undone undoCall total has touches another parts
+    carryRefusal carried carryCall hasBit withBit collect every leadsBack isCycle gather leaves leaving straight singular isFresh fresh
+    smaller isShort raise amountFrom amount shiftedAt shiftFrom shifted turnRefusal turned turnCall undoRefusal undone undoCall total has touches another parts
     firstMet downWalk cycleOf isHome allHome markedOpen markedEdge chosenEdge nextCycle nextAct stepped steppedOn playedOut finishRefusal finishCall
     either
 printed = tt
