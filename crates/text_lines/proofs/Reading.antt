@@ -3,17 +3,17 @@ use mathlib.Core.Path.{_≡_, refl, sym, ap, _∙_}
 use mathlib.Core.Bool.{true, false}
 use mathlib.Core.List.{List, [], _∷_, _++_, append-assoc, append-nil}
 use mathlib.Core.Logic.{_≢_}
-use Prim.Native.Nat.{ℕ, zero, suc, _+_, _-_, _<_, _≤_}
+use Prim.Native.Nat.{ℕ, suc, _+_, _-_, _<_, _≤_}
 use native.Mathlib.Numerals.{add-one}
 use native.Mathlib.Omega.{arith}
 use lib.Dec.{leb, ltb}
-use lib.ListN.{length, getD, take, drop, set, replicate, length-drop, drop-of-length-le}
+use lib.ListN.{length, getD, take, drop, set, length-drop, drop-of-length-le}
 use lib.Seq.{drop-cons, take-suc-set, drop-drop, length-take-le, getD-take}
 use borrow.Author.Tests.{lt-ltb, le-ltb, eq-eqb, ne-eqb}
 use Rattle.lists.specs.Choice.{pick, both}
 use Rattle.lists.specs.Lists.{indexOf}
 use Rattle.text.proofs.Ends.{end-after}
-use Rattle.lists.proofs.Laws.{pick-yes, pick-no, rest-part}
+use Rattle.lists.proofs.Laws.{pick-yes, pick-no, rest-part, zeros-at}
 use Rattle.decimal.specs.declared.Number.{Number}
 use Rattle.decimal.specs.declared.Number.the-variants.{Value, Malformed}
 use Rattle.decimal.specs.Decimal.{numberOf}
@@ -149,11 +149,6 @@ module _ (ranges : List Range) (count : ℕ) (s values : List ℕ) (at i : ℕ) 
   line-step z h = line-turn (take count ranges) s values at i total inv _ cut (f .value) (f .used) h (sym (answer-read-got _ _ _ _ z) ∙ next)
 
 -- nothing in a refused line
-pub zeros-at : (n i : ℕ) → _≡_ {A = ℕ} (getD (replicate n 0) i 0) 0
-zeros-at zero i = refl
-zeros-at (suc n) zero = refl
-zeros-at (suc n) (suc i) = zeros-at n i
-
 module _ {l : Line} {n : ℕ} (e : l ≡ refusedLine n) where
   pub refused-used : {m : ℕ} → l .used ≤ m
   refused-used = rw e (omega arith)

@@ -6,9 +6,10 @@ use native.Mathlib.Omega.{arith}
 use borrow.Author.Needs.{needs}
 use lib.ListN.{length, getD, take, length-set, length-take}
 use lib.Seq.{getD-set-other}
+use Rattle.lists.proofs.Laws.{zeros-at}
 use Rattle.text.specs.Text.{line}
 use Rattle.text.specs.declared.Line.{Line}
-use Rattle.text_lines.proofs.Reading.{lineRest, line-end, line-step, line-step-stop, rest-used, then-got, answer-read-got, answer-read-refused, line-letter, line-comma, line-opened, two-bytes, zeros-at, refused-used, refused-rest}
+use Rattle.text_lines.proofs.Reading.{lineRest, line-end, line-step, line-step-stop, rest-used, then-got, answer-read-got, answer-read-refused, line-letter, line-comma, line-opened, two-bytes, refused-used, refused-rest}
 use Rattle.text_lines.proofs.line.Statement.{statement}
 use Rattle.text_lines.proofs.line.Tie as tie
 
