@@ -7,8 +7,8 @@ use Rattle.graph_cancel.specs.Cancelling.{cancelled, acyclicFlows}
 use Rattle.graph_cancel.proofs.Rounds.{sized, round-turn, round-none, rounds-over}
 use borrow.Author.Needs.{needs}
 use native.Mathlib.Omega.{arith}
-use Rattle.graph_cancel.proofs.cancel.Statement.{statement}
-use Rattle.graph_cancel.proofs.cancel.Tie as tie
+use Rattle.graph_cancel.proofs.cancel_all.Statement.{statement}
+use Rattle.graph_cancel.proofs.cancel_all.Tie as tie
 
 abbrev Inv-loop : tie.InvT-loop
 Inv-loop tails heads flows₀ n seen₀ walk₀ bitsets₀ round₀ flows seen walk bitsets round =
@@ -49,7 +49,7 @@ cancel-from-requires c κs =
     let at-cycle-vertex = c .before .before .before .before .before .before .before .cycle-vertex in
     let at-loop = c .before .before .before .before .before .before .before .before .before .before .before .loop in (
       (omega arith, omega arith),
-      ((omega arith, omega arith, omega arith), sized _ _ _ _ _ _ _ (at-loop .inv .1) (at-cycle-vertex .ensures .1 _ (at-if1 .left))),
+      ((omega arith, omega arith, omega arith), sized _ _ _ _ _ _ _ (at-loop .inv .1) (at-cycle-vertex .ensures .1 _)),
     )
 
 add-round : tie.Need-add-round Inv-loop μ-loop
@@ -90,8 +90,8 @@ returns-2 c =
     let over : length (c .before .before .before .before .before .before .before .before .args .flows .now) ≤ c .before .loop .round = omega arith in
     sym (rounds-over _ _ _ _ _ _ over) ∙ c .before .loop .inv .4
 
-pub cancel-spec : {M : Type 1} → statement M
-cancel-spec =
+pub cancel-all-spec : {M : Type 1} → statement M
+cancel-all-spec =
     tie.close
     (tie.spec
     Inv-loop
