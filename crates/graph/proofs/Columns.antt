@@ -85,17 +85,18 @@ stored-more f l i a d inside before e k h = go (eq-or-ne k i)
     go (inl s) = rw s (getD-set-same l i a d inside ∙ e)
     go (inr n) = getD-set-other l i k a d n ∙ before k (omega (arith, n))
 
--- each vertex alone in its bitset
-pub column-alone : (bitsets : List ℕ) (n v : ℕ) → length bitsets ≡ n → ((u : ℕ) → u < n → getD bitsets u 0 ≡ withBit 0 u) → v < n
+-- each vertex alone in its bitset; past the vertices no bitset has any
+pub column-alone : (bitsets : List ℕ) (n v : ℕ) → length bitsets ≡ n → ((u : ℕ) → u < n → getD bitsets u 0 ≡ withBit 0 u)
     → column bitsets v ≡ set (replicate n false) v true
-column-alone bitsets n v size alone inside =
+column-alone bitsets n v size alone =
     ext-getD false (column bitsets v) (set (replicate n false) v true)
     (column-length bitsets v ∙ size ∙ sym (length-set (replicate n false) v true ∙ length-replicate n false))
     (λ u h. go u (omega (arith, column-length bitsets v)) (eq-or-ne u v))
   where
     go : (u : ℕ) → u < n → (u ≡ v) ⊎ (u ≢ v) → getD (column bitsets v) u false ≡ getD (set (replicate n false) v true) u false
     go u h (inl e) =
-        let long : v < length (replicate n false) = omega (arith, length-replicate n false) in
+        let inside : v < n = omega (arith, e, h) in
+        let long : v < length (replicate n false) = omega (arith, inside, length-replicate n false) in
         rw e (column-at bitsets v v ∙ ap (λ (r : ℕ). hasBit r v) (alone v inside) ∙ has-with-same 0 v ∙ sym (getD-set-same (replicate n false) v true false long))
     go u h (inr ne) =
         column-at bitsets v u

@@ -84,7 +84,7 @@ fn pass<'a>(from: &'a [u32], to: &'a [u32], flows: &'a [u32], bitsets: &mut [u64
 // The bitset of each vertex is the vertex alone.
 fn clear(bitsets: &mut [u64])
     requires { ⌜ length (now bitsets) ≤ setWidth ⌝ }
-    ensures { λ _. ⌜ ((v : ℕ) → v < length (now (bitsets .entry)) → column (now (bitsets .exit)) v ≡
+    ensures { λ _. ⌜ ((v : ℕ) → column (now (bitsets .exit)) v ≡
         set (replicate (length (now (bitsets .entry))) false) v true) ⌝ }
 {
     let mut v: usize = 0;
@@ -112,7 +112,7 @@ fn spread<'a>(from: &'a [u32], to: &'a [u32], flows: &'a [u32], bitsets: &mut [u
 // The bitsets in which a vertex u has v where u can be reached from v over positive edges.
 pub fn reach<'a>(from: &'a [u32], to: &'a [u32], flows: &'a [u32], bitsets: &mut [u64])
     requires { ⌜ length (now bitsets) ≤ setWidth ⌝ }
-    ensures { λ _. ⌜ ((v : ℕ) → v < length (now (bitsets .entry)) → column (now (bitsets .exit)) v ≡
+    ensures { λ _. ⌜ ((v : ℕ) → column (now (bitsets .exit)) v ≡
         reached (now (from .entry)) (now (to .entry)) (now (flows .entry)) (length (now (bitsets .entry))) v) ⌝ }
 {
     clear(bitsets);

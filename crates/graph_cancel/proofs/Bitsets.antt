@@ -83,11 +83,11 @@ module _ (tails heads flows bitsets : List ℕ) where
 
 -- the lowest vertex on a cycle is the lowest of the set, where that is one of the n
 module _ (tails heads flows bitsets : List ℕ) (n m v : ℕ) (fits : n ≤ setWidth)
-    (rest : (u : ℕ) → u < n → column bitsets u ≡ reached heads tails flows n u)
+    (rest : (u : ℕ) → column bitsets u ≡ reached heads tails flows n u)
     (on : (u : ℕ) → hasBit m u ≡ ltb (onward tails heads flows (column bitsets u) u) (length flows)) (low : v ≡ lowest (hasBit m) 0 setWidth) where
   same : (u : ℕ) → u < n → hasBit m u ≡ onCycle tails heads n flows u
   unfolding onCycle
-  same u h = on u ∙ rw (rest u h)
+  same u h = on u ∙ rw (rest u)
 
   pub vertex-found : v < n → v ≡ cycleVertex tails heads n flows
   unfolding cycleVertex
@@ -98,6 +98,6 @@ module _ (tails heads flows bitsets : List ℕ) (n m v : ℕ) (fits : n ≤ setW
   vertex-none h = cut-none (onCycle tails heads n flows) (hasBit m) n setWidth v fits same low h
 
 -- the bitsets of as many vertices as there are bitsets
-pub counted : (from to flows bitsets : List ℕ) (n k : ℕ) → n ≡ k → ((v : ℕ) → v < k → column bitsets v ≡ reached from to flows k v) → (v : ℕ) → v < n
+pub counted : (from to flows bitsets : List ℕ) (n k : ℕ) → n ≡ k → ((v : ℕ) → column bitsets v ≡ reached from to flows k v) → (v : ℕ)
     → column bitsets v ≡ reached from to flows n v
 counted from to flows bitsets n k e f = rw e f

@@ -60,7 +60,7 @@ fn cycle_vertex<'a>(
 ) -> u32
     requires { ⌜ (n ≡ length (now bitsets)) × (n ≤ setWidth) ⌝ }
     ensures { λ r. ⌜ r ≡ cycleVertex (now (tails .entry)) (now (heads .entry)) n (now (flows .entry)) ⌝ }
-    ensures { λ _. ⌜ ((v : ℕ) → v < n → column (now (bitsets .exit)) v ≡
+    ensures { λ _. ⌜ ((v : ℕ) → column (now (bitsets .exit)) v ≡
         reached (now (heads .entry)) (now (tails .entry)) (now (flows .entry)) n v) ⌝ }
 {
     graph::reach(heads, tails, flows, bitsets);
@@ -196,7 +196,7 @@ fn cancel_from<'a>(
 }
 
 // Cancels every cycle, the lowest vertex on one first. The set, the walk and the bitsets are for its use.
-pub fn cancel<'a>(
+fn cancel_all<'a>(
     tails: &'a [u32],
     heads: &'a [u32],
     flows: &mut [u32],
@@ -219,4 +219,26 @@ pub fn cancel<'a>(
         cancel_from(tails, heads, flows, v, seen, walk, bitsets);
         round += 1;
     }
+}
+
+// Cancels every cycle, the lowest vertex on one first.
+pub fn cancel<'a>(tails: &'a [u32], heads: &'a [u32], flows: &mut [u32], n: u32)
+    requires { ⌜ (length (now heads) ≤ length (now flows)) × (length (now flows) ≤ setWidth) ⌝ }
+    requires { ⌜ n ≤ setWidth ⌝ }
+    ensures { λ _. ⌜ now (flows .exit) ≡ acyclicFlows (now (tails .entry)) (now (heads .entry)) n
+        (now (flows .entry)) ⌝ }
+{
+    let mut seen = [false; 64];
+    let mut walk = [0usize; 64];
+    let mut bitsets = [0u64; 64];
+    let k = n as usize;
+    cancel_all(
+        tails,
+        heads,
+        flows,
+        n,
+        &mut seen[..k],
+        &mut walk[..k],
+        &mut bitsets[..k],
+    );
 }

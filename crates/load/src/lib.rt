@@ -23,19 +23,7 @@ fn acyclic_flows(net: Network) -> [u32; Board::MAX_EDGES]
     let tails = net.tails;
     let heads = net.heads;
     let mut flows = net.flows;
-    let mut seen = [false; Board::MAX_VERTICES as usize];
-    let mut walk = [0usize; Board::MAX_VERTICES as usize];
-    let mut bitsets = [0u64; Board::MAX_VERTICES as usize];
-    let n = net.vertices as usize;
-    graph_cancel::cancel(
-        &tails,
-        &heads,
-        &mut flows,
-        net.vertices,
-        &mut seen[..n],
-        &mut walk[..n],
-        &mut bitsets[..n],
-    );
+    graph_cancel::cancel(&tails, &heads, &mut flows, net.vertices);
     flows
 }
 

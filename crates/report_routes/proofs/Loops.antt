@@ -19,7 +19,7 @@ use Rattle.lists.proofs.Laws.{Known, was-true, was-false, known, eq-or-ne, pick
 use Rattle.sets.specs.Sets.{hasBit, withBit}
 use Rattle.sets.proofs.Bits.{has-none, has-with-same, has-with-other}
 use Rattle.board.specs.Limits.{maxEdges, maxFlow}
-use Rattle.report_routes.specs.Tables.{rowAt, IsSetOf, AreRouteSets}
+use Rattle.report_routes.specs.Tables.{rowAt, IsSetOf, AreRouteSets, RouteSets}
 
 either-none : (a : Bool) → either a false ≡ a
 unfolding either
@@ -64,13 +64,20 @@ module _ (xs : List ℕ) where
   set-end i set h inv e l = sym (either-none (hasBit set e)) ∙ (rw (drop-of-length-le xs h) at (inv e l))
 
 -- the set of one route more
-pub routes-turn : (routes counts : List ℕ) (rows : List (List ℕ)) (i route : ℕ) → i < length routes → AreRouteSets routes counts rows i
+routes-turn : (routes counts : List ℕ) (rows : List (List ℕ)) (i route : ℕ) → i < length routes → AreRouteSets routes counts rows i
     → IsSetOf route (rowAt counts rows i) → AreRouteSets (set routes i route) counts rows (i + 1)
 routes-turn routes counts rows i route h are new j l = go (eq-or-ne j i)
   where
     go : (j ≡ i) ⊎ (j ≢ i) → IsSetOf (getD (set routes i route) j 0) (rowAt counts rows j)
     go (inl q) = rw (q, getD-set-same routes i route 0 h) new
     go (inr n) = rw (getD-set-other routes i j route 0 n) (are j (omega (arith, n)))
+
+pub sets-turn : (routes counts : List ℕ) (rows : List (List ℕ)) (i route : ℕ) → i < length routes → RouteSets routes counts rows i
+    → IsSetOf route (rowAt counts rows i) → RouteSets (set routes i route) counts rows (i + 1)
+sets-turn routes counts rows i route h so-far new = record {
+  are = routes-turn routes counts rows i route h (so-far .are) new;
+  past = λ j l. getD-set-other routes i j route 0 (λ e. omega (arith, e, l)) ∙ so-far .past j (omega (arith, l));
+}
 
 -- a sum over the indices below n that has passed i
 module _ (f : ℕ → ℕ) (n i sum whole : ℕ) where

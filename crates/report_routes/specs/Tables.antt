@@ -55,6 +55,11 @@ IsSetOf set es = (e : ℕ) → e < maxEdges → hasBit set e ≡ has e es
 abbrev pub AreRouteSets : List ℕ → List ℕ → List (List ℕ) → ℕ → Type 0
 AreRouteSets routes counts rows terminals = (i : ℕ) → i < terminals → IsSetOf (getD routes i 0) (rowAt counts rows i)
 
+-- the same, and the empty set in the places past the terminals
+pub record RouteSets (routes counts : List ℕ) (rows : List (List ℕ)) (terminals : ℕ) : Type 0 where
+  pub are : AreRouteSets routes counts rows terminals
+  pub past : (i : ℕ) → terminals ≤ i → getD routes i 0 ≡ 0
+
 -- "the sum of needs routed over it", over the sets
 unfoldable pub setLoad : List ℕ → List ℕ → ℕ → ℕ → ℕ
 setLoad routes demands e terminals = total (λ i. pick (hasBit (getD routes i 0) e) (getD demands i 0) 0) 0 terminals

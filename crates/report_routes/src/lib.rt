@@ -9,7 +9,7 @@ ghost use lib.Dec.{leb};
 ghost use lib.ListN.{getD, take};
 ghost use Rattle.lists.specs.Lists.{all};
 ghost use Rattle.board.specs.Limits.{maxVertices, maxTerminals};
-ghost use Rattle.report_routes.specs.Tables.{rowsOf, countsOf, IsSetOf, AreRouteSets, setLoad, Moderate};
+ghost use Rattle.report_routes.specs.Tables.{rowsOf, countsOf, IsSetOf, RouteSets, setLoad, Moderate};
 
 // The routes by the first moves of a journal, from the last of them to the first: a row of edges for each terminal, 0
 // behind them. `counts` gets how many edges each route has; a row holds as many of them as there is room for.
@@ -98,7 +98,7 @@ pub fn edge_sets(
     terminals: u32,
 ) -> [EdgeSet; Board::MAX_TERMINALS]
     requires { ⌜ terminals ≤ maxTerminals ⌝ }
-    ensures { λ r. ⌜ AreRouteSets r counts rows terminals ⌝ }
+    ensures { λ r. ⌜ RouteSets r counts rows terminals ⌝ }
 {
     let mut routes = [0u64; Board::MAX_TERMINALS];
     let mut i: usize = 0;

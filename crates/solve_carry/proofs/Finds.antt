@@ -19,7 +19,8 @@ use Rattle.move_edges.specs.Singular.{leaves}
 use Rattle.move_edges.specs.Incidence.{touchingAt}
 use Rattle.move_edges.proofs.Meeting.{touching-is}
 use Rattle.move_carry.specs.Opens.{flowFits, isOpenAt}
-use Rattle.solve_carry.specs.Search.{hasOpenAt, markedOpenAt, chosenEdgeIn, fitIn, chosenIn, Searched}
+use Rattle.solve_carry.specs.Search.{hasOpenAt, markedOpenAt, chosenEdgeIn, foundCarry, fitIn, chosenIn, Searched}
+use Rattle.solve_carry.specs.declared.Found.{Found}
 
 -- a search that goes on past the last number with q finds the same
 module _ (q : ℕ → Bool) (m n : ℕ) (within : m ≤ n) (past : (e : ℕ) → m ≤ e → q e ≡ false) where
@@ -189,3 +190,34 @@ module _ (flows : List ℕ) (marks demand set marked e : ℕ) (is-marked : marke
   pub chosen-other : setWidth ≤ e → fitIn flows marks demand set ≡ chosenIn flows marks demand set
   unfolding chosenIn
   chosen-other h = rw (← is-marked, ← is) (sym (pick-no _ _ _ (le-ltb e setWidth h)))
+
+-- what was found, by its parts
+module _ (heads demands : List ℕ) (edges : ℕ) (flows : List ℕ) (marks : ℕ) (places : List ℕ) (n : ℕ) where
+  abbrev first-open : ℕ
+  first-open = lowest (hasOpenAt heads demands edges flows marks places) 0 n
+
+  abbrev chosen-at : ℕ → ℕ
+  chosen-at i = chosenEdgeIn heads demands edges flows marks places i
+
+  pub found-carry : (i e : ℕ) → i ≡ first-open → i < n → e ≡ chosen-at i → record { terminal = i; edge = e } ≡ foundCarry heads demands edges flows marks places n
+  unfolding foundCarry
+  found-carry i e p h q =
+      let edge : e ≡ pick (ltb first-open n) (chosen-at first-open) setWidth =
+      q ∙ ap chosen-at p ∙ sym (pick-yes (ltb first-open n) (chosen-at first-open) setWidth (lt-ltb first-open n (rw p at h))) in
+      λ t. record { terminal = p t; edge = edge t }
+
+  pub found-no-carry : (i : ℕ) → i ≡ first-open → n ≤ i → record { terminal = i; edge = setWidth } ≡ foundCarry heads demands edges flows marks places n
+  unfolding foundCarry
+  found-no-carry i p h =
+      let edge : setWidth ≡ pick (ltb first-open n) (chosen-at first-open) setWidth =
+      sym (pick-no (ltb first-open n) (chosen-at first-open) setWidth (le-ltb first-open n (rw p at h))) in
+      λ t. record { terminal = p t; edge = edge t }
+
+  module _ (r : Found) (e : r ≡ foundCarry heads demands edges flows marks places n) where
+    pub found-terminal : r .terminal ≡ first-open
+    unfolding foundCarry
+    found-terminal = ap (λ (f : Found). f .terminal) e
+
+    pub found-edge : r .terminal < n → r .edge ≡ chosen-at (r .terminal)
+    unfolding foundCarry
+    found-edge h = ap (λ (f : Found). f .edge) e ∙ pick-yes _ _ _ (lt-ltb _ _ (rw found-terminal at h)) ∙ ap chosen-at (sym found-terminal)

@@ -11,6 +11,7 @@ use Rattle.sets.specs.Sets.{setWidth, hasBit, common}
 use Rattle.board.specs.Limits.{maxVertices, maxEdges}
 use Rattle.move_edges.specs.Incidence.{Incident, PositiveSet}
 use Rattle.move_carry.specs.Opens.{flowFits, isOpenAt}
+use Rattle.solve_carry.specs.declared.Found.{Found}
 
 module _ (heads demands : List ℕ) (edges : ℕ) (flows : List ℕ) (marks : ℕ) (places : List ℕ) where
   -- terminal i has an open carry
@@ -26,6 +27,13 @@ module _ (heads demands : List ℕ) (edges : ℕ) (flows : List ℕ) (marks : �
       pick (ltb (lowest (markedOpenAt i) 0 edges) edges)
       (lowest (markedOpenAt i) 0 edges)
       (lowest (isOpenAt heads flows marks (getD places i 0) (getD demands i 0)) 0 edges)
+
+  -- "lowest mill that has one; of its open carries, marked channels first, then lowest channel", of so many terminals; their count and a number that no edge has
+  -- where no carry is open
+  unfoldable pub foundCarry : ℕ → Found
+  foundCarry terminals =
+      let i = lowest hasOpenAt 0 terminals in
+      record { terminal = i; edge = pick (ltb i terminals) (chosenEdgeIn i) setWidth }
 
 -- the lowest edge of a set whose flow allows a carry of that demand; of a set's edges, the marked first
 unfoldable pub fitIn : List ℕ → ℕ → ℕ → ℕ → ℕ

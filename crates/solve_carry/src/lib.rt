@@ -1,12 +1,10 @@
 // The open carry that the solver makes, by sets of edges.
 use board::EdgeSet;
 ghost use mathlib.Core.Path.{_≡_};
-ghost use Prim.Native.Nat.{_<_};
 ghost use lib.ListN.{getD};
-ghost use Rattle.lists.specs.Lists.{lowest};
 ghost use Rattle.sets.specs.Sets.{hasBit};
 ghost use Rattle.move_carry.specs.Opens.{flowFits};
-ghost use Rattle.solve_carry.specs.Search.{hasOpenAt, chosenEdgeIn, fitIn, chosenIn, Searched};
+ghost use Rattle.solve_carry.specs.Search.{foundCarry, fitIn, chosenIn, Searched};
 
 // A terminal and the edge of its carry. Where no carry is open, the count of terminals and a number that no edge has.
 pub struct Found {
@@ -67,12 +65,8 @@ pub fn open_carry<'a>(
     places: &'a [u32],
 ) -> Found
     requires { ⌜ Searched (now heads) (now entering) (now demands) terminals edges (now flows) positive (now places) ⌝ }
-    ensures { λ r. ⌜ r .terminal ≡
-        lowest (hasOpenAt (now (heads .entry)) (now (demands .entry)) edges (now (flows .entry)) marks
-        (now (places .entry))) 0 terminals ⌝ }
-    ensures { λ r. ⌜ (r .terminal < terminals → r .edge
-        ≡ chosenEdgeIn (now (heads .entry)) (now (demands .entry)) edges (now (flows .entry)) marks
-        (now (places .entry)) (r .terminal)) ⌝ }
+    ensures { λ r. ⌜ r ≡ foundCarry (now (heads .entry)) (now (demands .entry)) edges (now (flows .entry)) marks
+        (now (places .entry)) terminals ⌝ }
 {
     let mut i: u32 = 0;
     while i < terminals {

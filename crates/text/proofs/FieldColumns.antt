@@ -9,7 +9,7 @@ use lib.Dec.{ltb}
 use lib.ListN.{length, getD, replicate, length-replicate, List·getD-eq-default}
 use lib.Seq.{sets, sets-eq, length-sets, getD-drop, ext-getD}
 use borrow.Author.Tests.{ltb-true, ltb-false}
-use Rattle.lists.proofs.Laws.{Known, was-true, was-false, known}
+use Rattle.lists.proofs.Laws.{Known, was-true, was-false, known, zeros-at}
 use Rattle.text.specs.declared.Range.{Range}
 use Rattle.text.specs.Text.{fieldColumn, linesText, lineText}
 use Rattle.text.proofs.Fields.{InRanges, Rows, no-row, row, rowsText}
@@ -109,11 +109,6 @@ stored size j rows = sets (zeros size) 0 (fieldColumn j rows)
 
 pub stored-length : (size j : ℕ) (rows : List (List ℕ)) → length (stored size j rows) ≡ size
 stored-length size j rows = length-sets (zeros size) 0 (fieldColumn j rows) ∙ length-replicate size 0
-
-zeros-at : (size i : ℕ) → getD (zeros size) i 0 ≡ 0
-zeros-at zero i = refl
-zeros-at (suc size) zero = refl
-zeros-at (suc size) (suc i) = zeros-at size i
 
 -- zeros behind a list change nothing
 zeros-behind : (vs t : List ℕ) (i : ℕ) → ((j : ℕ) → getD t j 0 ≡ 0) → getD (vs ++ t) i 0 ≡ getD vs i 0

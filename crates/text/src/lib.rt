@@ -6,6 +6,7 @@ ghost use lib.Dec.{leb, ltb};
 ghost use Rattle.lists.specs.Choice.{pick, both};
 ghost use Rattle.text.specs.Text.{vertexBelow};
 ghost use Rattle.text.specs.Results.{refusal, unwritten};
+ghost use Rattle.text.specs.Views.{refusedPart};
 
 // What reading a text gives: 0 and its network, or the number it is refused with and the empty network.
 pub struct Reading {
@@ -67,7 +68,7 @@ impl Range {
 
 impl Part {
     pub fn refused(answer: u32) -> Part
-        ensures { λ r. ⌜ (r .answer ≡ answer) × (r .used ≡ 0) ⌝ }
+        ensures { λ r. ⌜ r ≡ refusedPart answer ⌝ }
     {
         let network = Network::empty();
         Part {

@@ -13,7 +13,7 @@ use lib.Seq.{getD-set-same, getD-set-other}
 use borrow.Author.Tests.{eq-eqb, ne-eqb}
 use Rattle.lists.specs.Choice.{pick, either}
 use Rattle.lists.specs.Lists.{all, keyed, sumAt}
-use Rattle.lists.proofs.Laws.{eq-or-ne, all-same, sum-turn}
+use Rattle.lists.proofs.Laws.{eq-or-ne, all-same, sum-turn, zeros-at}
 use Rattle.board.specs.Limits.{maxVertices}
 use Rattle.board.specs.declared.Network.{Network}
 use Rattle.text_rules.specs.Rules.{balanced, inflow, outflow, demandAt}
@@ -53,17 +53,12 @@ keyed-turn ks xs s r i k y v total h size ek ey er less inv =
     rw grown (sum-turn ks xs v i (getD s v 0) total (keyed k v y) h size (ap₂ (λ (a b : ℕ). keyed a v b) ek ey) inv)
 
 -- sums that values were added to once, from nothing, are within the bound
-none : (n v : ℕ) → _≡_ {A = ℕ} (getD (replicate n 0) v 0) 0
-none zero v = refl
-none (suc n) zero = refl
-none (suc n) (suc v) = none n v
-
 pub nothing-most : (v : ℕ) → getD (replicate maxVertices 0) v 0 ≤ 4294967296 * 65536
-nothing-most v = omega (arith, none maxVertices v)
+nothing-most v = omega (arith, zeros-at maxVertices v)
 
 pub added-most : (r : List ℕ) → ((v : ℕ) → getD r v 0 ≤ getD (replicate maxVertices 0) v 0 + 4294967296 * 65536) → (v : ℕ)
     → getD r v 0 ≤ 4294967296 * 65536
-added-most r h v = omega (arith, h v, none maxVertices v)
+added-most r h v = omega (arith, h v, zeros-at maxVertices v)
 
 -- the sums of a network's vertices, made from nothing
 module _ (net : Network) (n : ℕ) (xs rest ys : List ℕ)
@@ -75,8 +70,8 @@ module _ (net : Network) (n : ℕ) (xs rest ys : List ℕ)
   even v h =
       let less : v < length {A = ℕ} (replicate n 0) = omega (arith, length-replicate {A = ℕ} n 0) in
       let long : v < length rest = omega arith in
-      let x : getD xs v 0 ≡ inflow net v = omega (arith, enters v less, none n v) in
-      let y : getD ys v 0 ≡ outflow net v + demandAt net v = omega (arith, leaves v less, needed v long, none n v) in
+      let x : getD xs v 0 ≡ inflow net v = omega (arith, enters v less, zeros-at n v) in
+      let y : getD ys v 0 ≡ outflow net v + demandAt net v = omega (arith, leaves v less, needed v long, zeros-at n v) in
       ap₂ (λ (a b : ℕ). either (eqb v (net .source)) (eqb a b)) x y ∙ choose (eqb v (net .source)) (eqb (inflow net v) (outflow net v + demandAt net v))
     where
       choose : (a b : Bool) → either a b ≡ pick a true b

@@ -2,6 +2,7 @@
 use mathlib.Core.Path.{_≡_, refl, sym, ap, _∙_}
 use mathlib.Core.Bool.{true, false}
 use mathlib.Core.List.{List, [], _∷_, _++_, append-assoc, append-nil}
+use mathlib.Core.Logic.{_≢_}
 use Prim.Native.Nat.{ℕ, suc, _+_, _-_, _<_, _≤_}
 use native.Mathlib.Numerals.{add-one}
 use native.Mathlib.Omega.{arith}
@@ -12,13 +13,15 @@ use borrow.Author.Tests.{lt-ltb, le-ltb, eq-eqb, ne-eqb}
 use Rattle.lists.specs.Choice.{pick, both}
 use Rattle.lists.specs.Lists.{indexOf}
 use Rattle.text.proofs.Ends.{end-after}
-use Rattle.lists.proofs.Laws.{pick-yes, pick-no, rest-part}
+use Rattle.lists.proofs.Laws.{pick-yes, pick-no, rest-part, zeros-at}
 use Rattle.decimal.specs.declared.Number.{Number}
 use Rattle.decimal.specs.declared.Number.the-variants.{Value, Malformed}
 use Rattle.decimal.specs.Decimal.{numberOf}
 use Rattle.text.specs.declared.Range.{Range}
 use Rattle.text.specs.declared.Field.{Field}
-use Rattle.text.specs.Views.{answerRead, fieldRead}
+use Rattle.text.specs.declared.Line.{Line}
+use Rattle.text.specs.declared.Part.{Part}
+use Rattle.text.specs.Views.{answerRead, fieldRead, refusedLine, refusedPart, LineRest}
 use Rattle.text.specs.Text.{Read, refused, got, then, letter, ranged, field, endByte, between, numbers, line, lines}
 
 -- a field whose first end stands behind n bytes, or nowhere
@@ -144,3 +147,18 @@ module _ (ranges : List Range) (count : ℕ) (s values : List ℕ) (at i : ℕ) 
 
   pub line-step : f .answer ≡ 0 → i < length values → lineRest (take count ranges) s (set values i (f .value)) (at + f .used) (i + 1) ≡ total
   line-step z h = line-turn (take count ranges) s values at i total inv _ cut (f .value) (f .used) h (sym (answer-read-got _ _ _ _ z) ∙ next)
+
+-- nothing in a refused line
+module _ {l : Line} {n : ℕ} (e : l ≡ refusedLine n) where
+  pub refused-used : {m : ℕ} → l .used ≤ m
+  refused-used = rw e (omega arith)
+
+  pub refused-rest : {k : ℕ} → LineRest k l
+  refused-rest = rw e (record { refused = λ some. refl; past = λ i h. zeros-at 4 i })
+
+-- a refused part that was handed on
+pub part-used : {p : Part} {n m : ℕ} → p ≡ refusedPart n → p .used ≤ m
+part-used e = rw e (omega arith)
+
+pub part-refused : {p : Part} {n : ℕ} → p ≡ refusedPart n → p .answer ≢ 0 → p ≡ refusedPart (p .answer)
+part-refused e some = rw e

@@ -7,10 +7,11 @@ use text::Line;
 use text::Part;
 use text::Range;
 ghost use mathlib.Core.Path.{_≡_};
+ghost use mathlib.Core.Logic.{_≢_};
 ghost use Prim.Native.Nat.{_≤_, _<_};
 ghost use lib.ListN.{length, take, drop};
 ghost use Rattle.text.specs.Text.{field, line, between, edgeRanges, terminalRanges, edgeLines, terminalLines};
-ghost use Rattle.text.specs.Views.{fieldRead, lineRead, partRead};
+ghost use Rattle.text.specs.Views.{fieldRead, lineRead, partRead, refusedField, refusedLine, refusedPart, LineRest};
 ghost use mathlib.Core.List.{[], _∷_, _++_};
 ghost use Rattle.board.specs.Limits.{maxEdges, maxTerminals};
 
@@ -20,6 +21,7 @@ ghost use Rattle.board.specs.Limits.{maxEdges, maxTerminals};
 fn field(s: &[u8], range: Range, end: u8) -> Field
     ensures { λ r. ⌜ fieldRead r (now (s .entry)) ≡ field range end (now (s .entry)) ⌝ }
     ensures { λ r. ⌜ r .used ≤ length (now (s .entry)) ⌝ }
+    ensures { λ r. ⌜ (r .answer ≢ 0 → r ≡ refusedField (r .answer)) ⌝ }
 {
     let n = lists::index_of(s, end);
     if s.len() <= n {
@@ -55,7 +57,7 @@ fn field(s: &[u8], range: Range, end: u8) -> Field
 }
 
 fn refused_line(answer: u32) -> Line
-    ensures { λ r. ⌜ (r .answer ≡ answer) × (r .used ≡ 0) ⌝ }
+    ensures { λ r. ⌜ r ≡ refusedLine answer ⌝ }
 {
     Line {
         answer: answer,
@@ -69,6 +71,7 @@ pub fn line(s: &[u8], letter: u8, ranges: [Range; 4], count: usize) -> Line
     requires { ⌜ (count ≤ 4) × (0 < letter) ⌝ }
     ensures { λ r. ⌜ lineRead count r (now (s .entry)) ≡ line letter (take count ranges) (now (s .entry)) ⌝ }
     ensures { λ r. ⌜ r .used ≤ length (now (s .entry)) ⌝ }
+    ensures { λ r. ⌜ LineRest count r ⌝ }
 {
     if lists::byte_at(s, 0) != letter {
         return refused_line(1);
@@ -116,6 +119,7 @@ pub fn edge_lines(s: &[u8], start: usize, net: Network) -> Part
     requires { ⌜ (start ≤ length (now s)) × (0 < net .vertices) × (net .edges ≤ maxEdges) ⌝ }
     ensures { λ r. ⌜ partRead r (now (s .entry)) ≡ edgeLines net 0 (net .edges) (drop start (now (s .entry))) ⌝ }
     ensures { λ r. ⌜ r .used ≤ length (now (s .entry)) ⌝ }
+    ensures { λ r. ⌜ (r .answer ≢ 0 → r ≡ refusedPart (r .answer)) ⌝ }
 {
     let ranges = edge_ranges(net.vertices);
     let edges = net.edges as usize;
@@ -161,6 +165,7 @@ pub fn terminal_lines(s: &[u8], start: usize, net: Network) -> Part
     ensures { λ r. ⌜ partRead r (now (s .entry)) ≡
         terminalLines net 0 (net .terminals) (drop start (now (s .entry))) ⌝ }
     ensures { λ r. ⌜ r .used ≤ length (now (s .entry)) ⌝ }
+    ensures { λ r. ⌜ (r .answer ≢ 0 → r ≡ refusedPart (r .answer)) ⌝ }
 {
     let ranges = terminal_ranges(net.vertices);
     let terminals = net.terminals as usize;

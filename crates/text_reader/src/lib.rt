@@ -5,10 +5,11 @@ use text::Part;
 use text::Range;
 use text::Reading;
 ghost use mathlib.Core.Path.{_≡_};
+ghost use mathlib.Core.Logic.{_≢_};
 ghost use Prim.Native.Nat.{_≤_};
 ghost use lib.ListN.{length};
 ghost use Rattle.text.specs.Text.{headRanges, headed, layout};
-ghost use Rattle.text.specs.Views.{partRead, headerPart};
+ghost use Rattle.text.specs.Views.{partRead, refusedPart, headerPart};
 ghost use Rattle.text.specs.Results.{readText};
 
 // The ranges of `B,vertices,edges,terminals,source`.
@@ -56,6 +57,7 @@ fn headed(values: [u32; 4]) -> Network
 pub fn header(s: &[u8]) -> Part
     ensures { λ r. ⌜ partRead r (now (s .entry)) ≡ headerPart (now (s .entry)) ⌝ }
     ensures { λ r. ⌜ r .used ≤ length (now (s .entry)) ⌝ }
+    ensures { λ r. ⌜ (r .answer ≢ 0 → r ≡ refusedPart (r .answer)) ⌝ }
 {
     let l = text_lines::line(s, b'B', head_ranges(), 4);
     if l.answer != 0 {
@@ -79,6 +81,7 @@ pub fn header(s: &[u8]) -> Part
 fn layout(s: &[u8]) -> Part
     ensures { λ r. ⌜ partRead r (now (s .entry)) ≡ layout (now (s .entry)) ⌝ }
     ensures { λ r. ⌜ r .used ≤ length (now (s .entry)) ⌝ }
+    ensures { λ r. ⌜ (r .answer ≢ 0 → r ≡ refusedPart (r .answer)) ⌝ }
 {
     let h = header(s);
     if h.answer != 0 {

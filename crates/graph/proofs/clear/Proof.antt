@@ -51,7 +51,7 @@ same-length c = c .before .loop .inv .1
 returns : tie.Need-returns Inv-loop μ-loop
 returns c =
     let at-loop = c .before .loop in
-    λ v h. column-alone _ _ v (at-loop .inv .1) (λ k l. at-loop .inv .2 k (omega arith)) h
+    λ v. column-alone _ _ v (at-loop .inv .1) (λ k l. at-loop .inv .2 k (omega arith))
 
 pub clear-spec : {M : Type 1} → statement M
 clear-spec =

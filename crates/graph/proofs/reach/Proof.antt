@@ -18,7 +18,7 @@ returns : tie.Need-returns
 returns c =
     let at-spread = c .before .before .spread in
     let at-clear = c .before .before .before .before .before .before .clear in
-    λ v h. reach-made _ _ _ _ _ v _ _ (at-clear .ensures v h) (omega arith) (at-spread .ensures v)
+    λ v. reach-made _ _ _ _ _ v _ _ (at-clear .ensures v) (omega arith) (at-spread .ensures v)
 
 pub reach-spec : {M : Type 1} → statement M
 reach-spec = tie.close (tie.spec clear-requires spread-requires same-length returns)

@@ -74,7 +74,7 @@ returns : tie.Need-returns Inv-loop μ-loop
 returns c =
     let d = lines-done _ _ _ _ (c .loop-test .left) (c .before .loop .inv .2) in
     let start = c .before .before .before .before .before .before in
-    let same = set-lines (start .args .net) (start .args .counts) (start .args .rows) _ (start .pre .1 .0) (c .before .before .edge-sets .ensures) in
+    let same = set-lines (start .args .net) (start .args .counts) (start .args .rows) _ (start .pre .1 .0) (c .before .before .edge-sets .ensures .are) in
     (rw (← same) (d .0), (omega arith, rw (← same) (d .1)))
 
 pub put-loads-spec : {M : Type 1} → statement M

@@ -1,23 +1,24 @@
--- Each terminal that was passed has the set of its route in its place.
+-- Each terminal that was passed has the set of its route in its place, and the places from there on hold the empty set.
 use mathlib.Core.Path.{_≡_, refl, _∙_}
 use Prim.Native.Nat.{_-_, _≤_}
 use native.Mathlib.Omega.{arith}
 use lib.ListN.{length, length-set}
 use borrow.Author.Needs.{needs}
+use Rattle.lists.proofs.Laws.{zeros-at}
 use Rattle.board.specs.Limits.{maxTerminals}
-use Rattle.report_routes.specs.Tables.{AreRouteSets}
-use Rattle.report_routes.proofs.Loops.{routes-turn}
+use Rattle.report_routes.specs.Tables.{RouteSets}
+use Rattle.report_routes.proofs.Loops.{sets-turn}
 use Rattle.report_routes.proofs.edge_sets.Statement.{statement}
 use Rattle.report_routes.proofs.edge_sets.Tie as tie
 
 abbrev Inv-loop : tie.InvT-loop
-Inv-loop terminals counts rows routes₀ i₀ routes i = (length routes ≡ maxTerminals) × (i ≤ terminals) × AreRouteSets routes counts rows i
+Inv-loop terminals counts rows routes₀ i₀ routes i = (length routes ≡ maxTerminals) × (i ≤ terminals) × RouteSets routes counts rows i
 
 abbrev μ-loop : tie.MeasureT-loop
 μ-loop terminals counts rows routes₀ i₀ routes i = terminals - i
 
 loop-holds : tie.Need-loop-holds Inv-loop μ-loop
-loop-holds c = (refl, omega arith, λ i h. absurd (omega arith))
+loop-holds c = (refl, omega arith, record { are = λ i h. absurd (omega arith); past = λ i h. zeros-at maxTerminals i })
 
 mul-row : tie.Need-mul-row Inv-loop μ-loop
 mul-row c = search needs
@@ -55,11 +56,11 @@ loop-again c =
     let start = c .before .before .before .before in (
       length-set (at-loop .routes) _ _ ∙ at-loop .inv .0,
       omega arith,
-      routes-turn (at-loop .routes) (start .args .t1) (start .args .t2) (at-loop .i) _ (omega arith) (at-loop .inv .2) (c .row-set .ensures),
+      sets-turn (at-loop .routes) (start .args .t1) (start .args .t2) (at-loop .i) _ (omega arith) (at-loop .inv .2) (c .row-set .ensures),
     )
 
 returns : tie.Need-returns Inv-loop μ-loop
-returns c i h = c .before .loop .inv .2 i (omega arith)
+returns c = let at-loop = c .before .loop in record { are = λ i h. at-loop .inv .2 .are i (omega arith); past = λ i h. at-loop .inv .2 .past i (omega (arith, h)) }
 
 pub edge-sets-spec : {M : Type 1} → statement M
 edge-sets-spec =

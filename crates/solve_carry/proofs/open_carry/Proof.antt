@@ -7,7 +7,7 @@ use borrow.Author.Needs.{needs}
 use Rattle.lists.specs.Lists.{lowest}
 use Rattle.lists.proofs.Laws.{lowest-hit, lowest-miss, lowest-end}
 use Rattle.solve_carry.specs.Search.{hasOpenAt}
-use Rattle.solve_carry.proofs.Finds.{finds-edge}
+use Rattle.solve_carry.proofs.Finds.{finds-edge, found-carry, found-no-carry}
 use Rattle.solve_carry.proofs.open_carry.Statement.{statement}
 use Rattle.solve_carry.proofs.open_carry.Tie as tie
 
@@ -46,7 +46,9 @@ returns c =
     let found = finds-edge _ _ _ _ _ _ _ _ _ (s .pre) (search needs) _ below _ _ _ _ (c .before .before .before .before .word-at .ensures) (c .before .before .before .word-at2 .ensures)
     (c .before .before .touching .ensures) (c .before .chosen .ensures) in
     let here = found .0 (c .if1 .taken) in
-    (sym (lowest-hit _ _ _ below (here .0)) ∙ c .before .before .before .before .before .before .loop .inv, λ h. here .1)
+    let args = s .args in
+    found-carry (args .heads .now) (args .demands .now) (args .edges) (args .flows .now) (args .marks) (args .places .now) (args .terminals) _ _
+    (sym (lowest-hit _ _ _ below (here .0)) ∙ c .before .before .before .before .before .before .loop .inv) below (here .1)
 
 add-i : tie.Need-add-i Inv-loop μ-loop
 add-i c = omega arith
@@ -63,7 +65,10 @@ loop-again c =
     lowest-miss _ _ _ below (found .1 (c .if1 .left)) ∙ c .before .before .before .before .before .before .loop .inv
 
 returns-2 : tie.Need-returns-2 Inv-loop μ-loop
-returns-2 c = (sym (lowest-end _ _ _ (c .loop-test .left)) ∙ c .before .loop .inv, λ h. absurd (omega (arith, h, c .loop-test .left)))
+returns-2 c =
+    let args = c .before .before .before .before .before .before .before .args in
+    found-no-carry (args .heads .now) (args .demands .now) (args .edges) (args .flows .now) (args .marks) (args .places .now) (args .terminals) _
+    (sym (lowest-end _ _ _ (c .loop-test .left)) ∙ c .before .loop .inv) (c .loop-test .left)
 
 pub open-carry-spec : {M : Type 1} → statement M
 open-carry-spec =

@@ -1,4 +1,5 @@
 -- The search finds the lowest terminal with an open carry, which is carried; where it finds none, the turn is made.
+use Rattle.solve_carry.proofs.Finds.{found-terminal, found-edge}
 use Rattle.solve_finish.specs.Run.{openTerminalIn}
 use Rattle.solve_finish.proofs.Ready.{ready-searched, step-carries, step-turns}
 use borrow.Author.Needs.{needs}
@@ -25,8 +26,9 @@ returns : tie.Need-returns
 unfolding openTerminalIn
 returns c =
     let at-if1 = c .before in
-    let found = at-if1 .before .before .open-carry .ensures in
-    step-carries _ _ _ _ _ (found .0) _ _ (at-if1 .if1 .taken) (found .1 (at-if1 .if1 .taken)) (c .carried .ensures)
+    let found = at-if1 .before .before .open-carry in
+    step-carries _ _ _ _ _ (found-terminal _ _ _ _ _ _ _ (found .result) (found .ensures)) _ _ (at-if1 .if1 .taken)
+    (found-edge _ _ _ _ _ _ _ (found .result) (found .ensures) (at-if1 .if1 .taken)) (c .carried .ensures)
 
 turned-requires : tie.Need-turned-requires
 turned-requires c κs = search needs
@@ -35,7 +37,8 @@ returns-2 : tie.Need-returns-2
 unfolding openTerminalIn
 returns-2 c =
     let at-if1 = c .before in
-    step-turns _ _ _ _ _ (at-if1 .before .before .open-carry .ensures .0) _ (at-if1 .if1 .left) (c .turned .ensures)
+    let found = at-if1 .before .before .open-carry in
+    step-turns _ _ _ _ _ (found-terminal _ _ _ _ _ _ _ (found .result) (found .ensures)) _ (at-if1 .if1 .left) (c .turned .ensures)
 
 pub advance-spec : {M : Type 1} → statement M
 advance-spec =

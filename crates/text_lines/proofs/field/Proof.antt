@@ -1,6 +1,6 @@
 -- Each way out is a case of the definition: no end byte, no number before it, a number outside its range, or in it.
 -- Only the last takes bytes: those up to the end byte and that byte, which the slice has.
-use mathlib.Core.Path.{sym, _∙_}
+use mathlib.Core.Path.{refl, sym, _∙_}
 use native.Mathlib.Omega.{arith}
 use lib.Seq.{length-take-le}
 use Rattle.lists.specs.Choice.{pick}
@@ -15,7 +15,7 @@ index-of-requires c κs = search needs
 
 returns : tie.Need-returns
 unfolding answerRead pick
-returns c = (field-none _ _ _ _ (c .before .index-of .ensures) (c .if1 .taken), omega arith)
+returns c = (field-none _ _ _ _ (c .before .index-of .ensures) (c .if1 .taken), (omega arith, λ some. refl))
 
 slice-aggregate-read-number : tie.Need-slice-aggregate-read-number
 slice-aggregate-read-number c = sym (length-take-le _ _ (omega arith))
@@ -45,7 +45,7 @@ returns-2 c =
     let at-index-of = c .before .before .before .before .before .before .before .before .index-of in (
       field-in _ _ _ _ (at-index-of .ensures) (at-if1 .left) _ (sym (at-read-number .ensures) ∙ at-found .given .1)
           (sym (at-holds .ensures) ∙ c .if2 .taken),
-      omega arith,
+      (omega arith, λ some. absurd (some refl)),
     )
 
 returns-3 : tie.Need-returns-3
@@ -58,7 +58,7 @@ returns-3 c =
     let at-index-of = c .before .before .before .before .before .before .before .before .index-of in (
       field-out _ _ _ _ (at-index-of .ensures) (at-if1 .left) _ (sym (at-read-number .ensures) ∙ at-found .given .1)
           (sym (at-holds .ensures) ∙ c .if2 .left),
-      omega arith,
+      (omega arith, λ some. refl),
     )
 
 returns-4 : tie.Need-returns-4
@@ -67,7 +67,7 @@ returns-4 c =
     let at-read-number = c .before .before .read-number in
     let at-if1 = c .before .before .before .before .if1 in
     let at-index-of = c .before .before .before .before .before .index-of in
-    (field-malformed _ _ _ _ (at-index-of .ensures) (at-if1 .left) (sym (at-read-number .ensures) ∙ c .enum-told .given .1), omega arith)
+    (field-malformed _ _ _ _ (at-index-of .ensures) (at-if1 .left) (sym (at-read-number .ensures) ∙ c .enum-told .given .1), (omega arith, λ some. refl))
 
 pub field-spec : {M : Type 1} → statement M
 field-spec =

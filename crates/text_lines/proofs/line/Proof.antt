@@ -1,18 +1,22 @@
 -- The fields left, read on from the place reached with the values so far, give what the whole line gives.
 -- Another letter, no comma behind it, or a field that is refused refuses the line in the definition too.
-use mathlib.Core.Path.{_≡_, refl, sym, _∙_}
-use Prim.Native.Nat.{_-_, _≤_}
+use mathlib.Core.Path.{_≡_, refl, sym, ap, _∙_}
+use Prim.Native.Nat.{ℕ, _-_, _≤_}
 use native.Mathlib.Omega.{arith}
 use borrow.Author.Needs.{needs}
-use lib.ListN.{length, take, length-set, length-take}
+use lib.ListN.{length, getD, take, length-set, length-take}
+use lib.Seq.{getD-set-other}
+use Rattle.lists.proofs.Laws.{zeros-at}
 use Rattle.text.specs.Text.{line}
-use Rattle.text_lines.proofs.Reading.{lineRest, line-end, line-step, line-step-stop, rest-used, then-got, answer-read-got, answer-read-refused, line-letter, line-comma, line-opened, two-bytes}
+use Rattle.text.specs.declared.Line.{Line}
+use Rattle.text_lines.proofs.Reading.{lineRest, line-end, line-step, line-step-stop, rest-used, then-got, answer-read-got, answer-read-refused, line-letter, line-comma, line-opened, two-bytes, refused-used, refused-rest}
 use Rattle.text_lines.proofs.line.Statement.{statement}
 use Rattle.text_lines.proofs.line.Tie as tie
 
 abbrev Inv-loop : tie.InvT-loop
 Inv-loop s letter count ranges values₀ at₀ i₀ values at i =
     (i ≤ count) × (2 ≤ at) × (at ≤ length s) × (length values ≡ 4) × (lineRest (take count ranges) s values at i ≡ line letter (take count ranges) s)
+    × ((j : ℕ) → i ≤ j → getD values j 0 ≡ 0)
 
 abbrev μ-loop : tie.MeasureT-loop
 μ-loop s letter count ranges values₀ at₀ i₀ values at i = count - i
@@ -27,9 +31,9 @@ returns : tie.Need-returns Inv-loop μ-loop
 returns c =
     let at-if1 = c .before .if1 in
     let at-byte-at = c .before .before .byte-at in (
-      answer-read-refused _ _ _ _ 1 (c .refused-line .ensures .0) (λ e. omega arith)
+      answer-read-refused _ _ _ _ 1 (ap (λ (l : Line). l .answer) (c .refused-line .ensures)) (λ e. omega arith)
           ∙ sym (line-letter _ _ _ (λ e. at-if1 .taken (at-byte-at .ensures ∙ e))),
-      omega arith,
+      (refused-used (c .refused-line .ensures), refused-rest (c .refused-line .ensures)),
     )
 
 byte-at-requires-2 : tie.Need-byte-at-requires-2 Inv-loop μ-loop
@@ -44,9 +48,9 @@ returns-2 c =
     let at-byte-at2 = c .before .before .byte-at2 in
     let at-if1 = c .before .before .before .if1 in
     let at-byte-at = c .before .before .before .before .byte-at in (
-      answer-read-refused _ _ _ _ 1 (c .refused-line2 .ensures .0) (λ e. omega arith)
+      answer-read-refused _ _ _ _ 1 (ap (λ (l : Line). l .answer) (c .refused-line2 .ensures)) (λ e. omega arith)
           ∙ sym (line-comma _ _ _ (sym (at-byte-at .ensures) ∙ at-if1 .left) (λ e. at-if2 .taken (at-byte-at2 .ensures ∙ e))),
-      omega arith,
+      (refused-used (c .refused-line2 .ensures), refused-rest (c .refused-line2 .ensures)),
     )
 
 loop-holds : tie.Need-loop-holds Inv-loop μ-loop
@@ -61,6 +65,7 @@ loop-holds c =
       two-bytes (at-args .s .now) comma,
       search needs,
       then-got _ ∙ sym (line-opened _ _ _ (sym (at-byte-at .ensures) ∙ at-if1 .left) comma),
+      λ j h. zeros-at 4 j,
     )
 
 sub-field : tie.Need-sub-field Inv-loop μ-loop
@@ -102,10 +107,10 @@ returns-3 c =
     let at-loop-test = c .before .before .before .before .before .before .before .loop-test in
     let at-loop = c .before .before .before .before .before .before .before .before .loop in
     let at-args = c .before .before .before .before .before .before .before .before .before .before .before .before .before .before .args in (
-      answer-read-refused _ _ _ _ _ (c .refused-line3 .ensures .0) (at-if3 .taken)
+      answer-read-refused _ _ _ _ _ (ap (λ (l : Line). l .answer) (c .refused-line3 .ensures)) (at-if3 .taken)
           ∙ line-step-stop _ _ (at-args .s .now) (at-loop .values) (at-loop .at) (at-loop .i) _ (at-loop .inv .4) (at-loop-test .taken) size
           (at-field .result) _ (at-end-byte .ensures) (at-field .ensures .0) (at-if3 .taken),
-      omega arith,
+      (refused-used (c .refused-line3 .ensures), refused-rest (c .refused-line3 .ensures)),
     )
 
 mul-values : tie.Need-mul-values Inv-loop μ-loop
@@ -119,7 +124,7 @@ add-at c =
     let at-field = c .before .before .before .field in
     let at-loop = c .before .before .before .before .before .before .before .before .loop in
     let at-args = c .before .before .before .before .before .before .before .before .before .before .before .before .before .before .args in
-    let u = rest-used (at-args .s .now) _ _ (at-loop .inv .2) (at-field .ensures .1) in
+    let u = rest-used (at-args .s .now) _ _ (at-loop .inv .2) (at-field .ensures .1 .0) in
     omega arith
 
 add-i : tie.Need-add-i Inv-loop μ-loop
@@ -139,10 +144,11 @@ loop-again c =
     let at-args = c .before .before .before .before .before .before .before .before .before .before .before .before .before .before .args in (
       omega arith,
       omega arith,
-      rest-used (at-args .s .now) _ _ (at-loop .inv .2) (at-field .ensures .1),
+      rest-used (at-args .s .now) _ _ (at-loop .inv .2) (at-field .ensures .1 .0),
       simp length-set (omega arith),
       line-step _ _ (at-args .s .now) (at-loop .values) (at-loop .at) (at-loop .i) _ (at-loop .inv .4) (at-loop-test .taken) size
           (at-field .result) _ (at-end-byte .ensures) (at-field .ensures .0) (at-if3 .left) (omega arith),
+      λ j h. getD-set-other (at-loop .values) (at-loop .i) j _ 0 (λ e. omega (arith, e, h)) ∙ at-loop .inv .5 j (omega (arith, h)),
     )
 
 returns-4 : tie.Need-returns-4 Inv-loop μ-loop
@@ -154,7 +160,7 @@ returns-4 c =
       answer-read-got _ _ _ _ refl
           ∙
           (rw e at (line-end (take n (at-args .t3)) (at-args .s .now) (at-loop .values) (at-loop .at) (at-loop .i) _ (at-loop .inv .4) (let z = length-take n (at-args .t3) in omega arith))),
-      omega arith,
+      (omega arith, record { refused = λ some. absurd (some refl); past = λ j h. at-loop .inv .5 j (omega (arith, e, h)) }),
     )
 
 pub line-spec : {M : Type 1} → statement M

@@ -5,9 +5,10 @@ use native.Mathlib.Omega.{arith}
 use mathlib.Core.List.{List}
 use lib.ListN.{take, drop}
 use Rattle.text.specs.declared.Range.{Range}
+use Rattle.text.specs.declared.Part.{Part}
 use Rattle.board.specs.declared.Network.{Network}
 use Rattle.text.specs.Text.{got, line, headed}
-use Rattle.text_lines.proofs.Reading.{answer-read-got, answer-read-refused}
+use Rattle.text_lines.proofs.Reading.{answer-read-got, answer-read-refused, part-used, part-refused}
 use Rattle.text_lines.proofs.Loops.{head-stop, head-source, head-got}
 use borrow.Author.Needs.{needs}
 use Rattle.text_reader.proofs.header.Statement.{statement}
@@ -28,10 +29,10 @@ returns c =
     let at-line = c .before .before .before .line in
     let at-head-ranges = c .before .before .before .before .head-ranges in
     let at-args = c .before .before .before .before .before .before .args in (
-      answer-read-refused _ _ _ _ _ (c .refused .ensures .0) (at-if1 .taken)
+      answer-read-refused _ _ _ _ _ (ap (λ (p : Part). p .answer) (c .refused .ensures)) (at-if1 .taken)
           ∙ head-stop _ (at-line .result)
           (at-line .ensures .0 ∙ ap (λ (rs : List Range). line 66 (take 4 rs) (at-args .s .now)) (at-head-ranges .ensures)) (at-if1 .taken),
-      omega arith,
+      (part-used (c .refused .ensures), part-refused (c .refused .ensures)),
     )
 
 array-read-vertices : tie.Need-array-read-vertices
@@ -50,11 +51,11 @@ returns-2 c =
     let at-line = c .before .before .before .before .before .line in
     let at-head-ranges = c .before .before .before .before .before .before .head-ranges in
     let at-args = c .before .before .before .before .before .before .before .before .args in (
-      answer-read-refused _ _ _ _ 2 (c .refused2 .ensures .0) (λ e. omega arith)
+      answer-read-refused _ _ _ _ 2 (ap (λ (p : Part). p .answer) (c .refused2 .ensures)) (λ e. omega arith)
           ∙ head-source _ (at-line .result)
           (at-line .ensures .0 ∙ ap (λ (rs : List Range). line 66 (take 4 rs) (at-args .s .now)) (at-head-ranges .ensures)) (at-if1 .left) (search needs)
           (at-if2 .taken),
-      omega arith,
+      (part-used (c .refused2 .ensures), part-refused (c .refused2 .ensures)),
     )
 
 headed-requires : tie.Need-headed-requires
@@ -71,7 +72,7 @@ returns-3 c =
           ∙ ap (λ (net : Network). got net (drop (at-line .result .used) (at-args .s .now))) (c .headed .ensures)
           ∙ head-got _ (at-line .result) (at-line .ensures .0 ∙ ap (λ (rs : List Range). line 66 (take 4 rs) (at-args .s .now)) (at-head-ranges .ensures))
           (at-if1 .left) (search needs) (at-if2 .left),
-      omega arith,
+      (omega arith, λ some. absurd (some refl)),
     )
 
 pub header-spec : {M : Type 1} → statement M

@@ -1,8 +1,9 @@
 -- The first of the three parts that is refused decides, and then bytes behind the last, as in the definition.
 -- The counts of the first line are within their ranges, which is what reading the lines behind it asks for.
-use mathlib.Core.Path.{_∙_}
+use mathlib.Core.Path.{ap, _∙_}
 use native.Mathlib.Omega.{arith}
-use Rattle.text_lines.proofs.Reading.{answer-read-refused}
+use Rattle.text.specs.declared.Part.{Part}
+use Rattle.text_lines.proofs.Reading.{answer-read-refused, part-used, part-refused}
 use Rattle.text_reader.proofs.Whole.{first-counts, second-counts, whole-head-stop, whole-edge-stop, whole-terminal-stop, whole-surplus, whole-end}
 use borrow.Author.Needs.{needs}
 use Rattle.text_reader.proofs.layout.Statement.{statement}
@@ -19,7 +20,7 @@ returns c =
 edge-lines-requires : tie.Need-edge-lines-requires
 edge-lines-requires c κs =
     let n = first-counts _ (c .before .before .before .header .result) (c .before .before .before .header .ensures .0) (c .before .if1 .left) in
-    (c .before .before .before .header .ensures .1, n .vertices, n .edges)
+    (c .before .before .before .header .ensures .1 .0, n .vertices, n .edges)
 
 returns-2 : tie.Need-returns-2
 returns-2 c =
@@ -37,7 +38,7 @@ terminal-lines-requires c κs =
     let at-if1 = c .before .before .before .before .before .if1 in
     let at-header = c .before .before .before .before .before .before .before .header in
     let n = second-counts _ (at-header .result) (at-header .ensures .0) (at-if1 .left) (at-edge-lines .result) (at-edge-lines .ensures .0) (at-if2 .left) in
-    (at-edge-lines .ensures .1, n .vertices, n .terminals)
+    (at-edge-lines .ensures .1 .0, n .vertices, n .terminals)
 
 returns-3 : tie.Need-returns-3
 returns-3 c =
@@ -63,10 +64,10 @@ returns-4 c =
     let at-edge-lines = c .before .before .before .before .before .before .before .before .before .edge-lines in
     let at-if1 = c .before .before .before .before .before .before .before .before .before .before .before .if1 in
     let at-header = c .before .before .before .before .before .before .before .before .before .before .before .before .before .header in (
-      answer-read-refused _ _ _ _ 1 (c .refused .ensures .0) (λ e. omega arith)
+      answer-read-refused _ _ _ _ 1 (ap (λ (p : Part). p .answer) (c .refused .ensures)) (λ e. omega arith)
           ∙ whole-surplus _ (at-header .result) (at-header .ensures .0) (at-if1 .left) (at-edge-lines .result) (at-edge-lines .ensures .0) (at-if2 .left)
           (at-terminal-lines .result) (at-terminal-lines .ensures .0) (at-if3 .left) (at-if4 .taken),
-      omega arith,
+      (part-used (c .refused .ensures), part-refused (c .refused .ensures)),
     )
 
 returns-5 : tie.Need-returns-5
