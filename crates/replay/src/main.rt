@@ -1,11 +1,12 @@
 // The test program. Reads parts from standard input: a letter, a count in four bytes, the highest first, and so many
 // pieces of that kind, which it answers: texts (T), lists of calls (L), inputs of the programs (P), boards of the
-// catalog (C).
+// catalog (C). A part of boards that no load gave (U) has no pieces: its count says how often each call is made again.
 mod corpus;
 mod framing;
 mod listing;
 mod scripts;
 mod trials;
+mod unloaded;
 
 use libc::STDIN_FILENO;
 
@@ -19,6 +20,8 @@ fn answer(letter: u8, count: u32) -> bool {
         scripts::all_scripts(count)
     } else if letter == b'C' {
         listing::all_boards(count)
+    } else if letter == b'U' {
+        unloaded::all_stages(count)
     } else {
         false
     }

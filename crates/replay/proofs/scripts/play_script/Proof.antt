@@ -31,6 +31,9 @@ loop-less c = search needs
 loop-again : tie.Need-loop-again Inv-loop μ-loop
 loop-again c = search needs
 
+slice-aggregate-close : tie.Need-slice-aggregate-close Inv-loop μ-loop
+slice-aggregate-close c = search needs
+
 close-requires : tie.Need-close-requires Inv-loop μ-loop
 close-requires c κs = search needs
 
@@ -50,5 +53,6 @@ play-script-spec =
     sub-left
     loop-less
     loop-again
+    slice-aggregate-close
     close-requires
     returns-2)

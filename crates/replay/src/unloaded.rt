@@ -1,0 +1,112 @@
+// Boards that no load gave, whose counts are past every limit: in play, finished, and of a stage that there is not. On
+// each it makes every call, as often again as the count says, and prints the number of the refusal once.
+use super::framing;
+use board::Board;
+use board::Network;
+
+// The calls, in the order of the lines.
+const CARRY: u32 = 0;
+
+const EMPTY_TURN: u32 = 1;
+
+const TURN: u32 = 2;
+
+const UNDO: u32 = 3;
+
+const HINT: u32 = 4;
+
+const FINISH: u32 = 5;
+
+const SHEET: u32 = 6;
+
+const WRITE: u32 = 7;
+
+// The first stage that no board has.
+const NO_STAGE: u32 = 3;
+
+// A board with the greatest of all counts, and zeros in its lists.
+fn past_limits(stage: u32) -> Board {
+    let mut network = Network::empty();
+    network.vertices = u32::MAX;
+    network.edges = u32::MAX;
+    network.terminals = u32::MAX;
+    let mut board = Board::closed();
+    board.stage = stage;
+    board.network = network;
+    board.moves = u32::MAX;
+    board
+}
+
+// What the sheet (SHEET) or the board writer answers, with room for either text.
+fn text_answer(call: u32, board: Board) -> u32 {
+    let mut space = [0u8; 9000];
+    let written = if call == SHEET {
+        report::sheet(board, &mut space)
+    } else {
+        text_writer::write(board, &mut space)
+    };
+    written.answer
+}
+
+// What a turn answers, along no steps (EMPTY_TURN) or down edge 0.
+fn turn_answer(call: u32, board: Board) -> u32 {
+    let steps = [0u8; 1];
+    let played = if call == EMPTY_TURN {
+        move_turn::turn(board, &steps[..0])
+    } else {
+        move_turn::turn(board, &steps)
+    };
+    played.answer
+}
+
+// What a call answers.
+fn answer(call: u32, board: Board) -> u32 {
+    if call == CARRY {
+        let played = move_carry::carry(board, 0, 0);
+        played.answer
+    } else if call <= TURN {
+        turn_answer(call, board)
+    } else if call == UNDO {
+        let played = move_undo::undo(board);
+        played.answer
+    } else if call == HINT {
+        let given = solve_next::hint(board);
+        given.answer
+    } else if call == FINISH {
+        let finished = solve_finish::finish(board);
+        finished.answer
+    } else {
+        text_answer(call, board)
+    }
+}
+
+// What a call answers; 0 where it answers something else at one of so many times more.
+fn repeated(call: u32, board: Board, count: u32) -> u32 {
+    let first = answer(call, board);
+    let mut left = count;
+    while 0 < left {
+        if answer(call, board) != first {
+            return 0;
+        }
+        left -= 1;
+    }
+    first
+}
+
+// Every call on a board; whether all of the numbers were printed.
+fn all_calls(board: Board, count: u32) -> bool {
+    let mut call = CARRY;
+    while call <= WRITE && framing::print_line(repeated(call, board, count)) {
+        call += 1;
+    }
+    WRITE < call
+}
+
+// The boards of all stages; whether all of the numbers were printed.
+pub fn all_stages(count: u32) -> bool {
+    let mut stage = Board::PLAY;
+    while stage <= NO_STAGE && all_calls(past_limits(stage), count) {
+        stage += 1;
+    }
+    NO_STAGE < stage
+}
