@@ -2,5 +2,6 @@ pub mod Plays
 pub mod Texts
 pub mod Moves
 pub mod Refusals
+pub mod Lines
 pub mod Sheets
 pub mod Book

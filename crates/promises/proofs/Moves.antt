@@ -5,16 +5,17 @@ use mathlib.Core.Bool.{true, false}
 use mathlib.Core.Logic.{_⊎_, _↔_}
 use mathlib.Core.List.{List}
 use Prim.Native.Nat.{ℕ, _+_, _<_, _≤_}
+use native.Mathlib.Omega.{arith}
 use lib.Dec.{eqb}
 use borrow.Author.Tests.{eq-eqb}
-use Rattle.lists.proofs.Laws.{pick-yes}
+use Rattle.lists.proofs.Laws.{Known, was-true, was-false, known, pick-yes}
 use Rattle.sets.specs.Sets.{hasBit}
 use Rattle.board.specs.declared.Board.{Board}
 use Rattle.graph_flows.specs.Paths.{Unparted}
 use Rattle.graph_flows.specs.Trails.{Step, down, up, In}
 use Rattle.load.specs.Load.{loadText}
 use Rattle.load.proofs.Loads.{load-accepted}
-use Rattle.move_guard.specs.Parts.{flow, head, marked, demand, place}
+use Rattle.move_guard.specs.Parts.{flow, tail, head, marked, demand, place}
 use Rattle.move_edges.specs.Marking.{singular, fresh}
 use Rattle.move_carry.specs.Carries.{carried}
 use Rattle.move_cycle.specs.Amounts.{amount}
@@ -34,7 +35,9 @@ use Rattle.theorem_keep.proofs.Amounted.{SomeDown, amount-down, amount-above, a
 use Rattle.theorem_keep.proofs.Potential.{level, level-rises}
 use Rattle.theorem_keep.proofs.Standing.{Standing, carry-undone, turn-undone}
 use Rattle.theorem_list.specs.Player.{Offered}
+use Rattle.theorem_list.proofs.Degrees.{starts}
 use Rattle.theorem_list.proofs.Ends.{home-facts}
+use Rattle.theorem_list.proofs.Stops.{all-dry}
 use Rattle.theorem_list.proofs.Finish.{hint-taken}
 use Rattle.theorem_list.proofs.Next.{next-accepted}
 use Rattle.promises.specs.Plays.{OfPlay}
@@ -80,6 +83,14 @@ none-home : (b : Board) (h : Suggestion) → Offered b h → h .advice .kind ≡
 unfolding offers
 none-home b h o q = sym (pick-yes (eqb (h .advice .kind) noKind) (allHome b) _ (eq-eqb _ _ q)) ∙ o .move
 
+-- no positive edge leaves the source exactly where every terminal is there
+stops : (b : Board) → Invariant b → (allHome b ≡ true) ↔ ((e : ℕ) → 0 < flow b e → tail b e ≡ b .network .source → ⊥)
+stops b inv = (λ all e h q. omega (arith, h, all-dry b inv all e), λ none. by none (known (allHome b)))
+  where
+    by : ((e : ℕ) → 0 < flow b e → tail b e ≡ b .network .source → ⊥) → Known (allHome b) → allHome b ≡ true
+    by none (was-true t) = t
+    by none (was-false t) = let s = starts b inv t in absurd (none (s .edge) (s .leaves .above) (s .leaves .start))
+
 pub about-moves : AboutMoves
 about-moves = record {
   single-iff = λ text b e p. single b e (play-standing text b p .inv);
@@ -98,5 +109,7 @@ about-moves = record {
   hint-offers = λ text b h p k. offered b h (play-standing text b p) k;
   hint-none = λ text b h p k q.
       let st = play-standing text b p in home-facts b (st .inv) (none-home b h (offered b h st k) q);
+  stop-iff = λ text b p. stops b (play-standing text b p .inv);
+  stop-dry = λ text b p all. all-dry b (play-standing text b p .inv) all;
   next-accepted = λ text b p away. next-accepted b (play-standing text b p) away;
 }

@@ -38,7 +38,7 @@ use Rattle.report_routes.specs.Tables.{routesFit}
 use Rattle.report.specs.Reports.{started, unreported, reportText, sheetRefusal, sheetCall, sheeted}
 use Rattle.catalog.specs.Catalog.{catalogCall, catalogued}
 use Rattle.theorem_keep.proofs.Standing.{Standing, standing-playing}
-use Rattle.theorem_list.proofs.Finish.{finish-taken, hint-taken}
+use Rattle.theorem_list.proofs.Finish.{finish-taken, finish-result, hint-taken}
 use Rattle.theorem_list.proofs.Rooms.{routes-fit}
 use Rattle.promises.specs.Plays.{OfPlay, OfFinish}
 use Rattle.promises.specs.Refusals.{Refuses20, Refuses29, Whole, AboutRefusals}
@@ -50,19 +50,19 @@ module _ (b : Board) (shut : playing b ≡ false) where
   stays : (n : ℕ) (next : Board) → n ≡ 20 → answered n b next ≡ record { answer = 20; board = b }
   stays n next h = answered-no n b next (λ q. omega (arith, h, q)) ∙ (λ j. record { answer = h j; board = b })
 
-  no-carry : (i e : ℕ) → carryCall b i e ≡ record { answer = 20; board = b }
+  pub no-carry : (i e : ℕ) → carryCall b i e ≡ record { answer = 20; board = b }
   unfolding carryCall carryRefusal
   no-carry i e = stays (carryRefusal b i e) (carried b i e) (pick-no (playing b) _ 20 shut)
 
-  no-turn : (w : List Step) → turnCall b w ≡ record { answer = 20; board = b }
+  pub no-turn : (w : List Step) → turnCall b w ≡ record { answer = 20; board = b }
   unfolding turnCall turnRefusal
   no-turn w = stays (turnRefusal b w) (turned b w) (pick-no (playing b) _ 20 shut)
 
-  no-undo : undoCall b ≡ record { answer = 20; board = b }
+  pub no-undo : undoCall b ≡ record { answer = 20; board = b }
   unfolding undoCall undoRefusal
   no-undo = stays (undoRefusal b) (undone b) (pick-no (playing b) _ 20 shut)
 
-  hint-number : hintRefusal b ≡ 20
+  pub hint-number : hintRefusal b ≡ 20
   unfolding hintRefusal
   hint-number = pick-no (playing b) _ 20 shut
 
@@ -76,7 +76,7 @@ module _ (b : Board) (shut : playing b ≡ false) where
   unfolding finishRefusal
   finish-number = pick-no (playing b) _ 20 shut
 
-  no-finish : finishCall b ≡ record { answer = 20; count = 0; board = b }
+  pub no-finish : finishCall b ≡ record { answer = 20; count = 0; board = b }
   unfolding finishCall
   no-finish =
       pick-no (eqb (finishRefusal b) 0) _ _ (ne-eqb (finishRefusal b) 0 (λ q. omega (arith, finish-number, q)))
@@ -89,6 +89,10 @@ module _ (b : Board) (shut : playing b ≡ false) where
 off-stage : (b : Board) → b .stage ≢ playStage → playing b ≡ false
 unfolding playing both
 off-stage b n = rw (ne-eqb (b .stage) playStage n)
+
+-- so is the board that a finish gave
+pub finished-off : (b : Board) → Standing b → playing (finishCall b .board) ≡ false
+finished-off b st = rw (finish-result b st) (off-stage (ended (b .moves) (playedOut b)) (λ q. omega (arith, q)))
 
 -- ---- the closed board
 closed-off : playing closedBoard ≡ false

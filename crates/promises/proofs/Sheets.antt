@@ -16,6 +16,7 @@ use Rattle.solve_finish.specs.Finishes.{finishCall}
 use Rattle.report.specs.Reports.{reportText, unreported}
 use Rattle.sheet_output.specs.Outputs.{numberLine, sheetOutput}
 use Rattle.sheet_output.proofs.Prefix.{sheet-prefix}
+use Rattle.play_session.proofs.Prints.{prints}
 use Rattle.catalog.specs.Table.{table}
 use Rattle.catalog.specs.Catalog.{boards, catalogText, catalogCall}
 use Rattle.catalog.proofs.Rule.{all-accepted}
@@ -24,6 +25,7 @@ use Rattle.theorem_list.proofs.Reports.{every-report, sheet-printed}
 use Rattle.theorem_list.proofs.Longest.{report-short}
 use Rattle.promises.specs.Plays.{OfPlay, OfFinish}
 use Rattle.promises.specs.Sheets.{AboutSheets}
+use Rattle.promises.proofs.Lines.{play-printed, play-refused}
 
 large : 1500 ≤ length table
 unfolding table
@@ -61,5 +63,8 @@ about-sheets = record {
   sheet-printed = λ text h. sheet-printed text h .printed;
   sheet-refused = refused;
   sheet-reads = sheet-prefix;
+  play-printed = play-printed;
+  play-refused = play-refused;
+  play-runs = prints;
   sheet-room = room;
 }

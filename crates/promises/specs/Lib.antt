@@ -3,5 +3,6 @@ pub mod Texts
 pub mod Cancelling
 pub mod Moves
 pub mod Refusals
+pub mod Lines
 pub mod Sheets
 pub mod Book

@@ -9,7 +9,7 @@ use Rattle.board.specs.declared.Board.{Board}
 use Rattle.graph_flows.specs.Paths.{Unparted}
 use Rattle.graph_flows.specs.Trails.{Step, down, up, In}
 use Rattle.load.specs.Load.{loadText}
-use Rattle.move_guard.specs.Parts.{flow, head, marked, demand, place}
+use Rattle.move_guard.specs.Parts.{flow, tail, head, marked, demand, place}
 use Rattle.move_guard.specs.Guard.{playing}
 use Rattle.move_edges.specs.Marking.{singular, fresh}
 use Rattle.move_carry.specs.Carries.{carryRefusal, carried}
@@ -55,3 +55,6 @@ pub record AboutMoves : Type 0 where
       → (i : ℕ) → i < b .network .terminals → place b i ≡ b .network .source
   -- "While a carry is open: lowest mill that has one; .. Otherwise the ring found below is turned": the move is accepted while some terminal is away
   pub next-accepted : (text : List ℕ) (b : Board) → OfPlay text b → allHome b ≡ false → judge b (nextAct b) ≡ 0
+  -- source document 000 stops "when the source s is isolated": that is where every terminal is at the source, and then no edge has a flow
+  pub stop-iff : (text : List ℕ) (b : Board) → OfPlay text b → (allHome b ≡ true) ↔ ((e : ℕ) → 0 < flow b e → tail b e ≡ b .network .source → ⊥)
+  pub stop-dry : (text : List ℕ) (b : Board) → OfPlay text b → allHome b ≡ true → (e : ℕ) → flow b e ≡ 0

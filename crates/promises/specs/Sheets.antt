@@ -2,18 +2,21 @@
 use mathlib.Core.Path.{_≡_}
 use mathlib.Core.Bool.{true}
 use mathlib.Core.Logic.{_≢_}
-use mathlib.Core.List.{List}
+use mathlib.Core.List.{List, []}
 use Prim.Native.Nat.{ℕ, _≤_, _<_}
 use lib.ListN.{length, take}
 use Rattle.board.specs.declared.Board.{Board}
 use Rattle.load.specs.Load.{loadText}
 use Rattle.solve_finish.specs.Finishes.{finishCall}
 use Rattle.report.specs.Reports.{reportText, unreported}
-use Rattle.sheet_output.specs.Inputs.{textSpace}
+use Rattle.sheet_output.specs.Inputs.{textSpace, boardPart, movesPart}
 use Rattle.sheet_output.specs.Outputs.{numberLine, sheetOutput}
+use Rattle.play_session.specs.Replies.{playOutput}
+use Rattle.play_session.specs.Machine.{newSession, runs}
 use Rattle.catalog.specs.Table.{table}
 use Rattle.catalog.specs.Catalog.{boards, catalogText, catalogCall, allAccepted}
 use Rattle.promises.specs.Plays.{OfPlay, OfFinish}
+use Rattle.promises.specs.Lines.{ordersFrom, said}
 
 pub record AboutSheets : Type 0 where
   -- "Forty boards of the team's making, one constant table of at least 1,500 numbers": nothing is left behind the fortieth
@@ -32,5 +35,12 @@ pub record AboutSheets : Type 0 where
   pub sheet-refused : (text : List ℕ) → loadText text .answer ≢ 0 → sheetOutput text ≡ numberLine (loadText text .answer)
   -- it reads no more of a long input than decides
   pub sheet-reads : (input : List ℕ) → sheetOutput (take textSpace input) ≡ sheetOutput input
+  -- "Program `play` reads a board, .. and then lines": until an `F` is accepted each call is answered with the player's number; behind it each of them with 20
+  pub play-printed : (input : List ℕ) → loadText (boardPart input) .answer ≡ 0
+      → playOutput input ≡ said (boardPart input) [] (ordersFrom [] (movesPart input))
+  -- "A refused board prints its number only"
+  pub play-refused : (input : List ℕ) → loadText (boardPart input) .answer ≢ 0 → playOutput input ≡ numberLine (loadText (boardPart input) .answer)
+  -- the session of fixed size that the program feeds prints this, whatever the lengths of the lines
+  pub play-runs : (input : List ℕ) → runs newSession input ≡ playOutput input
   -- the room that a sheet needs
   pub sheet-room : (text : List ℕ) (f : Board) → OfFinish text f → length (reportText f) ≤ 2948

@@ -46,10 +46,10 @@ use Rattle.theorem_list.proofs.Stands.{
 }
 
 -- one call, on the engine's board and by the player
-record Same (text : List ℕ) (ms : List Call) (c : Call) : Type 0 where
-  answer : made (afresh text ms) c .answer ≡ saysTo text ms c
-  board : made (afresh text ms) c .board ≡ afresh text (standingAfter text ms c)
-  stands : Stands text (standingAfter text ms c)
+pub record Same (text : List ℕ) (ms : List Call) (c : Call) : Type 0 where
+  pub answer : made (afresh text ms) c .answer ≡ saysTo text ms c
+  pub board : made (afresh text ms) c .board ≡ afresh text (standingAfter text ms c)
+  pub stands : Stands text (standingAfter text ms c)
 
 module _ (text : List ℕ) (ms : List Call) (s : Stands text ms) where
   -- a move that is accepted and joins the list
@@ -142,7 +142,7 @@ never-over text ms play undo = not-over _ _ _ (λ q. omega (arith, q)) (λ q. om
 never-over text ms play hint = λ q. omega (arith, q)
 
 module _ (text : List ℕ) (loads : loadText text .answer ≡ 0) where
-  same : (ms : List Call) (c : Call) → Stands text ms → Same text ms c
+  pub same : (ms : List Call) (c : Call) → Stands text ms → Same text ms c
   same ms (carry i e) s = same-carry text ms s i e (stands-follows text loads ms s .standing)
   same ms (turn w) s = same-turn text ms s w (stands-follows text loads ms s .standing)
   same ms undo s = same-undo text ms s (stands-follows text loads ms s)

@@ -50,7 +50,7 @@ module _ (b : Board) (st : Standing b) where
       let loaded = all-started (ended from b) (omega arith) (omega arith) standing-intact (routes-fit b (st .inv)) in
       pick-yes (started (ended from b)) _ 29 loaded ∙ pick-yes (eqb finishedStage finishedStage) 0 28 (eq-eqb finishedStage finishedStage refl)
 
-finished-reported : (b : Board) → Standing b → unreported (finishCall b .board) ≡ 0
+pub finished-reported : (b : Board) → Standing b → unreported (finishCall b .board) ≡ 0
 finished-reported b st = rw (finish-result b st) (ended-reported (playedOut b) (over b st .standing) (b .moves))
 
 -- a finish that is accepted and leaves a report prints it
