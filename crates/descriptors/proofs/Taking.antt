@@ -28,7 +28,7 @@ module _ (bytes : List ℕ) where
       split (was-true e) = omega (arith, pick-yes _ (indexOf 10 bytes + 1) (length bytes) e, ltb-true (indexOf 10 bytes) (length bytes) e)
       split (was-false e) = omega (arith, pick-no _ (indexOf 10 bytes + 1) (length bytes) e)
 
-  taken-some : 0 < length bytes → 0 < takenOf bytes
+  pub taken-some : 0 < length bytes → 0 < takenOf bytes
   unfolding takenOf
   taken-some h = split (known (hasLine bytes))
     where

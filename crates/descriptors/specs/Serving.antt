@@ -1,11 +1,11 @@
 -- The input of the program `play`, handed to its session line by line.
 use mathlib.Core.Path.{_≡_}
 use mathlib.Core.Bool.{true}
-use mathlib.Core.List.{List, [], _∷_}
+use mathlib.Core.List.{List, [], _∷_, _++_}
 use Prim.Native.Nat.{ℕ, zero, suc, _≤_}
 use lib.ListN.{length, take, drop}
 use Rattle.play_session.specs.declared.Session.{Session}
-use Rattle.play_session.specs.Machine.{overStage, takenOf, fedSession}
+use Rattle.play_session.specs.Machine.{overStage, takenOf, fedSession, fedTold}
 use Rattle.descriptors.specs.declared.Served.{Served}
 
 -- the session behind the first k lines of the bytes; the last of them may lack its line feed
@@ -18,6 +18,15 @@ servedLines (suc k) s (c ∷ cs) = servedLines k (fedSession s (c ∷ cs)) (drop
 abbrev pub servedOver : Session → List ℕ → Session
 servedOver s bytes = servedLines (length bytes) s bytes
 
+-- what is printed for the first k lines, and for all of the bytes
+unfoldable pub toldLines : ℕ → Session → List ℕ → List ℕ
+toldLines zero s bytes = []
+toldLines (suc k) s [] = []
+toldLines (suc k) s (c ∷ cs) = fedTold s (c ∷ cs) ++ toldLines k (fedSession s (c ∷ cs)) (drop (takenOf (c ∷ cs)) (c ∷ cs))
+
+abbrev pub toldOver : Session → List ℕ → List ℕ
+toldOver s bytes = toldLines (length bytes) s bytes
+
 -- a session that was handed so many of the bytes, all of them where it goes on; and then its board was not refused
 pub record ServedPart (s : Session) (bytes : List ℕ) (r : Served) : Type 0 where
   pub count : ℕ
@@ -25,3 +34,23 @@ pub record ServedPart (s : Session) (bytes : List ℕ) (r : Served) : Type 0 whe
   pub session : r .session ≡ servedOver s (take count bytes)
   pub whole : r .going ≡ true → r .session ≡ servedOver s bytes
   pub unrefused : r .going ≡ true → r .session .stage ≡ overStage → ⊥
+
+-- ---- an input that comes in pieces
+
+abbrev pub inputOf : List (List ℕ) → List ℕ
+inputOf [] = []
+inputOf (p ∷ ps) = p ++ inputOf ps
+
+-- the session behind them, and what is printed for them
+abbrev pub servedPieces : Session → List (List ℕ) → Session
+servedPieces s [] = s
+servedPieces s (p ∷ ps) = servedPieces (servedOver s p) ps
+
+abbrev pub toldPieces : Session → List (List ℕ) → List ℕ
+toldPieces s [] = []
+toldPieces s (p ∷ ps) = toldOver s p ++ toldPieces (servedOver s p) ps
+
+-- r is the session s behind some pieces
+pub record BehindPieces (s r : Session) : Type 0 where
+  pub pieces : List (List ℕ)
+  pub session : r ≡ servedPieces s pieces

@@ -2,9 +2,12 @@
 use descriptors::Served;
 use libc::STDIN_FILENO;
 use play_session::Session;
+ghost use Rattle.descriptors.specs.Serving.{BehindPieces};
 
 // Reads a piece of the input, as much as there is, and serves it. At the end of the input the session goes on no more.
-fn next_piece(session: Session) -> Served {
+fn next_piece(session: Session) -> Served
+    ensures { λ r. ⌜ BehindPieces session (r .session) ⌝ }
+{
     let mut space = io::buffer();
     let got = io::count(libc::read(STDIN_FILENO, &mut space), &space);
     if got == 0 {
@@ -18,7 +21,9 @@ fn next_piece(session: Session) -> Served {
 
 // A proved loop has to end, and nothing says that the input does. So the loop counts its rounds down, from a number
 // that no run uses up.
-fn all_pieces(session: Session) -> Session {
+fn all_pieces(session: Session) -> Session
+    ensures { λ r. ⌜ BehindPieces session r ⌝ }
+{
     let mut current = session;
     let mut rounds = u64::MAX;
     while 0 < rounds {
