@@ -207,6 +207,38 @@ pub extern "C" fn vulprow_sheet(
     written.answer
 }
 
+// Loads a text, makes calls on the board that it gave, finishes it where `finishes` is not 0, and writes the board text
+// into the buffer. Answers what the writer answered; `used` gets the length of the text.
+#[no_mangle]
+pub extern "C" fn vulprow_write(
+    text: &[u8],
+    codes: &[u32],
+    steps: &[u8],
+    finishes: u32,
+    buf: &mut [u8],
+    used: &mut usize,
+) -> u32
+    ensures { λ r. ⌜ r ≡ writeText
+        (lastBoard finishes (after (now (text .entry)) (now (steps .entry)) (now (codes .entry))))
+        (length (now (buf .entry))) .answer ⌝ }
+    ensures { λ _. ⌜ now (used .exit) ≡
+        writeText (lastBoard finishes (after (now (text .entry)) (now (steps .entry)) (now (codes .entry))))
+        (length (now (buf .entry))) .used ⌝ }
+    ensures { λ _. ⌜ now (buf .exit) ≡
+        written (lastBoard finishes (after (now (text .entry)) (now (steps .entry)) (now (codes .entry))))
+        (now (buf .entry)) ⌝ }
+{
+    let loaded = load::load(text);
+    let start = loaded.board;
+    let mut given = [0u32; 1];
+    let mut hints = [0u32; 1];
+    let board = move_list::run(start, codes, steps, &mut given, &mut hints);
+    let last = last_board(board, finishes);
+    let board_text = text_writer::write(last, buf);
+    *used = board_text.used;
+    board_text.answer
+}
+
 // Writes the text of a board of the catalog. Answers what `catalog::write` answered; `used` gets the length of the
 // text.
 #[no_mangle]
