@@ -7,11 +7,13 @@ use native.Mathlib.Omega.{arith}
 use lib.ListN.{length, take, drop, length-drop}
 use Rattle.play_session.specs.declared.Session.{Session}
 use Rattle.play_session.specs.Replies.{playOutput}
-use Rattle.play_session.specs.Machine.{newSession, endTold, takenOf, fedSession, fedTold, runs}
+use Rattle.play_session.specs.Machine.{newSession, endTold, takenOf, fedSession, fedTold}
+use Rattle.play_session.specs.Inner.{runs}
 use Rattle.play_session.proofs.Pieces.{runs-fed}
 use Rattle.play_session.proofs.Prints.{prints}
 use Rattle.descriptors.specs.declared.Served.{Served}
-use Rattle.descriptors.specs.Serving.{servedLines, servedOver, toldLines, toldOver, ServedPart, inputOf, servedPieces, toldPieces, BehindPieces}
+use Rattle.descriptors.specs.Serving.{servedLines, servedOver, toldLines, toldOver, ServedPart, inputOf, servedPieces, toldPieces}
+use Rattle.descriptors.specs.Inner.{BehindPieces}
 use Rattle.descriptors.proofs.Taking.{taken-some}
 
 runs-lines : (k : ℕ) (s : Session) (bytes rest : List ℕ) → length bytes ≤ k → runs s (bytes ++ rest) ≡ toldLines k s bytes ++ runs (servedLines k s bytes) rest

@@ -49,8 +49,3 @@ servedPieces s (p ∷ ps) = servedPieces (servedOver s p) ps
 abbrev pub toldPieces : Session → List (List ℕ) → List ℕ
 toldPieces s [] = []
 toldPieces s (p ∷ ps) = toldOver s p ++ toldPieces (servedOver s p) ps
-
--- r is the session s behind some pieces
-pub record BehindPieces (s r : Session) : Type 0 where
-  pub pieces : List (List ℕ)
-  pub session : r ≡ servedPieces s pieces

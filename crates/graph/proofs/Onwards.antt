@@ -15,7 +15,8 @@ use Rattle.lists.specs.Choice.{pick, both}
 use Rattle.lists.specs.Lists.{lowest}
 use Rattle.lists.proofs.Laws.{Known, was-true, was-false, known, eq-or-ne, lt-or-ge, pick-yes, pick-no, both-right}
 use Rattle.lists.proofs.Lowest.{Least, lowest-least}
-use Rattle.sets.specs.Sets.{setWidth, hasBit, withBit, collect}
+use Rattle.sets.specs.Sets.{hasBit, withBit, collect}
+use Rattle.sets.specs.Inner.{setWidth}
 use Rattle.sets.proofs.Bits.{has-none, collect-new, collect-from, collect-turn}
 use Rattle.sets.proofs.Scan.{lowest-is}
 use Rattle.graph.specs.Graph.{leads, onward}

@@ -1,4 +1,4 @@
--- A bitset for each vertex: a set of vertices, a bit for each.
+-- For inner contracts only: a bitset for each vertex, a set of vertices with a bit for each.
 use mathlib.Core.Bool.{Bool}
 use mathlib.Core.List.{List, [], _∷_}
 use Prim.Native.Nat.{ℕ}

@@ -7,7 +7,8 @@ ghost use lib.Dec.{ltb};
 ghost use lib.ListN.{getD, set, length, replicate};
 ghost use Rattle.lists.specs.Choice.{pick};
 ghost use Rattle.lists.specs.Lists.{lowest};
-ghost use Rattle.sets.specs.Sets.{setWidth, hasBit, withBit, joined, collect};
+ghost use Rattle.sets.specs.Sets.{hasBit, withBit, joined, collect};
+ghost use Rattle.sets.specs.Inner.{setWidth};
 ghost use Rattle.graph.specs.Graph.{pass, passes, reached, leads};
 ghost use Rattle.graph.specs.Bitsets.{column};
 

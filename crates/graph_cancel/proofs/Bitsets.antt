@@ -14,7 +14,8 @@ use borrow.Author.Tests.{eq-eqb, ne-eqb, lt-ltb, le-ltb}
 use Rattle.lists.specs.Choice.{pick, both, either}
 use Rattle.lists.specs.Lists.{lowest}
 use Rattle.lists.proofs.Laws.{Known, was-true, was-false, known, eq-or-ne, pick-yes, pick-no, lowest-hit, lowest-miss, lowest-end}
-use Rattle.sets.specs.Sets.{setWidth, hasBit, withBit}
+use Rattle.sets.specs.Sets.{hasBit, withBit}
+use Rattle.sets.specs.Inner.{setWidth}
 use Rattle.sets.proofs.Bits.{has-none, has-with-same, has-with-other}
 use Rattle.graph.specs.Graph.{reached, leads, onward}
 use Rattle.graph.specs.Bitsets.{column}

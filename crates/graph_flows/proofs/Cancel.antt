@@ -19,7 +19,8 @@ use Rattle.lists.proofs.Pigeon.{has-nothing, has-here, has-later, has-cases}
 use Rattle.graph_cancel.specs.Cycles.{onCycle, cycleVertex, cycleFrom}
 use Rattle.graph_cancel.specs.Lowering.{smallest, lowered, lowerCycle}
 use Rattle.graph_cancel.specs.Cancelling.{cancelled, acyclicFlows}
-use Rattle.graph_flows.specs.Trails.{down, edgesOf, changedAlong, Fits, downs, In}
+use Rattle.graph_flows.specs.Trails.{down, edgesOf, downs, In}
+use Rattle.graph_flows.specs.Inner.{changedAlong, Fits}
 use Rattle.graph_flows.specs.Paths.{Acyclic, EndsBelow}
 use Rattle.graph_flows.proofs.Change.{changed-length, closed-trail, changed-at}
 use Rattle.graph_flows.proofs.Positives.{positives, positives-some, positives-most, positives-fewer}

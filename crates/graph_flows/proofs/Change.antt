@@ -11,7 +11,8 @@ use lib.Seq.{getD-set-same, getD-set-other}
 use Rattle.lists.specs.Lists.{keyed, sumAt}
 use Rattle.lists.specs.Members.{has}
 use Rattle.lists.proofs.Pigeon.{has-nothing, has-here, has-later, has-cases, misses-both}
-use Rattle.graph_flows.specs.Trails.{Step, down, up, edgeOf, edgesOf, In, startOf, endOf, changedAlong, Trail, stay, go, Room, Fits}
+use Rattle.graph_flows.specs.Trails.{Step, down, up, edgeOf, edgesOf, In, startOf, endOf, Trail, stay, go}
+use Rattle.graph_flows.specs.Inner.{changedAlong, Room, Fits}
 use Rattle.graph_flows.proofs.Sums.{keyed-add, sum-set}
 
 -- the new flow of a step's edge

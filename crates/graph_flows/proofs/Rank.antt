@@ -13,7 +13,8 @@ use Rattle.lists.specs.Choice.{both}
 use Rattle.lists.proofs.Laws.{Known, was-true, was-false, known, both-left, both-right, both-true}
 use Rattle.lists.proofs.Counts.{count-none, count-less, count-miss}
 use Rattle.graph.specs.Graph.{reached}
-use Rattle.graph_flows.specs.Paths.{PositiveEdge, Path, here, on, Acyclic, EndsBelow, rank}
+use Rattle.graph_flows.specs.Paths.{PositiveEdge, Path, here, on, Acyclic, EndsBelow}
+use Rattle.graph_flows.specs.Inner.{rank}
 use Rattle.graph_flows.proofs.Reach.{reaching-sound, reaching-complete}
 
 module _ (tails heads flows : List ℕ) (n : ℕ) where

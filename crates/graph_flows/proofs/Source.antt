@@ -11,7 +11,8 @@ use lib.ListN.{length, getD}
 use Rattle.lists.specs.Lists.{sumAt}
 use Rattle.lists.proofs.Laws.{eq-or-ne}
 use Rattle.graph.specs.Graph.{reached}
-use Rattle.graph_flows.specs.Paths.{PositiveEdge, Path, here, on, Acyclic, EndsBelow, rank}
+use Rattle.graph_flows.specs.Paths.{PositiveEdge, Path, here, on, Acyclic, EndsBelow}
+use Rattle.graph_flows.specs.Inner.{rank}
 use Rattle.graph_flows.proofs.Sums.{KeyedEntry, sum-entry, entry-within}
 use Rattle.graph_flows.proofs.Reach.{reached-complete}
 use Rattle.graph_flows.proofs.Rank.{rank-rises, rank-none}

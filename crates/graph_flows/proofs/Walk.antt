@@ -11,7 +11,8 @@ use lib.Dec.{ltb, eqb}
 use lib.ListN.{length, getD, take}
 use borrow.Author.Tests.{ltb-true, ltb-false, lt-ltb, eqb-true, eqb-false, eq-eqb}
 use Rattle.lists.specs.Choice.{both}
-use Rattle.lists.specs.Members.{has, Distinct, Below}
+use Rattle.lists.specs.Members.{has, Distinct}
+use Rattle.lists.specs.Inner.{Below}
 use Rattle.lists.proofs.Laws.{Known, was-true, was-false, known, both-left, both-right, both-true}
 use Rattle.lists.proofs.Lowest.{lowest-least, lowest-found}
 use Rattle.lists.proofs.Pigeon.{has-nothing, has-here, has-later, has-cases, both-missed, has-take, distinct-take, pigeon}

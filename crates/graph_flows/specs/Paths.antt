@@ -1,13 +1,8 @@
 -- What reachability, the lack of cycles and the rank mean.
 use mathlib.Core.Path.{_≡_}
-use mathlib.Core.Bool.{false, not}
 use mathlib.Core.List.{List}
 use Prim.Native.Nat.{ℕ, _<_}
-use lib.Dec.{eqb}
 use lib.ListN.{length, getD}
-use Rattle.lists.specs.Choice.{both}
-use Rattle.lists.specs.Lists.{count}
-use Rattle.graph.specs.Graph.{reached}
 
 module _ (from to flows : List ℕ) where
   -- a positive edge from a to b
@@ -45,7 +40,3 @@ module _ (from to flows : List ℕ) where
   pub record EndsBelow (n : ℕ) : Type 0 where
     pub start : (e : ℕ) → e < length flows → getD from e 0 < n
     pub end : (e : ℕ) → e < length flows → getD to e 0 < n
-
--- how many other vertices, of n, reach v over positive edges
-unfoldable pub rank : List ℕ → List ℕ → List ℕ → ℕ → ℕ → ℕ
-rank tails heads flows n v = count (λ u. both (not (eqb u v)) (getD (reached heads tails flows n v) u false)) 0 n

@@ -1,11 +1,10 @@
 -- A change of the flows along a trail.
 use mathlib.Core.Path.{_≡_}
-use mathlib.Core.Bool.{false}
 use mathlib.Core.Logic.{_⊎_}
 use mathlib.Core.List.{List, [], _∷_}
-use Prim.Native.Nat.{ℕ, _+_, _-_, _<_, _≤_}
-use lib.ListN.{length, getD, set}
-use Rattle.lists.specs.Members.{has, Distinct}
+use Prim.Native.Nat.{ℕ, _<_}
+use lib.ListN.{length, getD}
+use Rattle.lists.specs.Members.{Distinct}
 
 -- a step over an edge: down, from its tail to its head; or up, from its head to its tail
 pub data Step : Type 0 where
@@ -40,12 +39,6 @@ abbrev pub endOf : List ℕ → List ℕ → Step → ℕ
 endOf tails heads (down e) = getD heads e 0
 endOf tails heads (up e) = getD tails e 0
 
--- the flows, lowered by x on each down-step and raised by x on each up-step
-unfoldable pub changedAlong : List ℕ → ℕ → List Step → List ℕ
-changedAlong flows x [] = flows
-changedAlong flows x (down e ∷ w) = changedAlong (set flows e (getD flows e 0 - x)) x w
-changedAlong flows x (up e ∷ w) = changedAlong (set flows e (getD flows e 0 + x)) x w
-
 -- each step starts where the last one ended; the steps lead from a to b
 pub data Trail (tails heads : List ℕ) : ℕ → List Step → ℕ → Type 0 where
   stay : {a : ℕ} → Trail tails heads a [] a
@@ -57,13 +50,3 @@ pub record Closed (tails heads : List ℕ) (w : List Step) : Type 0 where
   pub trail : Trail tails heads vertex w vertex
   pub distinct : Distinct (edgesOf w)
   pub some : 0 < length w
-
--- a down-step's edge has flow x or more
-abbrev pub Room : List ℕ → ℕ → Step → Type 0
-Room flows x (down e) = x ≤ getD flows e 0
-Room flows x (up e) = Unit {0}
-
--- the edges are distinct edges of the network, with room for x
-abbrev pub Fits : List ℕ → ℕ → List Step → Type 0
-Fits flows x [] = Unit {0}
-Fits flows x (s ∷ w) = (edgeOf s < length flows) × Room flows x s × (has (edgeOf s) (edgesOf w) ≡ false) × Fits flows x w

@@ -6,7 +6,7 @@ use mathlib.Core.Logic.{_⊎_, inl, inr, _≢_}
 use Prim.Native.Nat.{ℕ, zero, suc, _+_, _≤_, _<_}
 use native.Mathlib.Omega.{arith}
 use Rattle.lists.specs.Choice.{pick}
-use Rattle.lists.specs.Lists.{count}
+use Rattle.lists.specs.Inner.{count}
 use Rattle.lists.proofs.Laws.{eq-or-ne, pick-yes, pick-no}
 
 -- what one index counts: 1 at most; and no more for a test that implies another than for that other

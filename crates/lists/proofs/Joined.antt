@@ -4,7 +4,8 @@ use mathlib.Core.Bool.{true, false, true≢false}
 use mathlib.Core.Logic.{_⊎_, inl, inr, _≢_}
 use mathlib.Core.List.{List, [], _∷_, _++_}
 use Prim.Native.Nat.{ℕ, _<_}
-use Rattle.lists.specs.Members.{has, Distinct, Below}
+use Rattle.lists.specs.Members.{has, Distinct}
+use Rattle.lists.specs.Inner.{Below}
 use Rattle.lists.proofs.Laws.{Known, was-true, was-false, known}
 use Rattle.lists.proofs.Pigeon.{has-nothing, has-here, has-later, has-cases, misses-both}
 

@@ -30,11 +30,6 @@ unfoldable pub lowest : (ℕ → Bool) → ℕ → ℕ → ℕ
 lowest p i zero = i
 lowest p i (suc k) = elim (p i) [ true ↦ i | false ↦ lowest p (suc i) k ]
 
--- how many of i, i + 1, .., i + k - 1 have p
-unfoldable pub count : (ℕ → Bool) → ℕ → ℕ → ℕ
-count p i zero = 0
-count p i (suc k) = pick (p i) 1 0 + count p (suc i) k
-
 -- the sum, and the greatest, of f at i, i + 1, .., i + k - 1; 0 for none
 unfoldable pub total : (ℕ → ℕ) → ℕ → ℕ → ℕ
 total f i zero = 0

@@ -13,7 +13,8 @@ use Rattle.lists.specs.Choice.{pick}
 use Rattle.lists.specs.Members.{has, Distinct}
 use Rattle.lists.proofs.Laws.{Known, was-true, was-false, known, eq-or-ne, pick-yes, pick-no}
 use Rattle.sets.specs.Sets.{hasBit}
-use Rattle.graph_flows.specs.Trails.{Step, down, up, edgeOf, edgesOf, changedAlong, Fits, In}
+use Rattle.graph_flows.specs.Trails.{Step, down, up, edgeOf, edgesOf, In}
+use Rattle.graph_flows.specs.Inner.{changedAlong, Fits}
 use Rattle.graph_flows.proofs.Change.{over, in-edges, after, changed-length, changed-other, changed-at}
 use Rattle.move_cycle.specs.Steps.{gather}
 use Rattle.move_cycle.proofs.Cycled.{gather-has, gather-from, gathered-apart}

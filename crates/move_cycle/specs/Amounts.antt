@@ -39,9 +39,6 @@ unfoldable pub allowedIn : List ℕ → List ℕ → List ℕ → List ℕ → �
 allowedIn heads flows places demands terminals a s =
     elim s [ down e ↦ smaller a (getD flows e 0) | up e ↦ raiseIn places demands (getD heads e 0) (getD flows e 0) a 0 terminals ]
 
-abbrev pub allowed : Board → ℕ → Step → ℕ
-allowed b a s = elim s [ down e ↦ smaller a (flow b e) | up e ↦ raise b e a 0 (b .network .terminals) ]
-
 -- "The amount is the smaller of" these, over all steps
 unfoldable pub amountIn : List ℕ → List ℕ → List ℕ → List ℕ → ℕ → ℕ → List Step → ℕ
 unfolding allowedIn

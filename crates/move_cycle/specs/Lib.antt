@@ -1,3 +1,4 @@
 pub mod Steps
 pub mod Amounts
 pub mod Shifts
+pub mod Inner

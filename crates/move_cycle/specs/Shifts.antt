@@ -1,13 +1,9 @@
 -- Flows changed on sets of edges.
 use mathlib.Core.List.{List}
-use Prim.Native.Nat.{ℕ, zero, suc, _+_, _-_, _≤_}
+use Prim.Native.Nat.{ℕ, zero, suc, _+_, _-_}
 use lib.ListN.{length, getD, set}
 use Rattle.lists.specs.Choice.{pick}
 use Rattle.sets.specs.Sets.{hasBit}
-
--- no flow is above c
-abbrev pub AtMost : ℕ → List ℕ → Type 0
-AtMost c flows = (e : ℕ) → getD flows e 0 ≤ c
 
 module _ (x downs ups : ℕ) where
   -- "Down-steps fall and up-steps rise by it": a flow f of edge e

@@ -1,11 +1,10 @@
 -- The steps of a turn: document 01, "Moves".
 use mathlib.Core.Bool.{Bool, true, false, not}
 use mathlib.Core.List.{List, [], _∷_}
-use Prim.Native.Nat.{ℕ, _-_, _<_}
+use Prim.Native.Nat.{ℕ, _-_}
 use lib.Dec.{leb, eqb}
-use lib.ListN.{length, getD}
 use Rattle.lists.specs.Choice.{pick, both}
-use Rattle.sets.specs.Sets.{setWidth, hasBit, withBit}
+use Rattle.sets.specs.Sets.{hasBit, withBit}
 use Rattle.graph_flows.specs.Trails.{Step, down, up, edgeOf, startOf, endOf}
 
 -- "channel number, plus 128 for an up-step, that is from head to tail"
@@ -19,10 +18,6 @@ stepOf s = pick (leb upFrom s) (up (s - upFrom)) (down s)
 unfoldable pub stepsOf : List ℕ → List Step
 stepsOf [] = []
 stepsOf (s ∷ w) = stepOf s ∷ stepsOf w
-
--- every step's edge has a place in a set
-abbrev pub InSets : List ℕ → Type 0
-InSets s = (i : ℕ) → i < length s → edgeOf (stepOf (getD s i 0)) < setWidth
 
 -- whether a step goes up
 abbrev pub isUp : Step → Bool

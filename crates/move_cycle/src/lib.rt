@@ -3,11 +3,12 @@ use board::Board;
 use board::EdgeSet;
 ghost use mathlib.Core.Path.{_≡_};
 ghost use Rattle.graph_flows.specs.Trails.{edgeOf, startOf, endOf};
-ghost use Rattle.move_cycle.specs.Steps.{stepOf, stepsOf, InSets, isUp, goes, leadsBack, isCycle, gather};
+ghost use Rattle.move_cycle.specs.Steps.{stepOf, stepsOf, isUp, goes, leadsBack, isCycle, gather};
+ghost use Rattle.move_cycle.specs.Inner.{InSets, AtMost};
 ghost use Rattle.move_cycle.specs.Amounts.{smaller, lessened, raiseIn, allowedIn, amountIn};
 ghost use Prim.Native.Nat.{_≤_};
 ghost use Rattle.board.specs.Limits.{maxTotal};
-ghost use Rattle.move_cycle.specs.Shifts.{AtMost, shiftedAt, shifted};
+ghost use Rattle.move_cycle.specs.Shifts.{shiftedAt, shifted};
 
 // ---- The steps of a turn, a byte each: an edge's number, plus 128 for a step from its head to its tail.
 

@@ -10,13 +10,15 @@ use lib.ListN.{length, getD}
 use borrow.Author.Tests.{le-ltb}
 use Rattle.lists.specs.Choice.{both}
 use Rattle.lists.proofs.Laws.{lt-or-ge}
-use Rattle.sets.specs.Sets.{setWidth, collect}
+use Rattle.sets.specs.Sets.{collect}
+use Rattle.sets.specs.Inner.{setWidth}
 use Rattle.sets.proofs.Scan.{bits-ext}
 use Rattle.board.specs.Limits.{maxVertices}
 use Rattle.move_edges.specs.Singular.{leaving, straight}
 use Rattle.move_edges.proofs.Leaving.{first-in, some-in, more-in}
 use Rattle.move_edges.proofs.Gathering.{has-collect}
-use Rattle.move_edges.specs.Marking.{singularIn, isFreshIn, straightBy, singularBy, isFreshBy, ChartedOut}
+use Rattle.move_edges.specs.Marking.{singularIn, isFreshIn, straightBy, singularBy, isFreshBy}
+use Rattle.move_edges.specs.Inner.{ChartedOut}
 
 -- one vertex: whether an edge leaves it, whether a second does, and the way on
 abbrev through : Bool → Bool → Bool → Bool

@@ -11,7 +11,8 @@ use borrow.Author.Tests.{lt-ltb, le-ltb, ltb-true, eq-eqb, ne-eqb}
 use Rattle.lists.specs.Choice.{pick, both, either}
 use Rattle.lists.specs.Lists.{lowest}
 use Rattle.lists.proofs.Laws.{Known, was-true, was-false, known, lt-or-ge, eq-or-ne, pick-yes, pick-no, both-left, both-right, both-true}
-use Rattle.sets.specs.Sets.{setWidth, hasBit, withBit, common, dropped, collect}
+use Rattle.sets.specs.Sets.{hasBit, withBit, collect}
+use Rattle.sets.specs.Inner.{setWidth, common, dropped}
 use Rattle.sets.proofs.Bits.{has-past, has-none, has-joined, has-with-same, has-with-other, joined-back, collect-new, collect-from}
 use Rattle.sets.proofs.Scan.{has-common, has-dropped, bits-ext, lowest-has}
 

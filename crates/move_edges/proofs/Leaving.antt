@@ -15,7 +15,8 @@ use Rattle.lists.specs.Choice.{pick, both}
 use Rattle.lists.specs.Lists.{lowest}
 use Rattle.lists.proofs.Laws.{Known, was-true, was-false, known, lt-or-ge, eq-or-ne, pick-yes, pick-no, both-left, both-right, both-true}
 use Rattle.lists.proofs.Lowest.{Least, lowest-least, lowest-found}
-use Rattle.sets.specs.Sets.{setWidth, hasBit, dropped}
+use Rattle.sets.specs.Sets.{hasBit}
+use Rattle.sets.specs.Inner.{setWidth, dropped}
 use Rattle.sets.proofs.Bits.{has-none}
 use Rattle.sets.proofs.Scan.{has-dropped, lowest-below, lowest-has}
 use Rattle.board.specs.Limits.{maxVertices, maxEdges}

@@ -12,7 +12,8 @@ use lib.ListN.{length, getD, List·getD-eq-default}
 use borrow.Author.Tests.{le-ltb}
 use Rattle.lists.specs.Choice.{both}
 use Rattle.lists.proofs.Laws.{lt-or-ge}
-use Rattle.sets.specs.Sets.{setWidth, hasBit}
+use Rattle.sets.specs.Sets.{hasBit}
+use Rattle.sets.specs.Inner.{setWidth}
 use Rattle.sets.proofs.Bits.{has-past}
 use Rattle.sets.proofs.Scan.{has-common}
 use Rattle.board.specs.Limits.{maxVertices, maxEdges}

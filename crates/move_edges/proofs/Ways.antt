@@ -9,7 +9,8 @@ use lib.Dec.{ltb}
 use lib.ListN.{getD}
 use borrow.Author.Tests.{lt-ltb, le-ltb}
 use Rattle.lists.specs.Lists.{lowest}
-use Rattle.sets.specs.Sets.{setWidth, hasBit, dropped}
+use Rattle.sets.specs.Sets.{hasBit}
+use Rattle.sets.specs.Inner.{setWidth, dropped}
 use Rattle.move_edges.specs.Incidence.{touchingAt}
 use Rattle.move_edges.specs.Marking.{straightBy}
 

@@ -1,10 +1,11 @@
--- Sets of edges: those at each vertex, and those that are wet.
+-- For inner contracts only: sets of edges, those at each vertex and those that are wet.
 use mathlib.Core.Path.{_≡_}
 use mathlib.Core.List.{List}
 use Prim.Native.Nat.{ℕ, _<_}
 use lib.Dec.{ltb, eqb}
 use lib.ListN.{getD}
-use Rattle.sets.specs.Sets.{hasBit, common}
+use Rattle.sets.specs.Sets.{hasBit}
+use Rattle.sets.specs.Inner.{common}
 use Rattle.board.specs.Limits.{maxVertices, maxEdges}
 
 -- the set of each vertex has the edges that have this end there

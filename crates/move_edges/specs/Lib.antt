@@ -1,3 +1,4 @@
 pub mod Singular
 pub mod Incidence
 pub mod Marking
+pub mod Inner

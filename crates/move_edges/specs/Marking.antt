@@ -1,18 +1,17 @@
 -- Marks: document 01, "Moves". A name that ends in In is said of the parts of a board, the name without it of the board, and one that
 -- ends in By of sets of edges, as the code computes it.
-use mathlib.Core.Path.{_≡_}
 use mathlib.Core.Bool.{Bool, true, false, not}
 use mathlib.Core.List.{List}
-use Prim.Native.Nat.{ℕ, zero, suc, _<_}
+use Prim.Native.Nat.{ℕ, zero, suc}
 use lib.Dec.{ltb}
 use lib.ListN.{length, getD}
 use Rattle.lists.specs.Choice.{both}
 use Rattle.lists.specs.Lists.{lowest}
-use Rattle.sets.specs.Sets.{setWidth, hasBit, dropped, collect}
+use Rattle.sets.specs.Sets.{hasBit, collect}
+use Rattle.sets.specs.Inner.{setWidth, dropped}
 use Rattle.move_edges.specs.Singular.{straight}
-use Rattle.board.specs.Limits.{maxVertices, maxEdges}
 use Rattle.board.specs.declared.Board.{Board}
-use Rattle.move_edges.specs.Incidence.{Incident, PositiveSet, touchingAt}
+use Rattle.move_edges.specs.Incidence.{touchingAt}
 
 -- "A channel is single when its head, and every pool that can be reached from the head over wet channels, has at most one wet channel leaving"
 unfoldable pub singularIn : List ℕ → List ℕ → List ℕ → ℕ → ℕ → Bool
@@ -52,11 +51,3 @@ singularBy heads leaving positive vertices e = straightBy heads leaving positive
 
 abbrev pub isFreshBy : List ℕ → List ℕ → ℕ → ℕ → ℕ → ℕ → Bool
 isFreshBy heads leaving positive vertices marks e = both (not (hasBit marks e)) (both (hasBit positive e) (singularBy heads leaving positive vertices e))
-
--- the sets are those of the lists: the edges that leave each vertex, and the positive edges; and each edge leads to a
--- vertex
-pub record ChartedOut (tails heads flows leaving : List ℕ) (positive : ℕ) : Type 0 where
-  pub leave : Incident tails leaving
-  pub is-positive : PositiveSet flows positive
-  pub all : length flows ≡ maxEdges
-  pub headed : (e : ℕ) → getD heads e 0 < maxVertices

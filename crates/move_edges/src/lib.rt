@@ -4,7 +4,8 @@ use board::EdgeSet;
 ghost use mathlib.Core.Path.{_≡_};
 ghost use Prim.Native.Nat.{_<_};
 ghost use lib.ListN.{getD, set};
-ghost use Rattle.sets.specs.Sets.{setWidth, withBit, collect};
+ghost use Rattle.sets.specs.Sets.{withBit, collect};
+ghost use Rattle.sets.specs.Inner.{setWidth};
 ghost use Rattle.move_edges.specs.Incidence.{Incident, PositiveSet, touchingAt};
 ghost use Rattle.move_edges.specs.Marking.{straightBy, singularBy, isFreshBy};
 

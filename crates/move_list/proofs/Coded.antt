@@ -18,7 +18,8 @@ use Rattle.board.specs.declared.Entry.{Entry}
 use Rattle.board.specs.declared.Played.{Played}
 use Rattle.solve_next.specs.declared.Advice.{Advice}
 use Rattle.move_list.specs.declared.Reply.{Reply}
-use Rattle.move_list.specs.Calls.{Call, carry, turn, undo, hint, made, played, answers, isHint, plain, Replied, adviceCode, adviceWidth, behind, noted, Told}
+use Rattle.move_list.specs.Calls.{Call, carry, turn, undo, hint, made, played, answers, adviceCode, adviceWidth, behind, noted, Told}
+use Rattle.move_list.specs.Inner.{isHint, plain, Replied}
 use Rattle.move_list.specs.Codes.{part, callOf, callsOf, moveCode, journalCoded}
 
 -- the steps of a turn

@@ -24,7 +24,8 @@ use Rattle.move_carry.proofs.Makes.{carry-by-change, carry-room}
 use Rattle.move_undo.specs.Undone.{undoChange}
 use Rattle.move_undo.proofs.Makes.{undo-by-change, undo-room, undo-blanks}
 use Rattle.move_list.specs.declared.Reply.{Reply}
-use Rattle.move_list.specs.Calls.{carry, undo, made, played, answers, isHint, plain, Replied, adviceCode, behind}
+use Rattle.move_list.specs.Calls.{carry, undo, made, played, answers, adviceCode, behind}
+use Rattle.move_list.specs.Inner.{isHint, plain, Replied}
 use Rattle.move_list.specs.Codes.{callOf, callsOf}
 use Rattle.move_list.proofs.Coded.{Onward, calls, plain-replied, played-turn, answers-turn, told-turn}
 

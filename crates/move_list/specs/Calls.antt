@@ -1,6 +1,5 @@
 -- A list of calls on a board: what they answer, and the board after them.
 use mathlib.Core.Path.{_≡_}
-use mathlib.Core.Bool.{Bool, true, false}
 use mathlib.Core.List.{List, [], _∷_}
 use Prim.Native.Nat.{ℕ, _+_}
 use lib.Dec.{ltb}
@@ -15,10 +14,8 @@ use Rattle.move_carry.specs.Carries.{carryCall}
 use Rattle.move_turn.specs.Turns.{turnCall}
 use Rattle.move_undo.specs.Undone.{undoCall}
 use Rattle.solve_next.specs.declared.Advice.{Advice}
-use Rattle.solve_next.specs.Choosing.{noAdvice}
 use Rattle.solve_next.specs.declared.Suggestion.{Suggestion}
 use Rattle.solve_next.specs.Hints.{hintRefusal, Hinted}
-use Rattle.move_list.specs.declared.Reply.{Reply}
 
 -- a call with its arguments: a carry of a terminal over an edge, a turn along steps, an undo, or a hint
 pub data Call : Type 0 where
@@ -52,34 +49,12 @@ HintsKept b (carry i e ∷ cs) hs = HintsKept (made b (carry i e) .board) cs hs
 HintsKept b (turn w ∷ cs) hs = HintsKept (made b (turn w) .board) cs hs
 HintsKept b (undo ∷ cs) hs = HintsKept (made b undo .board) cs hs
 
--- whether a call is a hint
-abbrev pub isHint : Call → Bool
-isHint (carry i e) = false
-isHint (turn w) = false
-isHint undo = false
-isHint hint = true
-
--- what a call that is no hint gives
-abbrev pub plain : Played → Reply
-plain p = record { answer = p .answer; board = p .board; hinted = false; advice = noAdvice }
-
--- what the engine replies to a call: the number and the board of `made`, and to a hint a move that keeps the hint's rule
-pub record Replied (b : Board) (c : Call) (r : Reply) : Type 0 where
-  pub answer : r .answer ≡ made b c .answer
-  pub board : r .board ≡ made b c .board
-  pub hinted : r .hinted ≡ isHint c
-  pub hint : isHint c ≡ true → Hinted b (record { answer = r .answer; advice = r .advice })
-
 -- a hint's move in numbers: its kind, terminal, edge, count of steps, and the steps
 abbrev pub adviceCode : Advice → List ℕ
 adviceCode a = a .kind ∷ a .terminal ∷ a .edge ∷ a .count ∷ a .steps
 
 abbrev pub adviceWidth : ℕ
 adviceWidth = 4 + maxEdges
-
--- no slice is longer than this
-abbrev pub lastPlace : ℕ
-lastPlace = 9223372036854775807
 
 -- the place of the next hint; none is past the end
 unfoldable pub behind : List ℕ → ℕ → ℕ

@@ -17,18 +17,10 @@ ghost use Rattle.lists.specs.Choice.{pick, either};
 ghost use Rattle.board.specs.Limits.{maxMoves};
 ghost use Rattle.move_cycle.specs.Steps.{stepsOf};
 ghost use Rattle.move_carry.specs.Carries.{carryChange};
-ghost use Rattle.move_undo.specs.Undone.{Small, undoChange};
-ghost use Rattle.move_list.specs.Calls.{
-  hint,
-  played,
-  answers,
-  plain,
-  Replied,
-  adviceCode,
-  lastPlace,
-  behind,
-  Told,
-};
+ghost use Rattle.move_undo.specs.Undone.{undoChange};
+ghost use Rattle.move_undo.specs.Inner.{Small};
+ghost use Rattle.move_list.specs.Calls.{hint, played, answers, adviceCode, behind, Told};
+ghost use Rattle.move_list.specs.Inner.{plain, Replied, lastPlace};
 ghost use Rattle.move_list.specs.Codes.{part, callOf, callsOf, moveCode, journalCoded};
 ghost use lib.Seq.{sets};
 

@@ -28,12 +28,15 @@ use Rattle.move_guard.proofs.Stores.{withParts, numbered}
 use Rattle.move_guard.proofs.Stores as stores
 use Rattle.move_carry.specs.Opens.{someOpen, someOpenIn}
 use Rattle.move_carry.proofs.Same.{some-same}
-use Rattle.move_cycle.specs.Steps.{stepsOf, InSets, every}
-use Rattle.move_edges.specs.Marking.{singular, isFresh, fresh, ChartedOut}
+use Rattle.move_cycle.specs.Steps.{stepsOf, every}
+use Rattle.move_cycle.specs.Inner.{InSets}
+use Rattle.move_edges.specs.Marking.{singular, isFresh, fresh}
+use Rattle.move_edges.specs.Inner.{ChartedOut}
 use Rattle.move_cycle.specs.Amounts.{amountFrom, amount}
 use Rattle.move_turn.proofs.Passing.{in-sets}
 use Rattle.move_turn.specs.declared.StepRule.the-variants.{OnBoard}
-use Rattle.move_turn.specs.Turns.{meetsOn, stepsRefusal, turnRefusalIn, turnRefusal, turned, turnedIn, turnChange, turnCall, Sound}
+use Rattle.move_turn.specs.Turns.{meetsOn, stepsRefusal, turnRefusalIn, turnRefusal, turned, turnedIn, turnChange, turnCall}
+use Rattle.move_turn.specs.Inner.{Sound}
 
 -- a board in play is sound
 pub playing-sound : (b : Board) → playing b ≡ true → Sound (b .network) (b .flows)

@@ -11,12 +11,14 @@ use lib.ListN.{length, getD, drop, drop-of-length-le}
 use lib.Seq.{drop-cons}
 use borrow.Author.Tests.{ltb-true}
 use Rattle.lists.specs.Choice.{pick}
-use Rattle.sets.specs.Sets.{setWidth}
+use Rattle.sets.specs.Inner.{setWidth}
 use Rattle.board.specs.Limits.{maxEdges}
 use Rattle.graph_flows.specs.Trails.{Step, edgeOf, In}
-use Rattle.move_cycle.specs.Steps.{stepOf, stepsOf, InSets, every, isCycle}
+use Rattle.move_cycle.specs.Steps.{stepOf, stepsOf, every, isCycle}
+use Rattle.move_cycle.specs.Inner.{InSets}
 use Rattle.move_cycle.proofs.Cycled.{every-in}
-use Rattle.move_edges.specs.Marking.{singularBy, ChartedOut}
+use Rattle.move_edges.specs.Marking.{singularBy}
+use Rattle.move_edges.specs.Inner.{ChartedOut}
 use Rattle.move_edges.proofs.Following.{singular-same}
 use Rattle.move_turn.specs.declared.StepRule.{StepRule}
 use Rattle.move_turn.specs.declared.StepRule.the-variants.{OnBoard, Positive, UpSingular}

@@ -1,13 +1,11 @@
 -- The call `turn`: document 01, "Moves".
-use mathlib.Core.Path.{_≡_}
 use mathlib.Core.Bool.{Bool, true, false}
 use mathlib.Core.List.{List}
-use Prim.Native.Nat.{ℕ, _≤_, _<_}
+use Prim.Native.Nat.{ℕ}
 use lib.Dec.{ltb, eqb}
 use lib.ListN.{length, getD}
 use Rattle.lists.specs.Choice.{pick}
 use Rattle.sets.specs.Sets.{joined, collect}
-use Rattle.board.specs.Limits.{maxVertices, maxEdges, maxTerminals, maxTotal}
 use Rattle.board.specs.declared.Board.{Board}
 use Rattle.board.specs.declared.Network.{Network}
 use Rattle.board.specs.declared.Played.{Played}
@@ -22,7 +20,7 @@ use Rattle.move_turn.specs.declared.StepRule.{StepRule}
 use Rattle.move_turn.specs.declared.StepRule.the-variants.{OnBoard, Positive, UpSingular}
 use Rattle.move_edges.specs.Marking.{singularIn, singular, isFreshIn, fresh}
 use Rattle.move_cycle.specs.Amounts.{amountIn, amount}
-use Rattle.move_cycle.specs.Shifts.{AtMost, shifted}
+use Rattle.move_cycle.specs.Shifts.{shifted}
 
 -- 6, 25 and 26, of one step: a channel that the board has; a wet one; "up-steps use single channels". By the count of edges, the
 -- flows and the test for a single channel; and on a board
@@ -95,10 +93,3 @@ unfolding turnRefusalIn turnedIn
 turnChange play anyOpen net flows marks places w =
     let number = turnRefusalIn play anyOpen net flows w in
     pick (eqb number 0) (turnedIn net flows marks places w) (unchanged number flows marks places)
-
--- what a turn needs of the parts of a board in play: the sets have room for its edges, each leads to a vertex, and no flow and no demand is large
-pub record Sound (net : Network) (flows : List ℕ) : Type 0 where
-  pub room : net .edges ≤ maxEdges
-  pub headed : length (net .heads) ≡ maxEdges → (e : ℕ) → getD (net .heads) e 0 < maxVertices
-  pub small : length flows ≡ maxEdges → AtMost maxTotal flows
-  pub asked : length (net .demands) ≡ maxTerminals → AtMost maxTotal (net .demands)

@@ -16,19 +16,13 @@ ghost use Rattle.lists.specs.Choice.{pick, both};
 ghost use Rattle.graph_flows.specs.Trails.{edgeOf};
 ghost use Rattle.board.specs.Limits.{maxEdges, maxMoves};
 ghost use Rattle.move_carry.specs.Opens.{someOpenIn};
-ghost use Rattle.move_cycle.specs.Steps.{stepOf, stepsOf, InSets, isUp, every};
+ghost use Rattle.move_cycle.specs.Steps.{stepOf, stepsOf, isUp, every};
+ghost use Rattle.move_cycle.specs.Inner.{InSets};
 ghost use Rattle.move_edges.specs.Incidence.{Incident, PositiveSet};
-ghost use Rattle.move_edges.specs.Marking.{singularBy, ChartedOut};
-ghost use Rattle.move_turn.specs.Turns.{
-  meetsIn,
-  stepsRefusal,
-  turnRefusalIn,
-  turnRefusal,
-  turnedIn,
-  turnChange,
-  turnCall,
-  Sound,
-};
+ghost use Rattle.move_edges.specs.Marking.{singularBy};
+ghost use Rattle.move_edges.specs.Inner.{ChartedOut};
+ghost use Rattle.move_turn.specs.Turns.{meetsIn, stepsRefusal, turnRefusalIn, turnRefusal, turnedIn, turnChange, turnCall};
+ghost use Rattle.move_turn.specs.Inner.{Sound};
 
 // The rules that each step of a turn keeps.
 pub enum StepRule {

@@ -21,7 +21,8 @@ use Rattle.move_guard.specs.Moved.{lastEntry, movedBack, answered, unchanged, c
 use Rattle.move_guard.proofs.Answers.{answered-yes, answered-no}
 use Rattle.move_guard.specs.Guard.{moveIntact, playing}
 use Rattle.move_guard.proofs.Facts.{playing-moves, playing-flow, playing-demand, playing-last}
-use Rattle.move_undo.specs.Undone.{undoRefusal, undoneMove, undone, undoCall, carryBack, moveBack, undoRefusalIn, undoChange, Small}
+use Rattle.move_undo.specs.Undone.{undoRefusal, undoneMove, undone, undoCall, carryBack, moveBack, undoRefusalIn, undoChange}
+use Rattle.move_undo.specs.Inner.{Small}
 
 -- what the code of a carry taken back computes, number by number
 module _ (net : Network) (flows : List ℕ) (marks : ℕ) (places : List ℕ) (r : Relocation) (f d h : ℕ) (flows' places' : List ℕ) (entry : Entry) where

@@ -1,13 +1,11 @@
 -- The call `undo`: document 01, "Moves".
-use mathlib.Core.Path.{_≡_}
-use mathlib.Core.Bool.{Bool, true}
+use mathlib.Core.Bool.{Bool}
 use mathlib.Core.List.{List}
-use Prim.Native.Nat.{ℕ, _+_, _≤_}
+use Prim.Native.Nat.{ℕ, _+_}
 use lib.Dec.{eqb}
 use lib.ListN.{getD, set}
 use Rattle.lists.specs.Choice.{pick}
 use Rattle.sets.specs.Sets.{without}
-use Rattle.board.specs.Limits.{maxFlow, maxTotal}
 use Rattle.board.specs.Record.{blank}
 use Rattle.board.specs.declared.Board.{Board}
 use Rattle.board.specs.declared.Network.{Network}
@@ -17,7 +15,7 @@ use Rattle.board.specs.declared.Played.{Played}
 use Rattle.board.specs.declared.Move.{Move}
 use Rattle.board.specs.declared.Move.the-variants.{Carry, Turn}
 use Rattle.move_guard.specs.Parts.{flow, head, demand}
-use Rattle.move_guard.specs.Guard.{moveIntact, playing}
+use Rattle.move_guard.specs.Guard.{playing}
 use Rattle.move_guard.specs.declared.Change.{Change}
 use Rattle.move_guard.specs.Moved.{lastEntry, movedBack, answered, unchanged}
 use Rattle.move_cycle.specs.Shifts.{shifted}
@@ -73,9 +71,3 @@ unfoldable pub undoChange : Bool → Network → List ℕ → ℕ → List ℕ �
 undoChange inPlay net flows marks places moves last =
     let number = undoRefusalIn inPlay moves in
     pick (eqb number 0) (moveBack net flows marks places last) (unchanged number flows marks places)
-
--- the numbers are small enough that no sum wraps where the move is taken back
-pub record Small (net : Network) (flows : List ℕ) (last : Move) : Type 0 where
-  pub flow : (e : ℕ) → getD flows e 0 ≤ maxTotal
-  pub demand : (i : ℕ) → getD (net .demands) i 0 ≤ maxFlow
-  pub amount : moveIntact last ≡ true

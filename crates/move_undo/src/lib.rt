@@ -13,16 +13,9 @@ ghost use mathlib.Core.Bool.{true};
 ghost use Prim.Native.Nat.{_≤_};
 ghost use Rattle.board.specs.Limits.{maxTotal};
 ghost use Rattle.board.specs.declared.Move.the-variants.{Carry};
-ghost use Rattle.move_cycle.specs.Shifts.{AtMost};
-ghost use Rattle.move_undo.specs.Undone.{
-  Small,
-  carryBack,
-  turnBack,
-  moveBack,
-  undoRefusalIn,
-  undoChange,
-  undoCall,
-};
+ghost use Rattle.move_cycle.specs.Inner.{AtMost};
+ghost use Rattle.move_undo.specs.Undone.{carryBack, turnBack, moveBack, undoRefusalIn, undoChange, undoCall};
+ghost use Rattle.move_undo.specs.Inner.{Small};
 
 // What taking back a carry changes.
 fn carry_back(

@@ -2,7 +2,7 @@
 use descriptors::Served;
 use libc::STDIN_FILENO;
 use play_session::Session;
-ghost use Rattle.descriptors.specs.Serving.{BehindPieces};
+ghost use Rattle.descriptors.specs.Inner.{BehindPieces};
 
 // Reads a piece of the input, as much as there is, and serves it. At the end of the input the session goes on no more.
 fn next_piece(session: Session) -> Served

@@ -19,7 +19,8 @@ use Rattle.play_lines.specs.declared.Piece.{Piece}
 use Rattle.play_lines.specs.declared.Form.{Form}
 use Rattle.play_lines.specs.declared.Scan.{Scan}
 use Rattle.play_lines.specs.Orders.{onto, fieldsOf, orderOf}
-use Rattle.play_lines.specs.Scans.{noPiece, pieceTaken, nothingRead, numbered, begun, wayTaken, withStep, formTaken, noScan, scanTaken, scanAll, scanned, isBlank, StandsFor}
+use Rattle.play_lines.specs.Scans.{noPiece, pieceTaken, nothingRead, numbered, begun, wayTaken, withStep, formTaken, noScan, scanTaken, scanAll, scanned, isBlank}
+use Rattle.play_lines.specs.Inner.{StandsFor}
 use Rattle.play_lines.proofs.Pieces.{Reads, reads-none, reads-next}
 use Rattle.play_lines.proofs.Shapes.{Shape, begin, orderFrom, shapeTaken, shape-step}
 use Rattle.play_lines.proofs.Follows.{FollowsShape, follows-next, follows-end}

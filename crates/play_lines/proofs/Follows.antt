@@ -15,7 +15,8 @@ use Rattle.graph_flows.specs.Trails.{Step, down, up}
 use Rattle.play_lines.specs.declared.Piece.{Piece}
 use Rattle.play_lines.specs.declared.Form.{Form}
 use Rattle.play_lines.specs.Orders.{isLetter, turnOf, carryOf, byFields}
-use Rattle.play_lines.specs.Scans.{pieceNumber, nothingRead, otherForm, hintForm, undoForm, finishForm, carryForm, carryFrom, carryWhole, turnForm, turnEdge, ofKind, withFirst, withSecond, numbered, withStep, begun, wayTaken, formTaken, Nothing, StandsFor}
+use Rattle.play_lines.specs.Scans.{pieceNumber, nothingRead, otherForm, hintForm, undoForm, finishForm, carryForm, carryFrom, carryWhole, turnForm, turnEdge, ofKind, withFirst, withSecond, numbered, withStep, begun, wayTaken, formTaken}
+use Rattle.play_lines.specs.Inner.{Nothing, StandsFor}
 use Rattle.play_lines.proofs.Pieces.{Reads, is-number, is-letter}
 use Rattle.play_lines.proofs.Shapes.{Shape, begin, wrong, hinted, undone, finished, carry-none, carry-one, carry-both, turn-even, turn-odd, orderFrom, shapeBy, begunBy, wayBy, shapeTaken}
 use Rattle.play_lines.proofs.Grown.{HoldsSteps, grown, holds-none, keeps-steps}

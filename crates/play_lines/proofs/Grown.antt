@@ -18,7 +18,8 @@ use Rattle.graph_flows.specs.Trails.{Step, down, up, edgeOf}
 use Rattle.move_cycle.specs.Steps.{upFrom, stepOf, stepsOf}
 use Rattle.move_cycle.proofs.Bytes.{step-up, step-down}
 use Rattle.play_lines.specs.declared.Form.{Form}
-use Rattle.play_lines.specs.Scans.{stepByte, withStep, greatestEdge, KeepsSteps, turnForm}
+use Rattle.play_lines.specs.Scans.{stepByte, withStep, turnForm}
+use Rattle.play_lines.specs.Inner.{greatestEdge, KeepsSteps}
 
 -- what a form keeps of the steps w
 pub record HoldsSteps (w : List Step) (f : Form) : Type 0 where

@@ -10,7 +10,7 @@ use lib.Dec.{leb, ltb, eqb}
 use lib.ListN.{length, take}
 use borrow.Author.Tests.{leb-true, leb-false, ltb-true, ltb-false, lt-ltb, le-ltb}
 use Rattle.lists.specs.Choice.{pick, both}
-use Rattle.lists.specs.Members.{Below}
+use Rattle.lists.specs.Inner.{Below}
 use Rattle.lists.proofs.Laws.{Known, was-true, was-false, known, lt-or-ge, pick-yes, pick-no, both-left, both-right, both-true}
 use Rattle.lists.proofs.Pigeon.{pigeon}
 use Rattle.board.specs.Limits.{maxEdges}
@@ -27,7 +27,8 @@ use Rattle.move_turn.specs.Turns.{meets, turnRefusal, turned, turnCall}
 use Rattle.move_list.specs.Calls.{carry, turn, undo, hint}
 use Rattle.play_lines.specs.declared.Form.{Form}
 use Rattle.play_lines.specs.Orders.{Order, call, finish, other}
-use Rattle.play_lines.specs.Scans.{finishForm, carryWhole, turnForm, greatestEdge, KeepsSteps, StandsFor}
+use Rattle.play_lines.specs.Scans.{finishForm, carryWhole, turnForm}
+use Rattle.play_lines.specs.Inner.{greatestEdge, KeepsSteps, StandsFor}
 use Rattle.play_session.specs.Replies.{replied, isFinish, replyText}
 use Rattle.play_session.specs.Machine.{unkept, turnReplied, formReplied, formText}
 

@@ -21,7 +21,8 @@ use Rattle.play_lines.proofs.Exact.{scan-join}
 use Rattle.sheet_output.specs.Inputs.{textSpace, linesWanted}
 use Rattle.sheet_output.proofs.Prefix.{load-prefix, wanted-prefix}
 use Rattle.play_session.specs.declared.Session.{Session}
-use Rattle.play_session.specs.Machine.{formReplied, textGrown, scanGrown, grown, textSoFar, linesLeft, ready, expecting, boardLine, boardTold, playedLine, lineEnded, lineTold, endTold, hasLine, takenOf, fedSession, fedTold, runs}
+use Rattle.play_session.specs.Machine.{formReplied, textGrown, scanGrown, grown, textSoFar, linesLeft, ready, expecting, boardLine, boardTold, playedLine, lineEnded, lineTold, endTold, hasLine, takenOf, fedSession, fedTold}
+use Rattle.play_session.specs.Inner.{runs}
 use Rattle.play_session.proofs.Stages.{Stage, reading, playing, over, stageOf, grown-reading, grown-playing, grown-over, told-reading, told-playing, told-over, ended-reading, ended-playing, ended-over, runs-line, runs-byte}
 use Rattle.play_session.proofs.KeptText.{take-both, used-nothing, used-seen, used-join, text-seen, text-join}
 

@@ -11,12 +11,14 @@ use Rattle.lists.proofs.Laws.{Known, was-true, was-false, known, pick-yes, pick
 use Rattle.board.specs.declared.Board.{Board}
 use Rattle.board.specs.declared.Played.{Played}
 use Rattle.play_lines.specs.Orders.{other, orderOf}
-use Rattle.play_lines.specs.Scans.{StandsFor, noScan, scanAll, scanned, isBlank}
+use Rattle.play_lines.specs.Scans.{noScan, scanAll, scanned, isBlank}
+use Rattle.play_lines.specs.Inner.{StandsFor}
 use Rattle.play_lines.proofs.Exact.{line-exact, scan-join, blank-empty}
 use Rattle.sheet_output.specs.Outputs.{numberLine}
 use Rattle.play_session.specs.declared.Session.{Session}
 use Rattle.play_session.specs.Replies.{replied, replyText, repliesFrom}
-use Rattle.play_session.specs.Machine.{readingStage, playingStage, overStage, formReplied, scanGrown, playedLine, lineEnded, lineTold, endTold, runs}
+use Rattle.play_session.specs.Machine.{readingStage, playingStage, overStage, formReplied, scanGrown, playedLine, lineEnded, lineTold, endTold}
+use Rattle.play_session.specs.Inner.{runs}
 use Rattle.play_session.proofs.Lines.{form-replied, form-text}
 use Rattle.play_session.proofs.Stages.{grown-playing, grown-over, told-playing, told-over, ended-playing, ended-over, runs-line, runs-byte}
 

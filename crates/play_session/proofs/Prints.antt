@@ -20,7 +20,8 @@ use Rattle.sheet_output.proofs.FirstLines.{index-behind, first-more, first-line
 use Rattle.sheet_output.proofs.Prefix.{load-prefix, wanted-prefix}
 use Rattle.play_session.specs.declared.Session.{Session}
 use Rattle.play_session.specs.Replies.{repliesFrom, playOutput}
-use Rattle.play_session.specs.Machine.{readingStage, newSession, textGrown, textSoFar, linesLeft, ready, expecting, boardLine, loadTold, boardTold, lineEnded, endTold, runs}
+use Rattle.play_session.specs.Machine.{readingStage, newSession, textGrown, textSoFar, linesLeft, ready, expecting, boardLine, loadTold, boardTold, lineEnded, endTold}
+use Rattle.play_session.specs.Inner.{runs}
 use Rattle.play_session.proofs.Stages.{grown-reading, told-reading, ended-reading, runs-line, runs-byte}
 use Rattle.play_session.proofs.KeptText.{capped, kept-more}
 use Rattle.play_session.proofs.PlayedLines.{plays, prints-nothing}

@@ -1,5 +1,5 @@
 -- The program `play` in fixed memory, fed with the pieces in which its input comes. That it prints `playOutput` of the whole is a theorem.
-use mathlib.Core.Bool.{Bool, true, false}
+use mathlib.Core.Bool.{Bool}
 use mathlib.Core.List.{List, [], _∷_, _++_}
 use Prim.Native.Nat.{ℕ, _+_, _-_}
 use lib.Dec.{leb, ltb, eqb}
@@ -150,7 +150,3 @@ unfoldable pub fedTold : Session → List ℕ → List ℕ
 fedTold s bytes = pick (hasLine bytes) (lineTold (grown s (take (indexOf 10 bytes) bytes))) []
 
 -- ---- the whole input, byte by byte
-
-unfoldable pub runs : Session → List ℕ → List ℕ
-runs s [] = endTold s
-runs s (c ∷ cs) = elim (eqb c 10) [ true ↦ lineTold s ++ runs (lineEnded s) cs | false ↦ runs (grown s (c ∷ [])) cs ]

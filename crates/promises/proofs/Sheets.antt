@@ -16,7 +16,7 @@ use Rattle.solve_finish.specs.Finishes.{finishCall}
 use Rattle.report.specs.Reports.{reportText, unreported}
 use Rattle.sheet_output.specs.Outputs.{numberLine, sheetOutput}
 use Rattle.sheet_output.proofs.Prefix.{sheet-prefix}
-use Rattle.play_session.proofs.Prints.{prints}
+use Rattle.descriptors.proofs.PrintedPieces.{pieces-printed}
 use Rattle.catalog.specs.Table.{table}
 use Rattle.catalog.specs.Catalog.{boards, catalogText, catalogCall}
 use Rattle.catalog.proofs.Rule.{all-accepted}
@@ -65,6 +65,6 @@ about-sheets = record {
   sheet-reads = sheet-prefix;
   play-printed = play-printed;
   play-refused = play-refused;
-  play-runs = prints;
+  play-pieces = pieces-printed;
   sheet-room = room;
 }

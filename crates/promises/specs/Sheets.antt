@@ -2,7 +2,7 @@
 use mathlib.Core.Path.{_≡_}
 use mathlib.Core.Bool.{true}
 use mathlib.Core.Logic.{_≢_}
-use mathlib.Core.List.{List, []}
+use mathlib.Core.List.{List, [], _++_}
 use Prim.Native.Nat.{ℕ, _≤_, _<_}
 use lib.ListN.{length, take}
 use Rattle.board.specs.declared.Board.{Board}
@@ -12,7 +12,8 @@ use Rattle.report.specs.Reports.{reportText, unreported}
 use Rattle.sheet_output.specs.Inputs.{textSpace, boardPart, movesPart}
 use Rattle.sheet_output.specs.Outputs.{numberLine, sheetOutput}
 use Rattle.play_session.specs.Replies.{playOutput}
-use Rattle.play_session.specs.Machine.{newSession, runs}
+use Rattle.play_session.specs.Machine.{newSession, endTold}
+use Rattle.descriptors.specs.Serving.{inputOf, servedPieces, toldPieces}
 use Rattle.catalog.specs.Table.{table}
 use Rattle.catalog.specs.Catalog.{boards, catalogText, catalogCall, allAccepted}
 use Rattle.promises.specs.Plays.{OfPlay, OfFinish}
@@ -40,7 +41,7 @@ pub record AboutSheets : Type 0 where
       → playOutput input ≡ said (boardPart input) [] (ordersFrom [] (movesPart input))
   -- "A refused board prints its number only"
   pub play-refused : (input : List ℕ) → loadText (boardPart input) .answer ≢ 0 → playOutput input ≡ numberLine (loadText (boardPart input) .answer)
-  -- the session of fixed size that the program feeds prints this, whatever the lengths of the lines
-  pub play-runs : (input : List ℕ) → runs newSession input ≡ playOutput input
+  -- the session of fixed size that the program feeds prints this, whatever the lengths of the lines and of the pieces in which the input comes
+  pub play-pieces : (pieces : List (List ℕ)) → toldPieces newSession pieces ++ endTold (servedPieces newSession pieces) ≡ playOutput (inputOf pieces)
   -- the room that a sheet needs
   pub sheet-room : (text : List ℕ) (f : Board) → OfFinish text f → length (reportText f) ≤ 2948

@@ -12,7 +12,8 @@ use Rattle.board.specs.Limits.{maxVertices, maxEdges, maxTerminals}
 use Rattle.board.specs.declared.Board.{Board}
 use Rattle.board.specs.declared.Network.{Network}
 use Rattle.text.specs.Text.{linesText}
-use Rattle.report_routes.specs.Tables.{countsOf, rowsOf, routesFit, AreRouteSets, setLoad}
+use Rattle.report_routes.specs.Tables.{routesFit}
+use Rattle.report_routes.specs.Inner.{countsOf, rowsOf, AreRouteSets, setLoad}
 use Rattle.report_routes.proofs.Read.{counts-route, fits-at, row-route, table-load, set-load}
 use Rattle.report.specs.Reports.{routeRow, loadRow}
 use Rattle.report.specs.Rows.{tableRouteRow, tableLoadRow}

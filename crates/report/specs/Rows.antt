@@ -1,11 +1,11 @@
--- The rows of the report, over the counts and the rows of the routes.
+-- For inner contracts only: the rows of the report, over the counts and the rows of the routes.
 use mathlib.Core.List.{List, [], _∷_, _++_}
 use Prim.Native.Nat.{ℕ, _≤_, _<_}
 use lib.ListN.{getD}
 use Rattle.board.specs.Limits.{maxVertices, maxEdges, maxTerminals}
 use Rattle.board.specs.declared.Network.{Network}
 use Rattle.text.specs.Text.{lineText, linesText}
-use Rattle.report_routes.specs.Tables.{rowAt, tableLoad, Moderate}
+use Rattle.report_routes.specs.Inner.{rowAt, tableLoad, Moderate}
 
 -- terminal i, how many edges its route has, and its edges from the source on
 abbrev pub tableRouteRow : List ℕ → List (List ℕ) → ℕ → List ℕ

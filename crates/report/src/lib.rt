@@ -11,7 +11,7 @@ ghost use lib.ListN.{length, getD, take};
 ghost use lib.Seq.{sets};
 ghost use Rattle.board.specs.Limits.{maxVertices, maxEdges, maxTerminals};
 ghost use Rattle.text.specs.Text.{lineText, linesText};
-ghost use Rattle.report_routes.specs.Tables.{Moderate};
+ghost use Rattle.report_routes.specs.Inner.{Moderate};
 ghost use Rattle.report.specs.Reports.{loadedIn, unreportedIn, sheetCall, sheeted, putCall, putIn};
 ghost use Rattle.report.specs.Rows.{tableRouteRow, tableLoadRow, tableText, Printable};
 

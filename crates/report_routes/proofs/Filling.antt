@@ -19,7 +19,7 @@ use Rattle.board.specs.declared.Augmentation.{Augmentation}
 use Rattle.board.specs.declared.Move.{Move}
 use Rattle.board.specs.declared.Move.the-variants.{Carry, Turn}
 use Rattle.report_routes.specs.Routes.{carriedOver, routeBy}
-use Rattle.report_routes.specs.Tables.{tabulated, rowOf, countsOf, rowsOf}
+use Rattle.report_routes.specs.Inner.{tabulated, rowOf, countsOf, rowsOf}
 use Rattle.report_routes.proofs.Tabulated.{length-tabulated, tabulated-from, set-tabulated, sets-snoc}
 
 row-snoc : (es : List ℕ) (e : ℕ) → set (rowOf es) (length es) e ≡ rowOf (es ++ (e ∷ []))

@@ -19,7 +19,7 @@ use Rattle.lists.proofs.Laws.{Known, was-true, was-false, known, eq-or-ne, pick
 use Rattle.sets.specs.Sets.{hasBit, withBit}
 use Rattle.sets.proofs.Bits.{has-none, has-with-same, has-with-other}
 use Rattle.board.specs.Limits.{maxEdges, maxFlow}
-use Rattle.report_routes.specs.Tables.{rowAt, IsSetOf, AreRouteSets, RouteSets}
+use Rattle.report_routes.specs.Inner.{rowAt, IsSetOf, AreRouteSets, RouteSets}
 
 either-none : (a : Bool) → either a false ≡ a
 unfolding either

@@ -17,7 +17,8 @@ use Rattle.sets.specs.Sets.{hasBit}
 use Rattle.board.specs.Limits.{maxVertices, maxEdges, maxTerminals}
 use Rattle.board.specs.declared.Board.{Board}
 use Rattle.report_routes.specs.Routes.{route, share, load}
-use Rattle.report_routes.specs.Tables.{rowOf, countsOf, rowsOf, rowAt, routesFit, tableLoad, AreRouteSets, setLoad}
+use Rattle.report_routes.specs.Tables.{routesFit}
+use Rattle.report_routes.specs.Inner.{rowOf, countsOf, rowsOf, rowAt, tableLoad, AreRouteSets, setLoad}
 use Rattle.report_routes.proofs.Filling.{counts-at, rows-at}
 
 -- a row that has room for the edges begins with them

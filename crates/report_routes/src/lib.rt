@@ -9,7 +9,7 @@ ghost use lib.Dec.{leb};
 ghost use lib.ListN.{getD, take};
 ghost use Rattle.lists.specs.Lists.{all};
 ghost use Rattle.board.specs.Limits.{maxVertices, maxTerminals};
-ghost use Rattle.report_routes.specs.Tables.{rowsOf, countsOf, IsSetOf, RouteSets, setLoad, Moderate};
+ghost use Rattle.report_routes.specs.Inner.{rowsOf, countsOf, IsSetOf, RouteSets, setLoad, Moderate};
 
 // The routes by the first moves of a journal, from the last of them to the first: a row of edges for each terminal, 0
 // behind them. `counts` gets how many edges each route has; a row holds as many of them as there is room for.

@@ -16,7 +16,8 @@ use Rattle.lists.specs.Choice.{both}
 use Rattle.lists.specs.Lists.{lowest}
 use Rattle.lists.proofs.Laws.{Known, was-true, was-false, known, lt-or-ge, eq-or-ne, pick-yes, pick-no}
 use Rattle.lists.proofs.Lowest.{Least, lowest-least}
-use Rattle.sets.specs.Sets.{setWidth, hasBit, common, dropped}
+use Rattle.sets.specs.Sets.{hasBit}
+use Rattle.sets.specs.Inner.{setWidth, common, dropped}
 use Rattle.sets.proofs.Bits.{bitAt, bit-small, has-past, has-none, has-half, has-odd}
 
 -- the bits of what two sets have in common

@@ -2,12 +2,8 @@
 use mathlib.Core.Bool.{Bool}
 use Prim.Native.Nat.{ℕ, zero, suc, _-_, _^_, _/_, _%_}
 use lib.Dec.{eqb}
-use lib.Bits.{bitAnd, bitOr}
+use lib.Bits.{bitOr}
 use Rattle.lists.specs.Choice.{pick}
-
--- how many numbers a set has room for in the code
-abbrev pub setWidth : ℕ
-setWidth = 64
 
 -- whether c is in the set
 unfoldable pub hasBit : ℕ → ℕ → Bool
@@ -23,14 +19,6 @@ joined m s = bitOr m s
 
 abbrev pub without : ℕ → ℕ → ℕ
 without m s = m - s
-
--- the numbers that are in both sets
-abbrev pub common : ℕ → ℕ → ℕ
-common m s = bitAnd m s
-
--- the set without c
-unfoldable pub dropped : ℕ → ℕ → ℕ
-dropped m c = pick (hasBit m c) (m - 2 ^ c) m
 
 -- the set with those of i, i + 1, .., i + k - 1 that have p
 unfoldable pub collect : (ℕ → Bool) → ℕ → ℕ → ℕ → ℕ

@@ -3,7 +3,8 @@ ghost use mathlib.Core.Path.{_≡_};
 ghost use Prim.Native.Nat.{_<_};
 ghost use Rattle.lists.specs.Choice.{pick};
 ghost use Rattle.lists.specs.Lists.{lowest};
-ghost use Rattle.sets.specs.Sets.{setWidth, hasBit, withBit, joined, without, common, dropped};
+ghost use Rattle.sets.specs.Sets.{hasBit, withBit, joined, without};
+ghost use Rattle.sets.specs.Inner.{setWidth, common, dropped};
 
 // Whether c is in the set.
 pub fn has(m: u64, c: usize) -> bool

@@ -13,7 +13,8 @@ use Rattle.lists.specs.Choice.{pick, both}
 use Rattle.lists.specs.Lists.{lowest}
 use Rattle.lists.proofs.Laws.{Known, was-true, was-false, known, lt-or-ge, pick-yes, pick-no, both-right}
 use Rattle.lists.proofs.Lowest.{lowest-least, lowest-found}
-use Rattle.sets.specs.Sets.{setWidth, hasBit, common, dropped}
+use Rattle.sets.specs.Sets.{hasBit}
+use Rattle.sets.specs.Inner.{setWidth, common, dropped}
 use Rattle.sets.proofs.Scan.{has-common, lowest-is, lowest-has, scan-hit, scan-miss, scan-end}
 use Rattle.move_edges.specs.Singular.{leaves}
 use Rattle.move_edges.specs.Incidence.{touchingAt}

@@ -1,4 +1,4 @@
--- The open carry that the solver makes, over the parts of a board: document 01, "Finish".
+-- For inner contracts only: the open carry that the solver makes, over the parts of a board (document 01, "Finish").
 use mathlib.Core.Path.{_≡_}
 use mathlib.Core.Bool.{Bool}
 use mathlib.Core.List.{List}
@@ -7,7 +7,8 @@ use lib.Dec.{ltb}
 use lib.ListN.{length, getD}
 use Rattle.lists.specs.Choice.{pick, both}
 use Rattle.lists.specs.Lists.{lowest}
-use Rattle.sets.specs.Sets.{setWidth, hasBit, common}
+use Rattle.sets.specs.Sets.{hasBit}
+use Rattle.sets.specs.Inner.{setWidth, common}
 use Rattle.board.specs.Limits.{maxVertices, maxEdges}
 use Rattle.move_edges.specs.Incidence.{Incident, PositiveSet}
 use Rattle.move_carry.specs.Opens.{flowFits, isOpenAt}

@@ -12,7 +12,8 @@ use lib.Seq.{getD-set-same, getD-set-other}
 use borrow.Author.Tests.{lt-ltb, le-ltb, eq-eqb, ne-eqb, eqb-true, eqb-false}
 use Rattle.lists.specs.Choice.{pick, both}
 use Rattle.lists.proofs.Laws.{Known, was-true, was-false, known, eq-or-ne, pick-yes, pick-no}
-use Rattle.sets.specs.Sets.{hasBit, dropped}
+use Rattle.sets.specs.Sets.{hasBit}
+use Rattle.sets.specs.Inner.{dropped}
 use Rattle.sets.proofs.Scan.{has-dropped}
 use Rattle.board.specs.Limits.{maxEdges}
 use Rattle.move_edges.specs.Incidence.{PositiveSet}

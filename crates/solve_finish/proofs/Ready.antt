@@ -16,9 +16,11 @@ use Rattle.graph_flows.specs.Trails.{Step}
 use Rattle.move_guard.specs.Moved.{unchanged}
 use Rattle.move_guard.specs.declared.Change.{Change}
 use Rattle.move_cycle.specs.Steps.{stepsOf}
-use Rattle.move_turn.specs.Turns.{turnChange, Sound}
+use Rattle.move_turn.specs.Turns.{turnChange}
+use Rattle.move_turn.specs.Inner.{Sound}
 use Rattle.move_turn.proofs.Changes.{playing-sound}
-use Rattle.solve_walk.specs.Walk.{cycleOf, packed, walked}
+use Rattle.solve_walk.specs.Walk.{cycleOf, packed}
+use Rattle.solve_walk.specs.Inner.{walked}
 use Rattle.solve_walk.specs.Chart.{Charted}
 use Rattle.solve_walk.specs.declared.Walk.{Walk}
 use Rattle.solve_walk.proofs.Packed.{cycle-walked, cycle-short}

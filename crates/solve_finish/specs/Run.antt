@@ -1,4 +1,4 @@
--- The moves of a finish over the parts of a board in play, as the code makes them: the network, the flows, the marks and the places. They come to the same board as
+-- For inner contracts only: the moves of a finish over the parts of a board in play, as the code makes them: the network, the flows, the marks and the places. They come to the same board as
 -- the moves of the definition `playedOut`, which tests the whole board at each move; here only the numbers are tested that a move can put past their limits.
 use mathlib.Core.Path.{_≡_}
 use mathlib.Core.Bool.{Bool, true, false}
@@ -8,7 +8,7 @@ use lib.Dec.{leb, ltb, eqb}
 use lib.ListN.{length, getD}
 use Rattle.lists.specs.Choice.{pick, both}
 use Rattle.lists.specs.Lists.{all, lowest}
-use Rattle.sets.specs.Sets.{dropped}
+use Rattle.sets.specs.Inner.{dropped}
 use Rattle.move_edges.specs.Incidence.{PositiveSet}
 use Rattle.board.specs.Limits.{maxEdges, maxTerminals, maxMoves, maxTotal}
 use Rattle.board.specs.declared.Board.{Board}

@@ -14,7 +14,8 @@ use Rattle.move_guard.specs.Guard.{playing}
 use Rattle.move_carry.specs.Opens.{enters, isOpen, openEdge, hasOpen, openTerminal, someOpen, isOpenAt}
 use Rattle.solve_carry.specs.Search.{hasOpenAt, markedOpenAt, chosenEdgeIn}
 use Rattle.move_cycle.specs.Steps.{stepsOf}
-use Rattle.solve_walk.specs.Walk.{packed, walked}
+use Rattle.solve_walk.specs.Walk.{packed}
+use Rattle.solve_walk.specs.Inner.{walked}
 use Rattle.solve_walk.specs.declared.Walk.{Walk}
 use Rattle.solve_walk.proofs.Packed.{cycle-walked, cycle-short}
 use Rattle.solve_next.specs.declared.Advice.{Advice}

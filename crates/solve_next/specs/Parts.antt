@@ -1,4 +1,4 @@
--- What the solver leans on, of the parts of a board in play.
+-- For inner contracts only: what the solver leans on, of the parts of a board in play.
 use mathlib.Core.Path.{_≡_}
 use mathlib.Core.List.{List}
 use Prim.Native.Nat.{ℕ, _<_, _≤_}

@@ -11,7 +11,8 @@ use lib.ListN.{length}
 use borrow.Author.Tests.{lt-ltb, le-ltb, eq-eqb, ne-eqb}
 use Rattle.lists.specs.Lists.{indexOf, lowest}
 use Rattle.lists.proofs.Laws.{Known, was-true, was-false, known, lt-or-ge, eq-or-ne}
-use Rattle.sets.specs.Sets.{setWidth, hasBit, withBit, dropped}
+use Rattle.sets.specs.Sets.{hasBit, withBit}
+use Rattle.sets.specs.Inner.{setWidth, dropped}
 use Rattle.sets.proofs.Bits.{has-none, has-with-same, has-with-other}
 use Rattle.board.specs.Limits.{maxVertices, maxEdges}
 use Rattle.move_edges.specs.Incidence.{Incident, PositiveSet, touchingAt}

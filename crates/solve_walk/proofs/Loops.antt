@@ -15,7 +15,8 @@ use Rattle.lists.proofs.Laws.{index-hit, index-miss, index-end}
 use Rattle.graph_flows.specs.Trails.{Step, edgeOf, startOf}
 use Rattle.move_cycle.specs.Steps.{upFrom, stepOf, stepsOf}
 use Rattle.solve_walk.specs.declared.Walk.{Walk}
-use Rattle.solve_walk.specs.Walk.{startsOf, byteOf, bytesOf, walked, packed, stride}
+use Rattle.solve_walk.specs.Walk.{startsOf, byteOf, bytesOf, packed}
+use Rattle.solve_walk.specs.Inner.{walked, stride}
 use Rattle.solve_walk.proofs.Packed.{bytes-steps, step-byte}
 
 -- a walk's steps have their places

@@ -17,7 +17,8 @@ use Rattle.lists.proofs.Lowest.{lowest-least}
 use Rattle.graph_flows.specs.Trails.{Step, down, up, edgeOf}
 use Rattle.move_cycle.specs.Steps.{upFrom, stepOf, stepsOf}
 use Rattle.move_cycle.proofs.Bytes.{step-up, step-down}
-use Rattle.solve_walk.specs.Walk.{another, parts, firstMet, downWalk, upWalk, cycleOf, byteOf, bytesOf, walked, packed}
+use Rattle.solve_walk.specs.Walk.{another, parts, firstMet, downWalk, upWalk, cycleOf, byteOf, bytesOf, packed}
+use Rattle.solve_walk.specs.Inner.{walked}
 
 -- the byte of a byte's step
 byte-step : (b : ℕ) → byteOf (stepOf b) ≡ b

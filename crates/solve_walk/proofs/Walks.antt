@@ -12,11 +12,13 @@ use borrow.Author.Tests.{lt-ltb, le-ltb, ne-eqb, eqb-false}
 use Rattle.board.specs.Limits.{maxVertices, maxEdges}
 use Rattle.lists.specs.Choice.{either}
 use Rattle.lists.proofs.Laws.{index-le, either-left, either-right}
-use Rattle.sets.specs.Sets.{setWidth, hasBit}
+use Rattle.sets.specs.Sets.{hasBit}
+use Rattle.sets.specs.Inner.{setWidth}
 use Rattle.graph_flows.specs.Trails.{Step, down, up}
 use Rattle.move_cycle.specs.Steps.{upFrom}
 use Rattle.solve_walk.specs.declared.Walk.{Walk}
-use Rattle.solve_walk.specs.Walk.{another, parts, startsOf, firstMet, downWalk, upWalk, walked, packed}
+use Rattle.solve_walk.specs.Walk.{another, parts, startsOf, firstMet, downWalk, upWalk, packed}
+use Rattle.solve_walk.specs.Inner.{walked}
 use Rattle.solve_walk.proofs.Packed.{another-most}
 use Rattle.solve_walk.proofs.Loops.{held, steps-length, starts-length}
 

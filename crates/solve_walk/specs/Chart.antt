@@ -1,4 +1,4 @@
--- What the code's walk looks at besides the lists: the edges at each vertex, the positive edges and the vertices seen, as sets.
+-- For inner contracts only: what the code's walk looks at besides the lists: the edges at each vertex, the positive edges and the vertices seen, as sets.
 use mathlib.Core.Path.{_≡_}
 use mathlib.Core.Bool.{Bool}
 use mathlib.Core.List.{List}
@@ -6,7 +6,8 @@ use Prim.Native.Nat.{ℕ, _<_}
 use lib.Dec.{ltb}
 use lib.ListN.{length, getD}
 use Rattle.lists.specs.Lists.{lowest}
-use Rattle.sets.specs.Sets.{setWidth, hasBit, dropped}
+use Rattle.sets.specs.Sets.{hasBit}
+use Rattle.sets.specs.Inner.{setWidth, dropped}
 use Rattle.board.specs.Limits.{maxVertices, maxEdges}
 use Rattle.move_edges.specs.Incidence.{Incident, PositiveSet, touchingAt}
 use Rattle.graph_flows.specs.Trails.{Step}

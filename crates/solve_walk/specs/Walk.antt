@@ -4,14 +4,14 @@ use mathlib.Core.Bool.{Bool, true, false, not}
 use mathlib.Core.List.{List, [], _∷_, _++_}
 use Prim.Native.Nat.{ℕ, zero, suc, _+_}
 use lib.Dec.{ltb, eqb}
-use lib.ListN.{length, getD, take, drop, replicate}
+use lib.ListN.{length, getD, drop, replicate}
 use lib.Seq.{sets}
 use Rattle.lists.specs.Choice.{both}
 use Rattle.lists.specs.Lists.{indexOf, lowest}
 use Rattle.board.specs.Limits.{maxEdges}
 use Rattle.move_edges.specs.Singular.{leaves, leaving}
 use Rattle.graph_flows.specs.Trails.{Step, down, up, startOf}
-use Rattle.move_cycle.specs.Steps.{upFrom, stepsOf}
+use Rattle.move_cycle.specs.Steps.{upFrom}
 use Rattle.solve_walk.specs.declared.Walk.{Walk}
 
 -- edge e is wet, has this end at v, and is another than x
@@ -77,14 +77,5 @@ abbrev pub bytesOf : List Step → List ℕ
 bytesOf [] = []
 bytesOf (s ∷ w) = byteOf s ∷ bytesOf w
 
--- the steps that a walk in a record holds; and the record of steps, with 0 in the places past them
-abbrev pub walked : Walk → List Step
-walked t = stepsOf (take (t .count) (t .steps))
-
 abbrev pub packed : List Step → Walk
 packed w = record { count = length w; steps = sets (replicate maxEdges 0) 0 (bytesOf w) }
-
--- a step up or down over e
-abbrev pub stride : Bool → ℕ → Step
-stride true e = up e
-stride false e = down e

@@ -6,19 +6,11 @@ ghost use mathlib.Core.List.{[], _∷_, _++_};
 ghost use Prim.Native.Nat.{_+_, _≤_, _<_};
 ghost use lib.ListN.{getD, set, drop};
 ghost use Rattle.board.specs.Limits.{maxVertices, maxEdges};
-ghost use Rattle.sets.specs.Sets.{setWidth, withBit};
+ghost use Rattle.sets.specs.Sets.{withBit};
+ghost use Rattle.sets.specs.Inner.{setWidth};
 ghost use Rattle.move_cycle.specs.Steps.{upFrom};
-ghost use Rattle.solve_walk.specs.Walk.{
-  another,
-  firstMet,
-  downWalk,
-  upWalk,
-  cycleOf,
-  byteOf,
-  walked,
-  packed,
-  stride,
-};
+ghost use Rattle.solve_walk.specs.Walk.{another, firstMet, downWalk, upWalk, cycleOf, byteOf, packed};
+ghost use Rattle.solve_walk.specs.Inner.{walked, stride};
 ghost use Rattle.solve_walk.specs.Chart.{Charted, Seen, anotherIn, partsIn};
 
 // The steps of a walk, a byte each, from the first on; 0 in the places past them.

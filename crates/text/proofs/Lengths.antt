@@ -8,7 +8,7 @@ use Prim.Native.Nat.{ℕ, zero, suc, _+_, _-_, _*_, _^_, _<_, _≤_}
 use native.Mathlib.Nat.{mul-le-mul-right}
 use native.Mathlib.Omega.{arith}
 use lib.ListN.{length, replicate, length-append}
-use Rattle.lists.specs.Members.{Below}
+use Rattle.lists.specs.Inner.{Below}
 use Rattle.lists.proofs.Laws.{lt-or-ge}
 use Rattle.decimal.specs.Decimal.{decimal}
 use Rattle.decimal.proofs.Laws.{decimal-length}

@@ -1,4 +1,4 @@
--- What the reader's structs stand for: a value with the text behind it, or a refusal.
+-- For inner contracts only: what the reader's structs stand for, a value with the text behind it, or a refusal.
 use mathlib.Core.Path.{_≡_}
 use mathlib.Core.List.{List}
 use mathlib.Core.Logic.{_≢_}

@@ -1,4 +1,4 @@
--- The rules of a network over the lists that hold its numbers.
+-- For inner contracts only: the rules of a network over the lists that hold its numbers.
 use mathlib.Core.Bool.{Bool, not}
 use mathlib.Core.List.{List}
 use Prim.Native.Nat.{ℕ}

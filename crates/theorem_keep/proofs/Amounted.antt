@@ -15,7 +15,8 @@ use Rattle.lists.proofs.Laws.{Known, was-true, was-false, known, eq-or-ne, pick
 use Rattle.board.specs.declared.Board.{Board}
 use Rattle.graph_flows.specs.Trails.{Step, down, up, edgeOf, Trail, stay, go, Closed, In}
 use Rattle.move_guard.specs.Parts.{flow, head, demand, place}
-use Rattle.move_cycle.specs.Amounts.{smaller, isShort, raise, allowed, amountFrom, amount}
+use Rattle.move_cycle.specs.Amounts.{smaller, isShort, raise, amountFrom, amount}
+use Rattle.move_cycle.specs.Inner.{allowed}
 use Rattle.theorem_keep.specs.Allowed.{Attained, zeroed, met}
 
 -- r is positive and at most a

@@ -15,7 +15,8 @@ use Rattle.board.specs.Limits.{maxEdges, maxTerminals, maxMoves, maxFlow, maxTo
 use Rattle.board.specs.declared.Board.{Board}
 use Rattle.text_rules.specs.Rules.{edgeFits, terminalFits, countsFit, judged, lawful, Lawful}
 use Rattle.text_rules.proofs.Meaning.{lawful-tested}
-use Rattle.graph_flows.specs.Paths.{PositiveEdge, EndsBelow, rank}
+use Rattle.graph_flows.specs.Paths.{PositiveEdge, EndsBelow}
+use Rattle.graph_flows.specs.Inner.{rank}
 use Rattle.graph_flows.proofs.Rank.{rank-rises}
 use Rattle.graph_flows.proofs.Cut.{flow-most}
 use Rattle.load.specs.Load.{acyclicOf}

@@ -10,7 +10,8 @@ use Rattle.lists.proofs.Laws.{lt-or-ge}
 use Rattle.board.specs.Limits.{maxFlow}
 use Rattle.board.specs.declared.Network.{Network}
 use Rattle.text_rules.specs.Rules.{demandAt, Lawful}
-use Rattle.graph_flows.specs.Paths.{PositiveEdge, EndsBelow, Acyclic, rank}
+use Rattle.graph_flows.specs.Paths.{PositiveEdge, EndsBelow, Acyclic}
+use Rattle.graph_flows.specs.Inner.{rank}
 use Rattle.graph_flows.proofs.Source.{none-enters, rank-source}
 use Rattle.graph_flows.proofs.Cancel.{acyclic-length, acyclic-below, acyclic-balance, acyclic-acyclic}
 use Rattle.load.specs.Load.{acyclicOf}

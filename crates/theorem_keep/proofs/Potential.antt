@@ -16,7 +16,7 @@ use Rattle.board.specs.Limits.{maxMoves}
 use Rattle.board.specs.declared.Board.{Board}
 use Rattle.board.specs.declared.Network.{Network}
 use Rattle.text_rules.specs.Rules.{Lawful}
-use Rattle.graph_flows.specs.Paths.{rank}
+use Rattle.graph_flows.specs.Inner.{rank}
 use Rattle.graph_flows.proofs.Rank.{rank-rises, rank-below}
 use Rattle.lists.proofs.Totals.{total-less, total-most}
 use Rattle.graph_flows.proofs.Positives.{positives, positives-within, positives-below}

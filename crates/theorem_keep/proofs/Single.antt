@@ -11,7 +11,8 @@ use native.Mathlib.Nat.{add-zero}
 use lib.Dec.{ltb}
 use lib.ListN.{length, getD}
 use borrow.Author.Tests.{eqb-true, eq-eqb, ltb-true, ltb-false, lt-ltb}
-use Rattle.lists.specs.Members.{has, Distinct, Below}
+use Rattle.lists.specs.Members.{has, Distinct}
+use Rattle.lists.specs.Inner.{Below}
 use Rattle.lists.proofs.Laws.{above-inside, Known, was-true, was-false, known, lt-or-ge, both-left, both-right, both-true}
 use Rattle.lists.proofs.Lowest.{lowest-least, lowest-found}
 use Rattle.lists.proofs.Pigeon.{has-nothing, has-here, has-later, has-cases, pigeon}

@@ -1,4 +1,4 @@
--- What holds on every board reached by play. Edges range over e, e' and g, terminals over i and j, vertices over v.
+-- What holds on every board reached by play, for inner contracts only: why the promises are kept. Edges range over e, e' and g, terminals over i and j, vertices over v.
 use mathlib.Core.Path.{_≡_}
 use mathlib.Core.Bool.{true, false}
 use mathlib.Core.Logic.{_⊎_}

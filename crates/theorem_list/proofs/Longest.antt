@@ -12,7 +12,8 @@ use lib.Dec.{ltb}
 use lib.ListN.{length, getD, replicate, length-append}
 use Rattle.lists.specs.Choice.{pick}
 use Rattle.lists.specs.Lists.{total, most}
-use Rattle.lists.specs.Members.{has, Distinct, Below}
+use Rattle.lists.specs.Members.{has, Distinct}
+use Rattle.lists.specs.Inner.{Below}
 use Rattle.lists.proofs.Laws.{Known, was-true, was-false, known, lt-or-ge, pick-yes, pick-no}
 use Rattle.lists.proofs.Pigeon.{has-here}
 use Rattle.board.specs.Limits.{maxFlow}

@@ -13,7 +13,8 @@ use lib.Dec.{ltb, eqb}
 use lib.ListN.{length, getD, drop, length-drop, length-append}
 use borrow.Author.Tests.{ltb-true, ltb-false, eqb-true, eqb-false}
 use Rattle.lists.specs.Lists.{indexOf}
-use Rattle.lists.specs.Members.{has, Distinct, Below}
+use Rattle.lists.specs.Members.{has, Distinct}
+use Rattle.lists.specs.Inner.{Below}
 use Rattle.lists.proofs.Laws.{Known, was-true, was-false, known, eq-or-ne}
 use Rattle.lists.proofs.Joined.{has-not, has-last, has-front, has-joined, distinct-joined, below-joined}
 use Rattle.lists.proofs.Pigeon.{has-nothing, has-here, has-later, both-missed, pigeon}

@@ -1,4 +1,4 @@
--- What the report and the program `sheet` say of a board that a load gave.
+-- For inner contracts only: what the report and the program `sheet` say of a board that a load gave.
 use mathlib.Core.Path.{_≡_}
 use mathlib.Core.List.{List}
 use Prim.Native.Nat.{ℕ}

@@ -1,7 +1,8 @@
 -- What is found so far and what is left of the edges to look at have the fresh edges between them.
 use Prim.Native.Nat.{_<_, _^_}
 use native.Mathlib.Omega.{arith}
-use Rattle.sets.specs.Sets.{setWidth, collect}
+use Rattle.sets.specs.Sets.{collect}
+use Rattle.sets.specs.Inner.{setWidth}
 use Rattle.sets.proofs.Scan.{lowest-below, dropped-less}
 use Rattle.move_edges.specs.Marking.{singularBy, isFreshBy}
 use Rattle.move_edges.proofs.Gathering.{lowest-in, FoundOrLeft, found-none, found-turn, found-end}

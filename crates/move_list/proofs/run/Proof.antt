@@ -16,7 +16,8 @@ use Rattle.move_guard.specs.Moved.{lastEntry}
 use Rattle.move_guard.specs.Guard.{playing}
 use Rattle.move_guard.proofs.Parts.{last-read, in-play}
 use Rattle.move_undo.proofs.Makes.{undo-small}
-use Rattle.move_list.specs.Calls.{made, plain}
+use Rattle.move_list.specs.Calls.{made}
+use Rattle.move_list.specs.Inner.{plain}
 use Rattle.move_list.specs.Codes.{callOf}
 use Rattle.move_list.proofs.Coded.{all-left, played-end, answers-end, told-end}
 use Rattle.move_list.proofs.Moving.{BoardSized, Going, going-turn, move-room, move-stored, move-past, move-refused, move-replied}

@@ -3,7 +3,7 @@ use mathlib.Core.Path.{sym, _∙_}
 use Prim.Native.Nat.{_<_, _^_}
 use denote.Ref.{now}
 use borrow.Author.Tests.{not-true, not-false}
-use Rattle.sets.specs.Sets.{setWidth}
+use Rattle.sets.specs.Inner.{setWidth}
 use Rattle.move_cycle.specs.Steps.{stepsOf}
 use Rattle.move_turn.proofs.Passing.{in-sets, refused-6, refused-7, refused-24, refused-25, refused-26, steps-accepted, ups-same}
 use borrow.Author.Needs.{needs}

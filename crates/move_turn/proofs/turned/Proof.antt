@@ -2,7 +2,7 @@
 use mathlib.Core.Path.{_≡_, _∙_}
 use Prim.Native.Nat.{_<_, _^_}
 use lib.ListN.{length}
-use Rattle.sets.specs.Sets.{setWidth}
+use Rattle.sets.specs.Inner.{setWidth}
 use Rattle.board.specs.Limits.{maxEdges, maxTerminals, maxTotal}
 use Rattle.move_edges.proofs.Following.{fresh-same}
 use Rattle.move_cycle.proofs.Raising.{least-small}

@@ -2,7 +2,7 @@
 use Prim.Native.Nat.{_≤_}
 use native.Mathlib.Omega.{arith}
 use borrow.Author.Needs.{needs}
-use Rattle.descriptors.specs.Serving.{BehindPieces}
+use Rattle.descriptors.specs.Inner.{BehindPieces}
 use Rattle.descriptors.proofs.PrintedPieces.{behind-none, behind-more}
 use Rattle.play.proofs.all_pieces.Statement.{statement}
 use Rattle.play.proofs.all_pieces.Tie as tie

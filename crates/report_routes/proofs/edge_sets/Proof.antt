@@ -6,7 +6,7 @@ use lib.ListN.{length, length-set}
 use borrow.Author.Needs.{needs}
 use Rattle.lists.proofs.Laws.{zeros-at}
 use Rattle.board.specs.Limits.{maxTerminals}
-use Rattle.report_routes.specs.Tables.{RouteSets}
+use Rattle.report_routes.specs.Inner.{RouteSets}
 use Rattle.report_routes.proofs.Loops.{sets-turn}
 use Rattle.report_routes.proofs.edge_sets.Statement.{statement}
 use Rattle.report_routes.proofs.edge_sets.Tie as tie

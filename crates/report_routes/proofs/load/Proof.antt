@@ -6,7 +6,7 @@ use native.Mathlib.Omega.{arith}
 use borrow.Author.Needs.{needs}
 use Rattle.lists.specs.Lists.{total}
 use Rattle.board.specs.Limits.{maxTerminals, maxFlow}
-use Rattle.report_routes.specs.Tables.{setLoad}
+use Rattle.report_routes.specs.Inner.{setLoad}
 use Rattle.report_routes.proofs.Loops.{part, load-start, load-turn, total-end}
 use Rattle.report_routes.proofs.load.Statement.{statement}
 use Rattle.report_routes.proofs.load.Tie as tie

@@ -3,7 +3,7 @@
 use mathlib.Core.Path.{sym, ap, _∙_}
 use Prim.Native.Nat.{ℕ, _-_}
 use Rattle.lists.proofs.Laws.{pick-yes, pick-no}
-use Rattle.sets.specs.Sets.{dropped}
+use Rattle.sets.specs.Inner.{dropped}
 use Rattle.sets.proofs.Scan.{has-inside, has-least, shifted-one}
 use borrow.Author.Needs.{needs}
 use Rattle.sets.proofs.drop.Statement.{statement}

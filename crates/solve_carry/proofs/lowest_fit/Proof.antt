@@ -3,7 +3,7 @@ use mathlib.Core.Path.{_≡_, refl, sym, _∙_}
 use Prim.Native.Nat.{_<_, _^_}
 use native.Mathlib.Omega.{arith}
 use borrow.Author.Needs.{needs}
-use Rattle.sets.specs.Sets.{setWidth}
+use Rattle.sets.specs.Inner.{setWidth}
 use Rattle.sets.proofs.Scan.{dropped-less}
 use Rattle.solve_carry.specs.Search.{fitIn}
 use Rattle.solve_carry.proofs.Finds.{lowest-in, fit-here, fit-later, fit-none}
