@@ -3,7 +3,7 @@ use mathlib.Core.Path.{_≡_}
 use mathlib.Core.List.{List}
 use Prim.Native.Nat.{ℕ}
 use Rattle.play_session.specs.declared.Session.{Session}
-use Rattle.descriptors.specs.Serving.{session, servedPieces}
+use Rattle.descriptors.specs.Serving.{servedPieces}
 
 -- r is the session s behind some pieces
 pub record BehindPieces (s r : Session) : Type 0 where

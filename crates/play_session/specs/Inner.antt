@@ -6,6 +6,7 @@ use lib.Dec.{eqb}
 use Rattle.play_session.specs.declared.Session.{Session}
 use Rattle.play_session.specs.Machine.{grown, lineEnded, lineTold, endTold}
 
+-- what a session prints for the bytes, and at the end of them
 unfoldable pub runs : Session → List ℕ → List ℕ
 runs s [] = endTold s
 runs s (c ∷ cs) = elim (eqb c 10) [ true ↦ lineTold s ++ runs (lineEnded s) cs | false ↦ runs (grown s (c ∷ [])) cs ]

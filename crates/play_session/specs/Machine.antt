@@ -148,5 +148,3 @@ fedSession s bytes = pick (hasLine bytes) (lineEnded (grown s (take (indexOf 10 
 
 unfoldable pub fedTold : Session → List ℕ → List ℕ
 fedTold s bytes = pick (hasLine bytes) (lineTold (grown s (take (indexOf 10 bytes) bytes))) []
-
--- ---- the whole input, byte by byte
