@@ -6,11 +6,10 @@ use solve_carry::Found;
 use solve_walk::Walk;
 ghost use mathlib.Core.Path.{_≡_};
 ghost use mathlib.Core.Bool.{true};
-ghost use Prim.Native.Nat.{_≤_, _<_};
-ghost use Rattle.lists.specs.Lists.{lowest};
+ghost use Prim.Native.Nat.{_≤_};
 ghost use Rattle.board.specs.Limits.{maxEdges};
 ghost use Rattle.move_guard.specs.Guard.{playing};
-ghost use Rattle.solve_carry.specs.Search.{hasOpenAt, chosenEdgeIn};
+ghost use Rattle.solve_carry.specs.Search.{foundCarry};
 ghost use Rattle.solve_walk.specs.Walk.{cycleOf, packed};
 ghost use Rattle.solve_next.specs.Parts.{Searchable, Walkable};
 ghost use Rattle.solve_next.specs.Choosing.{allHomeIn, judge, nextAct, noAdvice, adviceOf, actOf};
@@ -71,10 +70,7 @@ fn next_carry(
     places: [u32; Board::MAX_TERMINALS],
 ) -> Found
     requires { ⌜ Searchable net flows places ⌝ }
-    ensures { λ r. ⌜ r .terminal ≡ lowest (hasOpenAt (net .heads) (net .demands) (net .edges) flows marks places) 0
-        (net .terminals) ⌝ }
-    ensures { λ r. ⌜ (r .terminal < net .terminals → r .edge
-        ≡ chosenEdgeIn (net .heads) (net .demands) (net .edges) flows marks places (r .terminal)) ⌝ }
+    ensures { λ r. ⌜ r ≡ foundCarry (net .heads) (net .demands) (net .edges) flows marks places (net .terminals) ⌝ }
 {
     let heads = net.heads;
     let entering = move_edges::at_vertices(heads);

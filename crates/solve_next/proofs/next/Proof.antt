@@ -1,6 +1,7 @@
 -- A board in play is one that the search and the walk take: a terminal found makes a carry, none makes a turn.
 use mathlib.Core.Path.{_∙_}
 use borrow.Author.Needs.{needs}
+use Rattle.solve_carry.proofs.Finds.{found-terminal, found-edge}
 use Rattle.solve_next.specs.Choosing.{nextCycle}
 use Rattle.solve_next.specs.Parts.{Walkable}
 use Rattle.solve_next.proofs.Intact.{playing-searchable, playing-walkable}
@@ -24,8 +25,9 @@ next-carry-requires c κs = let s = c .before .before .before in playing-searcha
 
 returns : tie.Need-returns
 returns c =
-    let found = c .before .before .before .next-carry .ensures in
-    makes-carry _ _ (found .0 ∙ terminal-found _) _ (c .if1 .taken) (found .1 (c .if1 .taken) ∙ edge-found _ _)
+    let found = c .before .before .before .next-carry in
+    makes-carry _ _ (found-terminal _ _ _ _ _ _ _ (found .result) (found .ensures) ∙ terminal-found _) _ (c .if1 .taken)
+    (found-edge _ _ _ _ _ _ _ (found .result) (found .ensures) (c .if1 .taken) ∙ edge-found _ _)
 
 next-cycle-requires : tie.Need-next-cycle-requires
 next-cycle-requires c κs = let s = c .before .before .before .before .before .before .before in walks s
@@ -34,7 +36,8 @@ returns-2 : tie.Need-returns-2
 unfolding nextCycle
 returns-2 c =
     let at-if1 = c .before .before in
-    makes-turn _ _ (at-if1 .before .before .before .next-carry .ensures .0 ∙ terminal-found _) _ (at-if1 .if1 .left) (c .before .next-cycle .ensures)
+    let found = at-if1 .before .before .before .next-carry in
+    makes-turn _ _ (found-terminal _ _ _ _ _ _ _ (found .result) (found .ensures) ∙ terminal-found _) _ (at-if1 .if1 .left) (c .before .next-cycle .ensures)
 
 pub next-spec : {M : Type 1} → statement M
 next-spec = tie.close (tie.spec next-carry-requires returns next-cycle-requires returns-2)
