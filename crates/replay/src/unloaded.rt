@@ -1,5 +1,5 @@
-// Boards that no load gave, whose counts are past every limit: in play, finished, and of a stage that there is not. On
-// each it makes every call, as often again as the count says, and prints the number of the refusal once.
+// Boards that no load gave, with counts past every limit: in play, finished, and of a stage that there is not. On each
+// it makes every call, as often again as the count says, and prints the number of the refusal once.
 use super::framing;
 use board::Board;
 use board::Network;
@@ -24,16 +24,29 @@ const WRITE: u32 = 7;
 // The first stage that no board has.
 const NO_STAGE: u32 = 3;
 
-// A board with the greatest of all counts, and zeros in its lists.
-fn past_limits(stage: u32) -> Board {
+// The last of the boards.
+const LAST_BOARD: u32 = 3;
+
+// The greatest number, or none.
+fn greatest(is_great: bool) -> u32 {
+    if is_great { u32::MAX } else { 0 }
+}
+
+// All counts are the greatest number, and the lists zeros (0); or the count of the vertices alone is (1), that of the
+// terminals (2), those of the edges and the terminals (3). Source and places hold the board's number, so that no
+// terminal is found at the source or at an edge.
+fn past_limits(stage: u32, number: u32) -> Board {
     let mut network = Network::empty();
-    network.vertices = u32::MAX;
-    network.edges = u32::MAX;
-    network.terminals = u32::MAX;
+    network.vertices = greatest(number <= 1);
+    network.edges = greatest(lists::or(number == 0, number == 3));
+    network.terminals = greatest(number != 1);
+    network.source = number;
+    let places = [number; Board::MAX_TERMINALS];
     let mut board = Board::closed();
     board.stage = stage;
     board.network = network;
-    board.moves = u32::MAX;
+    board.places = places;
+    board.moves = greatest(number == 0);
     board
 }
 
@@ -102,10 +115,19 @@ fn all_calls(board: Board, count: u32) -> bool {
     WRITE < call
 }
 
+// The boards of a stage; whether all of the numbers were printed.
+fn all_numbers(stage: u32, count: u32) -> bool {
+    let mut number: u32 = 0;
+    while number <= LAST_BOARD && all_calls(past_limits(stage, number), count) {
+        number += 1;
+    }
+    LAST_BOARD < number
+}
+
 // The boards of all stages; whether all of the numbers were printed.
 pub fn all_stages(count: u32) -> bool {
     let mut stage = Board::PLAY;
-    while stage <= NO_STAGE && all_calls(past_limits(stage), count) {
+    while stage <= NO_STAGE && all_numbers(stage, count) {
         stage += 1;
     }
     NO_STAGE < stage

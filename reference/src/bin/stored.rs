@@ -94,12 +94,12 @@ fn trials() -> Part {
     (b'L', trials.len(), input, output.into_bytes())
 }
 
-/// Boards that no load gave, in play, finished and of a stage that there is not; on each a carry, the empty turn, a turn of one step, an undo, a hint, a
-/// finish, a sheet and the board writer, each made a thousand times after the first. Their numbers are document 01's: "20 play is over (a finish was
-/// accepted), or no board was loaded", "29 nothing was loaded".
+/// Boards that no load gave, four in play, four finished and four of a stage that there is not; on each a carry, the empty turn, a turn of one step,
+/// an undo, a hint, a finish, a sheet and the board writer, each made a thousand times after the first. Their numbers are document 01's: "20 play is
+/// over (a finish was accepted), or no board was loaded", "29 nothing was loaded".
 fn unloaded() -> Part {
     let of_a_board = [20, 20, 20, 20, 20, 20, 29, 29].map(|number| format!("{number}\n")).concat();
-    (b'U', 1000, Vec::new(), of_a_board.repeat(3).into_bytes())
+    (b'U', 1000, Vec::new(), of_a_board.repeat(12).into_bytes())
 }
 
 /// The program `replay`: parts of five kinds, each behind its letter and its count in four bytes, the highest first.

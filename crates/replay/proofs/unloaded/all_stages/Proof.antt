@@ -13,11 +13,8 @@ abbrev μ-loop : tie.MeasureT-loop
 loop-holds : tie.Need-loop-holds Inv-loop μ-loop
 loop-holds c = search needs
 
-past-limits-requires : tie.Need-past-limits-requires Inv-loop μ-loop
-past-limits-requires c κs = search needs
-
-all-calls-requires : tie.Need-all-calls-requires Inv-loop μ-loop
-all-calls-requires c κs = search needs
+all-numbers-requires : tie.Need-all-numbers-requires Inv-loop μ-loop
+all-numbers-requires c κs = search needs
 
 add-stage : tie.Need-add-stage Inv-loop μ-loop
 add-stage c = search needs
@@ -38,8 +35,7 @@ all-stages-spec =
     Inv-loop
     μ-loop
     loop-holds
-    past-limits-requires
-    all-calls-requires
+    all-numbers-requires
     add-stage
     loop-less
     loop-again
