@@ -67,6 +67,19 @@ mod exported {
             buffer_length: usize,
             used: *mut usize,
         ) -> u32;
+
+        pub fn vulprow_write(
+            text: *const u8,
+            text_length: usize,
+            codes: *const u32,
+            codes_length: usize,
+            steps: *const u8,
+            steps_length: usize,
+            finishes: u32,
+            buffer: *mut u8,
+            buffer_length: usize,
+            used: *mut usize,
+        ) -> u32;
     }
 }
 
@@ -158,6 +171,24 @@ pub fn finish(text: &[u8], (codes, steps): Calls, given: &mut [u32], hints: &mut
 pub fn sheet(text: &[u8], (codes, steps): Calls, finishes: bool, buffer: &mut [u8], used: &mut usize) -> u32 {
     unsafe {
         exported::vulprow_sheet(
+            text.as_ptr(),
+            text.len(),
+            codes.as_ptr(),
+            codes.len(),
+            steps.as_ptr(),
+            steps.len(),
+            u32::from(finishes),
+            buffer.as_mut_ptr(),
+            buffer.len(),
+            used,
+        )
+    }
+}
+
+/// The board text of the board behind the calls, or behind a finish after them: the writer's answer, the length of the text and the buffer.
+pub fn write(text: &[u8], (codes, steps): Calls, finishes: bool, buffer: &mut [u8], used: &mut usize) -> u32 {
+    unsafe {
+        exported::vulprow_write(
             text.as_ptr(),
             text.len(),
             codes.as_ptr(),

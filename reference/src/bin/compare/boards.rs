@@ -1,11 +1,11 @@
 //! A board through engine, reference and fast program: loaded, finished and reported.
 
 use crate::play::{finished_by_engine, finished_by_player, journal_of_entries, Finished};
-use crate::report::reported_by_engine;
+use crate::report::Answered;
 use crate::{same, Tally};
 use reference::boards::random_board;
 use reference::encoded::{number, ENTRY};
-use reference::engine::{End, EDGES, TERMINALS};
+use reference::engine::{self, End, EDGES, TERMINALS};
 use reference::fast::{Board, Entry};
 use reference::player::Player;
 use reference::random::Random;
@@ -42,7 +42,8 @@ fn compare_board(fast: &mut Board, text: &[u8], tally: &mut Tally) -> Result<(),
     let mut buffer = vec![0; report.len()];
     let length = fast.report(&mut buffer).map_err(|refusal| format!("the fast program refuses a report with {refusal}"))?;
     same(text, &report[..], &buffer[..length])?;
-    same(text, &report, &reported_by_engine(text, &[], true, vec![0; report.len()]).buffer)?;
+    let reported = Answered::by_engine(vec![0; report.len()], |buffer, used| engine::sheet(text, (&[], &[]), true, buffer, used));
+    same(text, &report, &reported.buffer)?;
     *tally.entry("boards".into()).or_default() += 1;
     *tally.entry("moves of finishes".into()).or_default() += u64::from(finished.count);
     Ok(())

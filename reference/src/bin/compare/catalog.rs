@@ -1,6 +1,7 @@
 //! The catalog: every board written into buffers of several lengths, its text loaded, and lists of calls made on it.
 
 use crate::play::compare_play;
+use crate::report::Answered;
 use crate::{compare_load, same, Tally};
 use reference::catalog::{write, BOARDS};
 use reference::encoded::random_list;
@@ -10,28 +11,14 @@ use reference::random::Random;
 /// Lists of calls for each board.
 const LISTS: usize = 5;
 
-/// What a call answered, the length of the text, and the buffer then.
-type Answered = (u32, usize, Vec<u8>);
-
-fn by_engine(number: u32, mut buffer: Vec<u8>) -> Answered {
-    let mut used = usize::MAX;
-    let answer = engine::catalog(number, &mut buffer, &mut used);
-    (answer, used, buffer)
-}
-
-fn by_reference(number: u32, mut buffer: Vec<u8>) -> Answered {
-    match write(number, &mut buffer) {
-        Ok(used) => (0, used, buffer),
-        Err(refusal) => (refusal, 0, buffer),
-    }
-}
-
 /// A number, and a buffer of this length, which held something else before.
 fn compare_write(rng: &mut Random, number: u32, length: usize, tally: &mut Tally) -> Result<(), String> {
     let buffer = rng.bytes(length);
     let input = format!("catalog, board {number}, {length} bytes of room");
-    let (answer, ..) = same(input.as_bytes(), by_reference(number, buffer.clone()), by_engine(number, buffer))?;
-    *tally.entry(format!("catalog {answer}")).or_default() += 1;
+    let by_reference = Answered::by_reference(buffer.clone(), |buffer| write(number, buffer));
+    let by_engine = Answered::by_engine(buffer, |buffer, used| engine::catalog(number, buffer, used));
+    let answered = same(input.as_bytes(), by_reference, by_engine)?;
+    *tally.entry(format!("catalog {}", answered.answer)).or_default() += 1;
     Ok(())
 }
 

@@ -1,7 +1,7 @@
 //! Lists of carries, turns, undos and hints through engine and reference: the answers, the rule that each hint keeps, the whole board at the end,
-//! journal included, the board that a finish makes of it, and its report.
+//! journal included, the board that a finish makes of it, and the texts of both boards.
 
-use crate::report::compare_report;
+use crate::report::compare_texts;
 use crate::{same, Tally};
 use reference::encoded::{call_by_reference, codes_of, entries, number, set_of, EngineCall, ENTRY};
 use reference::engine::{self, End, EDGES, MOVES, TERMINALS};
@@ -154,7 +154,7 @@ fn compare_finish(text: &[u8], calls: &[EngineCall], tally: &mut Tally) -> Resul
     check_hints(text, calls, &hints, tally)?;
     *tally.entry(format!("finish {}", finished.answer)).or_default() += 1;
     *tally.entry("moves of finishes".into()).or_default() += u64::from(finished.count);
-    compare_report(text, calls, tally)
+    compare_texts(text, calls, tally)
 }
 
 /// A text loaded, a list of calls made by both, and a finish after them; with `at_every_call`, a finish from every board on the way, too.

@@ -1,5 +1,5 @@
-//! The route report of a board that a list of calls leads to, before a finish and after it, through engine and reference; and inputs through the programs
-//! `sheet` and `play` themselves.
+//! The route report and the board text of a board that a list of calls leads to, before a finish and after it, through engine and reference; and
+//! inputs through the programs `sheet` and `play` themselves.
 
 use crate::{same, Tally};
 use reference::boards::random_board;
@@ -7,53 +7,99 @@ use reference::calls::random_input;
 use reference::damage::damaged;
 use reference::encoded::{call_by_reference, codes_of, EngineCall};
 use reference::engine;
-use reference::player::Player;
+use reference::player::{Player, Written};
 use reference::programs::{play, sheet};
 use reference::random::Random;
 use reference::text::write;
 use std::io::Write;
 use std::process::{Command, Stdio};
 
-/// What the call `sheet` answered, and the buffer then.
+/// What a call that writes a text answered, the length of the text, and the buffer then.
 #[derive(Debug, PartialEq, Eq)]
-pub struct Reported {
-    answer: u32,
+pub struct Answered {
+    pub answer: u32,
     used: usize,
     pub buffer: Vec<u8>,
 }
 
-pub fn reported_by_engine(text: &[u8], calls: &[EngineCall], finishes: bool, mut buffer: Vec<u8>) -> Reported {
-    let (codes, steps) = codes_of(calls);
-    let mut used = usize::MAX;
-    let answer = engine::sheet(text, (&codes, &steps), finishes, &mut buffer, &mut used);
-    Reported { answer, used, buffer }
+impl Answered {
+    pub fn by_engine(mut buffer: Vec<u8>, call: impl FnOnce(&mut [u8], &mut usize) -> u32) -> Answered {
+        let mut used = usize::MAX;
+        let answer = call(&mut buffer, &mut used);
+        Answered { answer, used, buffer }
+    }
+
+    pub fn by_reference(mut buffer: Vec<u8>, call: impl FnOnce(&mut [u8]) -> Written) -> Answered {
+        let (answer, used) = match call(&mut buffer) {
+            Ok(used) => (0, used),
+            Err(refusal) => (refusal, 0),
+        };
+        Answered { answer, used, buffer }
+    }
 }
 
-fn reported_by_reference(player: &Player, mut buffer: Vec<u8>) -> Reported {
-    let (answer, used) = match player.sheet(&mut buffer) {
-        Ok(used) => (0, used),
-        Err(refusal) => (refusal, 0),
-    };
-    Reported { answer, used, buffer }
+/// A call that writes a text of a board: its name, the engine's function and the reference's.
+struct Writer {
+    name: &'static str,
+    engine: fn(&[u8], engine::Calls, bool, &mut [u8], &mut usize) -> u32,
+    reference: fn(&Player, &mut [u8]) -> Written,
 }
 
-/// The report before a finish and after it; after it into a buffer that is too short by a byte, one that fits, and one with bytes behind the text.
-pub fn compare_report(text: &[u8], calls: &[EngineCall], tally: &mut Tally) -> Result<(), String> {
+const REPORT: Writer = Writer { name: "sheet", engine: engine::sheet, reference: Player::sheet };
+const BOARD_TEXT: Writer = Writer { name: "write", engine: engine::write, reference: Player::write };
+
+/// The board behind a list of calls, or behind a finish after them: how the engine gets there, and the reference's player there.
+struct Reached<'a> {
+    text: &'a [u8],
+    calls: engine::Calls<'a>,
+    finishes: bool,
+    player: &'a Player,
+}
+
+impl Reached<'_> {
+    /// A text of the board into a buffer of this length, which held something else before.
+    fn compare(&self, writer: &Writer, length: usize, tally: &mut Tally) -> Result<Answered, String> {
+        let Reached { text, calls, finishes, player } = *self;
+        let buffer: Vec<u8> = (0..length).map(|at| at as u8 ^ 0xa5).collect();
+        let by_reference = Answered::by_reference(buffer.clone(), |buffer| (writer.reference)(player, buffer));
+        let by_engine = Answered::by_engine(buffer, |buffer, used| (writer.engine)(text, calls, finishes, buffer, used));
+        let answered = same(text, by_reference, by_engine)?;
+        let behind = if finishes { "a finish" } else { "calls" };
+        *tally.entry(format!("{} after {behind} {}", writer.name, answered.answer)).or_default() += 1;
+        Ok(answered)
+    }
+
+    /// "The board writer gives the loaded text at every stage of play": into a buffer that is too short by a byte, one that fits, and one with
+    /// bytes behind the text.
+    fn compare_board_text(&self, tally: &mut Tally) -> Result<(), String> {
+        let length = self.text.len();
+        [length.saturating_sub(1), length, length + 7].into_iter().try_for_each(|room| {
+            let answered = self.compare(&BOARD_TEXT, room, tally)?;
+            match answered.answer {
+                0 => same(self.text, self.text, &answered.buffer[..answered.used]).map(drop),
+                _ => Ok(()),
+            }
+        })
+    }
+}
+
+/// The report and the board text before a finish and after it; the report after it into a buffer that is too short by a byte, one that fits, and
+/// one with bytes behind the text.
+pub fn compare_texts(text: &[u8], calls: &[EngineCall], tally: &mut Tally) -> Result<(), String> {
     let (_, mut player) = Player::load(text);
     for call in calls {
         call_by_reference(&mut player, call);
     }
-    let mut compare = |player: &Player, finishes: bool, length: usize| {
-        let buffer: Vec<u8> = (0..length).map(|at| at as u8 ^ 0xa5).collect();
-        let by_reference = reported_by_reference(player, buffer.clone());
-        let reported = same(text, by_reference, reported_by_engine(text, calls, finishes, buffer))?;
-        *tally.entry(format!("sheet {}", reported.answer)).or_default() += 1;
-        Ok::<(), String>(())
-    };
-    compare(&player, false, 9_000)?;
-    let _ = player.finish();
-    let length = player.sheet_text().map_or(1, |report| report.len());
-    [length - 1, length, length + 7].into_iter().try_for_each(|length| compare(&player, true, length))
+    let (codes, steps) = codes_of(calls);
+    let played = Reached { text, calls: (&codes, &steps), finishes: false, player: &player };
+    played.compare(&REPORT, 9_000, tally)?;
+    played.compare_board_text(tally)?;
+    let mut finished = player.clone();
+    let _ = finished.finish();
+    let finished = Reached { finishes: true, player: &finished, ..played };
+    finished.compare_board_text(tally)?;
+    let length = finished.player.sheet_text().map_or(1, |report| report.len());
+    [length - 1, length, length + 7].into_iter().try_for_each(|length| finished.compare(&REPORT, length, tally).map(drop))
 }
 
 /// The stack that each program is run in, in KiB.
