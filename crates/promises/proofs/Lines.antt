@@ -65,7 +65,7 @@ module _ (b : Board) (off : playing b ≡ false) where
   line-over other s os ih = rw (number-alone b other refl, ih)
 
   lines-over : (l s : List ℕ) → repliesFrom b l s ≡ saidOver (ordersFrom l s)
-  unfolding repliesFrom ordersFrom
+  unfolding repliesFrom ordersFrom saidOver pick
   lines-over l [] = go (known (eqb (length l) 0))
     where
       go : Known (eqb (length l) 0) → repliesFrom b l [] ≡ saidOver (ordersFrom l [])
@@ -96,7 +96,7 @@ module _ (text : List ℕ) (loads : loadText text .answer ≡ 0) where
   line-said ms st other s ih = rw (number-alone (afresh text ms) other refl, ih ms st)
 
   lines-said : (l s : List ℕ) (ms : List Call) → Stands text ms → repliesFrom (afresh text ms) l s ≡ said text ms (ordersFrom l s)
-  unfolding repliesFrom ordersFrom
+  unfolding repliesFrom ordersFrom said replied pick
   lines-said l [] ms st = go (known (eqb (length l) 0))
     where
       go : Known (eqb (length l) 0) → repliesFrom (afresh text ms) l [] ≡ said text ms (ordersFrom l [])
