@@ -37,17 +37,17 @@ use Rattle.theorem_keep.proofs.Standing.{Standing, carry-undone, turn-undone}
 use Rattle.theorem_list.specs.Player.{Offered}
 use Rattle.theorem_list.proofs.Degrees.{starts}
 use Rattle.theorem_list.proofs.Ends.{home-facts}
-use Rattle.theorem_list.proofs.Stops.{all-dry}
+use Rattle.theorem_list.proofs.Stops.{none-positive}
 use Rattle.theorem_list.proofs.Finish.{hint-taken}
 use Rattle.theorem_list.proofs.Next.{next-accepted}
 use Rattle.promises.specs.Plays.{OfPlay}
 use Rattle.promises.specs.Moves.{AboutMoves}
 use Rattle.promises.proofs.Plays.{play-standing}
 
-single : (b : Board) (e : ℕ) → Invariant b → e < b .network .edges
+singular-means : (b : Board) (e : ℕ) → Invariant b → e < b .network .edges
     → (singular b e ≡ true) ↔ Unparted (b .network .tails) (b .network .heads) (b .flows) (head b e)
 unfolding singular
-single b e inv h = (
+singular-means b e inv h = (
   λ s. straight-unparted (b .network .tails) (b .network .heads) (b .flows) (b .network .vertices) (head b e) (joined b inv) (inv .lawful .head e h) s,
   λ u. unparted-single b inv e u,
 )
@@ -85,7 +85,7 @@ none-home b h o q = sym (pick-yes (eqb (h .advice .kind) noKind) (allHome b) _ (
 
 -- no positive edge leaves the source exactly where every terminal is there
 stops : (b : Board) → Invariant b → (allHome b ≡ true) ↔ ((e : ℕ) → 0 < flow b e → tail b e ≡ b .network .source → ⊥)
-stops b inv = (λ all e h q. omega (arith, h, all-dry b inv all e), λ none. by none (known (allHome b)))
+stops b inv = (λ all e h q. omega (arith, h, none-positive b inv all e), λ none. by none (known (allHome b)))
   where
     by : ((e : ℕ) → 0 < flow b e → tail b e ≡ b .network .source → ⊥) → Known (allHome b) → allHome b ≡ true
     by none (was-true t) = t
@@ -93,12 +93,12 @@ stops b inv = (λ all e h q. omega (arith, h, all-dry b inv all e), λ none. by 
 
 pub about-moves : AboutMoves
 about-moves = record {
-  single-iff = λ text b e p. single b e (play-standing text b p .inv);
+  singular-iff = λ text b e p. singular-means b e (play-standing text b p .inv);
   none-marked = unmarked;
   turn-marks = turn-marks;
   carry-marks = carry-kept;
   newly-marked = newly;
-  marked-single = λ text b e p m h. marked-singular b (play-standing text b p .inv) e (record { mark = m; above = h });
+  marked-singular = λ text b e p m h. marked-singular b (play-standing text b p .inv) e (record { mark = m; above = h });
   carry-iff = λ b i e. (carry-facts b i e, λ h. carry-accepted b i e (h .0) (h .1));
   turn-iff = λ b w. (turn-facts b w, λ h. turn-accepted b w (h .0) (h .1));
   amount-down = λ text b w e p h i. amount-down b w e (turn-facts b w h .1 .above) i;
@@ -110,6 +110,6 @@ about-moves = record {
   hint-none = λ text b h p k q.
       let st = play-standing text b p in home-facts b (st .inv) (none-home b h (offered b h st k) q);
   stop-iff = λ text b p. stops b (play-standing text b p .inv);
-  stop-dry = λ text b p all. all-dry b (play-standing text b p .inv) all;
+  stop-zero = λ text b p all. none-positive b (play-standing text b p .inv) all;
   next-accepted = λ text b p away. next-accepted b (play-standing text b p) away;
 }

@@ -180,9 +180,9 @@ writer-same : (b : Board) (buf : List ℕ) → writeText b (length buf) .answer 
 unfolding written
 writer-same b buf h = pick-no _ _ _ (ne-eqb _ 0 h)
 
-shelf-same : (k : ℕ) (buf : List ℕ) → catalogCall k (length buf) .answer ≢ 0 → catalogued k buf ≡ buf
+catalog-same : (k : ℕ) (buf : List ℕ) → catalogCall k (length buf) .answer ≢ 0 → catalogued k buf ≡ buf
 unfolding catalogued
-shelf-same k buf h = pick-no _ _ _ (ne-eqb _ 0 h)
+catalog-same k buf h = pick-no _ _ _ (ne-eqb _ 0 h)
 
 -- the sheet's number is that of its call
 sheet-number : (b : Board) (n : ℕ) → sheetCall b n .answer ≡ sheetRefusal b n
@@ -212,6 +212,6 @@ about-refusals = record {
   finish-refused = finish-same;
   writer-refused = writer-same;
   sheet-refused = sheet-same;
-  shelf-refused = shelf-same;
+  catalog-refused = catalog-same;
   sheet-written = sheet-put;
 }

@@ -55,9 +55,9 @@ pub about-sheets : AboutSheets
 about-sheets = record {
   table-size = large;
   forty-boards = all-accepted;
-  shelf-accepted = loads;
-  shelf-above = above;
-  shelf-short = short;
+  catalog-accepted = loads;
+  catalog-above = above;
+  catalog-short = short;
   sheet-before = λ text b p. rw (p .after) (every-report text (p .calls) (p .accepted) .before);
   sheet-after = after;
   sheet-printed = λ text h. sheet-printed text h .printed;

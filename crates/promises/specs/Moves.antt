@@ -25,7 +25,7 @@ use Rattle.promises.specs.Plays.{OfPlay}
 
 pub record AboutMoves : Type 0 where
   -- "A channel is single when its head, and every pool that can be reached from the head over wet channels, has at most one wet channel leaving"
-  pub single-iff : (text : List ℕ) (b : Board) (e : ℕ) → OfPlay text b → e < b .network .edges
+  pub singular-iff : (text : List ℕ) (b : Board) (e : ℕ) → OfPlay text b → e < b .network .edges
       → (singular b e ≡ true) ↔ Unparted (b .network .tails) (b .network .heads) (b .flows) (head b e)
   -- "a loaded board has none"
   pub none-marked : (text : List ℕ) → loadText text .answer ≡ 0 → loadText text .board .marks ≡ 0
@@ -35,7 +35,7 @@ pub record AboutMoves : Type 0 where
   -- those that it marks newly, which its entry keeps: positive and singular, and not marked before
   pub newly-marked : (b : Board) (e : ℕ) → (hasBit (fresh b) e ≡ true) ↔ ((marked b e ≡ false) × (0 < flow b e) × (singular b e ≡ true))
   -- so a positive marked edge is singular
-  pub marked-single : (text : List ℕ) (b : Board) (e : ℕ) → OfPlay text b → marked b e ≡ true → 0 < flow b e → singular b e ≡ true
+  pub marked-singular : (text : List ℕ) (b : Board) (e : ℕ) → OfPlay text b → marked b e ≡ true → 0 < flow b e → singular b e ≡ true
   -- "It is open when the channel is unmarked with flow at or above the need, or marked with flow equal to the need"
   pub carry-iff : (b : Board) (i e : ℕ) → (carryRefusal b i e ≡ 0) ↔ ((playing b ≡ true) × Carriable b i e)
   -- "Allowed only when no carry is open. .. All channels are wet and up-steps use single channels"
@@ -57,4 +57,4 @@ pub record AboutMoves : Type 0 where
   pub next-accepted : (text : List ℕ) (b : Board) → OfPlay text b → allHome b ≡ false → judge b (nextAct b) ≡ 0
   -- source document 000 stops "when the source s is isolated": that is where every terminal is at the source, and then no edge has a flow
   pub stop-iff : (text : List ℕ) (b : Board) → OfPlay text b → (allHome b ≡ true) ↔ ((e : ℕ) → 0 < flow b e → tail b e ≡ b .network .source → ⊥)
-  pub stop-dry : (text : List ℕ) (b : Board) → OfPlay text b → allHome b ≡ true → (e : ℕ) → flow b e ≡ 0
+  pub stop-zero : (text : List ℕ) (b : Board) → OfPlay text b → allHome b ≡ true → (e : ℕ) → flow b e ≡ 0

@@ -60,6 +60,6 @@ pub record AboutRefusals : Type 0 where
   -- and so is the buffer of writer, sheet and shelf
   pub writer-refused : (b : Board) (buf : List ℕ) → writeText b (length buf) .answer ≢ 0 → written b buf ≡ buf
   pub sheet-refused : (b : Board) (buf : List ℕ) → sheetCall b (length buf) .answer ≢ 0 → sheeted b buf ≡ buf
-  pub shelf-refused : (k : ℕ) (buf : List ℕ) → catalogCall k (length buf) .answer ≢ 0 → catalogued k buf ≡ buf
+  pub catalog-refused : (k : ℕ) (buf : List ℕ) → catalogCall k (length buf) .answer ≢ 0 → catalogued k buf ≡ buf
   -- "bytes past a written text are kept"
   pub sheet-written : (b : Board) (buf : List ℕ) → sheetCall b (length buf) .answer ≡ 0 → sheeted b buf ≡ reportText b ++ drop (length (reportText b)) buf

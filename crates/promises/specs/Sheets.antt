@@ -24,10 +24,10 @@ pub record AboutSheets : Type 0 where
   pub table-size : 1500 ≤ length table
   pub forty-boards : allAccepted 40 table ≡ true
   -- "every entry, written as text, is an accepted board"
-  pub shelf-accepted : (k : ℕ) → k < 40 → loadText (catalogText k) .answer ≡ 0
+  pub catalog-accepted : (k : ℕ) → k < 40 → loadText (catalogText k) .answer ≡ 0
   -- "refused 2 for a number above 39, then 8"
-  pub shelf-above : (k n : ℕ) → 39 < k → catalogCall k n ≡ record { answer = 2; used = 0 }
-  pub shelf-short : (k n : ℕ) → k ≤ 39 → n < length (catalogText k) → catalogCall k n ≡ record { answer = 8; used = 0 }
+  pub catalog-above : (k n : ℕ) → 39 < k → catalogCall k n ≡ record { answer = 2; used = 0 }
+  pub catalog-short : (k n : ℕ) → k ≤ 39 → n < length (catalogText k) → catalogCall k n ≡ record { answer = 8; used = 0 }
   -- "28 not finished": so it is on every board of play; a board that a finish gave has a sheet
   pub sheet-before : (text : List ℕ) (b : Board) → OfPlay text b → unreported b ≡ 28
   pub sheet-after : (text : List ℕ) (f : Board) → OfFinish text f → unreported f ≡ 0

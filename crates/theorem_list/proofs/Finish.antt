@@ -33,7 +33,7 @@ use Rattle.theorem_list.specs.Complete.{SolvedBy, Complete}
 use Rattle.theorem_list.proofs.Ends.{home-facts, ended-simple, ended-below}
 use Rattle.theorem_list.proofs.Acts.{act-standing, act-falls, act-network, act-acyclic, act-moves}
 use Rattle.theorem_list.proofs.Next.{next-accepted}
-use Rattle.theorem_list.proofs.Stops.{all-dry}
+use Rattle.theorem_list.proofs.Stops.{none-positive}
 
 -- the board after the solver's move
 abbrev pub next : Board → Board
@@ -174,7 +174,7 @@ module _ (b : Board) (st : Standing b) where
     accepted = refl;
     network = over .network;
     acyclic = over .acyclic;
-    stopped = all-dry (playedOut b) inv over-home;
+    stopped = none-positive (playedOut b) inv over-home;
     last = playedOut b;
     solved = rw (count-is) (done .solved);
     over = refl;

@@ -58,8 +58,8 @@ module _ (b : Board) (inv : Invariant b) (home : allHome b ≡ true) where
       let up' : level b (head b e) < level b (head b (g .edge)) = rw (g .start) at up in
       never-positive k (g .edge) (omega (arith, low, up')) (g .above)
 
-  pub all-dry : (e : ℕ) → flow b e ≡ 0
-  all-dry e = go (lt-or-ge 0 (flow b e))
+  pub none-positive : (e : ℕ) → flow b e ≡ 0
+  none-positive e = go (lt-or-ge 0 (flow b e))
     where
       go : (0 < flow b e) ⊎ (flow b e ≤ 0) → flow b e ≡ 0
       go (inl l) = absurd (never-positive (b .network .vertices) e (omega arith) l)
