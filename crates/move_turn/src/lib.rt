@@ -21,7 +21,15 @@ ghost use Rattle.move_cycle.specs.Inner.{InSets};
 ghost use Rattle.move_edges.specs.Incidence.{Incident, PositiveSet};
 ghost use Rattle.move_edges.specs.Marking.{singularBy};
 ghost use Rattle.move_edges.specs.Inner.{ChartedOut};
-ghost use Rattle.move_turn.specs.Turns.{meetsIn, stepsRefusal, turnRefusalIn, turnRefusal, turnedIn, turnChange, turnCall};
+ghost use Rattle.move_turn.specs.Turns.{
+  meetsIn,
+  stepsRefusal,
+  turnRefusalIn,
+  turnRefusal,
+  turnedIn,
+  turnChange,
+  turnCall,
+};
 ghost use Rattle.move_turn.specs.Inner.{Sound};
 
 // The rules that each step of a turn keeps.
