@@ -134,16 +134,16 @@ served-next s bytes j h =
 -- ---- a session served up to a place
 
 -- it goes on as one that is served the bytes from the start
-abbrev pub Onward : Session → List ℕ → Session → ℕ → Type 0
-Onward s bytes current from = (j : ℕ) → servedOver current (take j (drop from bytes)) ≡ servedOver s (take (from + j) bytes)
+abbrev pub ServedOn : Session → List ℕ → Session → ℕ → Type 0
+ServedOn s bytes current from = (j : ℕ) → servedOver current (take j (drop from bytes)) ≡ servedOver s (take (from + j) bytes)
 
 module _ (s : Session) (bytes : List ℕ) where
-  pub onward-start : Onward s bytes s 0
-  onward-start j = let same : j ≡ 0 + j = omega arith in ap (λ (k : ℕ). servedOver s (take k bytes)) same
+  pub served-start : ServedOn s bytes s 0
+  served-start j = let same : j ≡ 0 + j = omega arith in ap (λ (k : ℕ). servedOver s (take k bytes)) same
 
-  module _ (current : Session) (from : ℕ) (on : Onward s bytes current from) where
-    onward-next : from < length bytes → Onward s bytes (fedSession current (drop from bytes)) (from + takenOf (drop from bytes))
-    onward-next h j =
+  module _ (current : Session) (from : ℕ) (on : ServedOn s bytes current from) where
+    served-next : from < length bytes → ServedOn s bytes (fedSession current (drop from bytes)) (from + takenOf (drop from bytes))
+    served-next h j =
         let rest = drop from bytes in
         let t = takenOf rest in
         let behind : from + (t + j) ≡ from + t + j = omega arith in
@@ -153,20 +153,20 @@ module _ (s : Session) (bytes : List ℕ) where
         ∙ ap (λ (k : ℕ). servedOver s (take k bytes)) behind
 
     -- the session was handed the bytes from the place on, and took some of them
-    pub onward-handed : from < length bytes → (next : Session) (taken : ℕ) → next ≡ fedSession current (take (length bytes - from) (drop from bytes))
-        → taken ≡ takenOf (take (length bytes - from) (drop from bytes)) → (0 < taken) × (from + taken ≤ length bytes) × Onward s bytes next (from + taken)
-    onward-handed h next taken e q =
+    pub served-handed : from < length bytes → (next : Session) (taken : ℕ) → next ≡ fedSession current (take (length bytes - from) (drop from bytes))
+        → taken ≡ takenOf (take (length bytes - from) (drop from bytes)) → (0 < taken) × (from + taken ≤ length bytes) × ServedOn s bytes next (from + taken)
+    served-handed h next taken e q =
         let rest = drop from bytes in
         let size = length-drop from bytes in
         let all = take-all (length bytes - from) rest (omega (arith, size)) in
         let same : taken ≡ takenOf rest = q ∙ ap takenOf all in
         let fed : next ≡ fedSession current rest = e ∙ ap (λ (l : List ℕ). fedSession current l) all in
         let some = taken-some rest (omega (arith, size)) in
-        (omega (arith, same, some), omega (arith, same, taken-within rest, size), rw (fed, same) (onward-next h))
+        (omega (arith, same, some), omega (arith, same, taken-within rest, size), rw (fed, same) (served-next h))
 
-    pub onward-here : current ≡ servedOver s (take from bytes)
+    pub served-here : current ≡ servedOver s (take from bytes)
     unfolding servedLines
-    onward-here = on 0 ∙ ap (λ (k : ℕ). servedOver s (take k bytes)) (add-zero from)
+    served-here = on 0 ∙ ap (λ (k : ℕ). servedOver s (take k bytes)) (add-zero from)
 
-    pub onward-end : length bytes ≤ from → current ≡ servedOver s bytes
-    onward-end h = onward-here ∙ ap (λ (l : List ℕ). servedOver s l) (take-all from bytes h)
+    pub served-end : length bytes ≤ from → current ≡ servedOver s bytes
+    served-end h = served-here ∙ ap (λ (l : List ℕ). servedOver s l) (take-all from bytes h)

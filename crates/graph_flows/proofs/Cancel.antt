@@ -27,12 +27,12 @@ use Rattle.graph_flows.proofs.Positives.{positives, positives-some, pos
 use Rattle.graph_flows.proofs.Walk.{Cycle, cycle-found, first-on-cycle, on-cycle-first}
 
 -- the smallest flow is one of the flows, and at most each
-record Attained (flows es : List ℕ) (x : ℕ) : Type 0 where
+record LeastMet (flows es : List ℕ) (x : ℕ) : Type 0 where
   edge : ℕ
   among : has edge es ≡ true
   value : getD flows edge 0 ≡ x
 
-wider : {flows es fs : List ℕ} {x : ℕ} → ((e : ℕ) → has e es ≡ true → has e fs ≡ true) → Attained flows es x → Attained flows fs x
+wider : {flows es fs : List ℕ} {x : ℕ} → ((e : ℕ) → has e es ≡ true → has e fs ≡ true) → LeastMet flows es x → LeastMet flows fs x
 wider f a = record { edge = a .edge; among = f (a .edge) (a .among); value = a .value }
 
 -- an element that comes twice in front
@@ -51,13 +51,13 @@ has-twice e d es h = at (has-cases e d (d ∷ es) h)
     at (inr i) = i
 
 module _ (flows : List ℕ) where
-  attained : (d : ℕ) (es : List ℕ) → Attained flows (d ∷ es) (smallest flows (getD flows d 0) es)
+  attained : (d : ℕ) (es : List ℕ) → LeastMet flows (d ∷ es) (smallest flows (getD flows d 0) es)
   unfolding smallest
   attained d [] = record { edge = d; among = has-here d d [] refl; value = refl }
   attained d (e ∷ es) = at (known (ltb (getD flows e 0) (getD flows d 0))) (attained e es) (attained d es)
     where
-      at : Known (ltb (getD flows e 0) (getD flows d 0)) → Attained flows (e ∷ es) (smallest flows (getD flows e 0) es)
-          → Attained flows (d ∷ es) (smallest flows (getD flows d 0) es) → Attained flows (d ∷ e ∷ es) (smallest flows (getD flows d 0) (e ∷ es))
+      at : Known (ltb (getD flows e 0) (getD flows d 0)) → LeastMet flows (e ∷ es) (smallest flows (getD flows e 0) es)
+          → LeastMet flows (d ∷ es) (smallest flows (getD flows d 0) es) → LeastMet flows (d ∷ e ∷ es) (smallest flows (getD flows d 0) (e ∷ es))
       at (was-true t) a b = rw (pick-yes (ltb (getD flows e 0) (getD flows d 0)) (getD flows e 0) (getD flows d 0) t) (wider (λ c. has-later c d (e ∷ es)) a)
       at (was-false t) a b = rw (pick-no (ltb (getD flows e 0) (getD flows d 0)) (getD flows e 0) (getD flows d 0) t) (wider (λ c. has-skip c d e es) b)
 
@@ -151,7 +151,7 @@ module _ (tails heads flows : List ℕ) where
   abbrev least : List ℕ → ℕ
   least es = smallest flows (getD flows (getD es 0 0) 0) es
 
-  least-attained : (es : List ℕ) → 0 < length es → Attained flows es (least es)
+  least-attained : (es : List ℕ) → 0 < length es → LeastMet flows es (least es)
   least-attained [] h = absurd (not-suc-le-zero h)
   least-attained (e ∷ es) h = wider (λ c. has-twice c e es) (attained flows e (e ∷ es))
 

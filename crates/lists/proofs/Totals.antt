@@ -1,5 +1,5 @@
 -- Laws of `total f i k` and `most f i k`, all by walking the run i, i + 1, .., i + k - 1: equal terms give equal sums, smaller terms smaller ones, a sum of
--- one term that is not 0 is that term, and the greatest term is at least each.
+-- one term that is not 0 is that term, a sum above 0 has a term above 0, and the greatest term is at least each and at most what each is at most.
 use mathlib.Core.Path.{_≡_, refl, ap}
 use mathlib.Core.Logic.{_⊎_, inl, inr, _≢_}
 use Prim.Native.Nat.{ℕ, zero, suc, _+_, _*_, _≤_, _<_}
@@ -8,7 +8,7 @@ use lib.Dec.{ltb}
 use borrow.Author.Tests.{ltb-true, ltb-false}
 use Rattle.lists.specs.Choice.{pick}
 use Rattle.lists.specs.Lists.{total, most}
-use Rattle.lists.proofs.Laws.{Known, was-true, was-false, known, eq-or-ne, pick-yes, pick-no}
+use Rattle.lists.proofs.Laws.{Known, was-true, was-false, known, eq-or-ne, lt-or-ge, pick-yes, pick-no}
 
 pub total-same : (f g : ℕ → ℕ) (i k : ℕ) → ((j : ℕ) → i ≤ j → j < i + k → f j ≡ g j) → total f i k ≡ total g i k
 unfolding total
@@ -72,6 +72,16 @@ total-raised f g i (suc k) v e = go (eq-or-ne i v) (total-raised f g (suc i) k v
         omega arith
     go (inr n) ih = omega (arith, e i n)
 
+-- a sum above 0 has a term above 0
+pub total-some : {C : Type 0} (f : ℕ → ℕ) (i k : ℕ) → 0 < total f i k → ((j : ℕ) → i ≤ j → j < i + k → 0 < f j → C) → C
+unfolding total
+total-some f i zero h found = absurd (omega arith)
+total-some {C} f i (suc k) h found = by (lt-or-ge 0 (f i)) (λ l. total-some f (suc i) k l (λ j a b p. found j (omega arith) (omega arith) p))
+  where
+    by : (0 < f i) ⊎ (f i ≤ 0) → (0 < total f (suc i) k → C) → C
+    by (inl p) later = found i (omega arith) (omega arith) p
+    by (inr z) later = later (omega arith)
+
 -- the greatest term
 pub most-same : (f g : ℕ → ℕ) (i k : ℕ) → ((j : ℕ) → f j ≡ g j) → most f i k ≡ most g i k
 unfolding most
@@ -96,3 +106,13 @@ most-at f i (suc k) v h g = go (eq-or-ne i v) (λ l. most-at f (suc i) k v l (om
     go : (i ≡ v) ⊎ (i ≢ v) → (suc i ≤ v → f v ≤ most f (suc i) k) → (f i ≤ now) × (most f (suc i) k ≤ now) → f v ≤ now
     go (inl q) ih w = let first : f i ≡ f v = ap f q in omega (arith, w .0)
     go (inr n) ih w = omega (arith, ih (omega arith), w .1)
+
+-- the greatest of terms that are at most m
+pub most-within : (f : ℕ → ℕ) (m i k : ℕ) → ((j : ℕ) → i ≤ j → j < i + k → f j ≤ m) → most f i k ≤ m
+unfolding most
+most-within f m i zero h = omega arith
+most-within f m i (suc k) h = by (known (ltb (most f (suc i) k) (f i))) (most-within f m (suc i) k (λ j a b. h j (omega arith) (omega arith)))
+  where
+    by : Known (ltb (most f (suc i) k) (f i)) → most f (suc i) k ≤ m → most f i (suc k) ≤ m
+    by (was-true t) ih = rw (pick-yes (ltb (most f (suc i) k) (f i)) (f i) (most f (suc i) k) t) (h i (omega arith) (omega arith))
+    by (was-false t) ih = rw (pick-no (ltb (most f (suc i) k) (f i)) (f i) (most f (suc i) k) t) ih

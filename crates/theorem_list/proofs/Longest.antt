@@ -6,16 +6,15 @@ use mathlib.Core.Path.{_≡_, sym, ap, _∙_}
 use mathlib.Core.Bool.{Bool, true, false, true≢false}
 use mathlib.Core.Logic.{_⊎_, inl, inr}
 use mathlib.Core.List.{List, [], _∷_, _++_}
-use Prim.Native.Nat.{ℕ, zero, suc, _+_, _^_, _<_, _≤_}
+use Prim.Native.Nat.{ℕ, _+_, _^_, _<_, _≤_}
 use native.Mathlib.Omega.{arith}
-use lib.Dec.{ltb}
 use lib.ListN.{length, getD, replicate, length-append}
 use Rattle.lists.specs.Choice.{pick}
-use Rattle.lists.specs.Lists.{total, most}
 use Rattle.lists.specs.Members.{has, Distinct}
 use Rattle.lists.specs.Inner.{Below}
-use Rattle.lists.proofs.Laws.{Known, was-true, was-false, known, lt-or-ge, pick-yes, pick-no}
+use Rattle.lists.proofs.Laws.{Known, was-true, was-false, known, lt-or-ge, pick-no}
 use Rattle.lists.proofs.Pigeon.{has-here}
+use Rattle.lists.proofs.Totals.{total-some, most-within}
 use Rattle.board.specs.Limits.{maxFlow}
 use Rattle.board.specs.declared.Board.{Board}
 use Rattle.board.specs.declared.Network.{Network}
@@ -36,28 +35,6 @@ use Rattle.theorem_keep.proofs.Network.{acyclic-of-below, flow-small}
 use Rattle.theorem_list.specs.Complete.{verticesAlong, Simple, InUse, Complete}
 use Rattle.theorem_list.proofs.EveryList.{every-list}
 use Rattle.theorem_list.proofs.Rooms.{distinct-few}
-
--- ---- sums and greatest terms
-
--- a sum above 0 has a term above 0
-total-some : {C : Type 0} (f : ℕ → ℕ) (i k : ℕ) → 0 < total f i k → ((j : ℕ) → i ≤ j → j < i + k → 0 < f j → C) → C
-unfolding total
-total-some f i zero h found = absurd (omega arith)
-total-some {C} f i (suc k) h found = by (lt-or-ge 0 (f i)) (λ l. total-some f (suc i) k l (λ j a b p. found j (omega arith) (omega arith) p))
-  where
-    by : (0 < f i) ⊎ (f i ≤ 0) → (0 < total f (suc i) k → C) → C
-    by (inl p) later = found i (omega arith) (omega arith) p
-    by (inr z) later = later (omega arith)
-
--- the greatest of terms that are at most m
-most-within : (f : ℕ → ℕ) (m i k : ℕ) → ((j : ℕ) → i ≤ j → j < i + k → f j ≤ m) → most f i k ≤ m
-unfolding most
-most-within f m i zero h = omega arith
-most-within f m i (suc k) h = by (known (ltb (most f (suc i) k) (f i))) (most-within f m (suc i) k (λ j a b. h j (omega arith) (omega arith)))
-  where
-    by : Known (ltb (most f (suc i) k) (f i)) → most f (suc i) k ≤ m → most f i (suc k) ≤ m
-    by (was-true t) ih = rw (pick-yes (ltb (most f (suc i) k) (f i)) (f i) (most f (suc i) k) t) (h i (omega arith) (omega arith))
-    by (was-false t) ih = rw (pick-no (ltb (most f (suc i) k) (f i)) (f i) (most f (suc i) k) t) ih
 
 -- x or 0
 pick-within : (t : Bool) (x m : ℕ) → x ≤ m → pick t x 0 ≤ m

@@ -32,13 +32,13 @@ module _ (b : Board) (inv : Invariant b) (home : allHome b ≡ true) where
       go (inr l) = omega (arith, l)
 
   -- a positive edge leaves the vertex
-  record Onward (v : ℕ) : Type 0 where
+  record Further (v : ℕ) : Type 0 where
     edge : ℕ
     start : tail b edge ≡ v
     above : 0 < flow b edge
 
-  onward : (e : ℕ) → 0 < flow b e → Onward (head b e)
-  onward e h =
+  further : (e : ℕ) → 0 < flow b e → Further (head b e)
+  further e h =
       let v = head b e in
       let away : v ≢ b .network .source = never-enters b inv e h in
       let inside : v < b .network .vertices = inv .lawful .head e (positive-inside b inv e h) in
@@ -53,7 +53,7 @@ module _ (b : Board) (inv : Invariant b) (home : allHome b ≡ true) where
       let below = rank-below (b .network .tails) (b .network .heads) (b .acyclic) (b .network .vertices) (head b e) (inv .lawful .head e (positive-inside b inv e h)) in
       omega (arith, low, below)
   never-positive (suc k) e low h =
-      let g = onward e h in
+      let g = further e h in
       let up : level b (tail b (g .edge)) < level b (head b (g .edge)) = level-rises b inv (g .edge) (g .above) in
       let up' : level b (head b e) < level b (head b (g .edge)) = rw (g .start) at up in
       never-positive k (g .edge) (omega (arith, low, up')) (g .above)

@@ -8,12 +8,12 @@ use lib.ListN.{length}
 use lib.Seq.{length-sets}
 use borrow.Author.Needs.{needs}
 use borrow.Author.Tests.{not-true, eqb-false}
-use Rattle.descriptors.proofs.Taking.{Onward, onward-start, onward-handed, onward-here, onward-end}
+use Rattle.descriptors.proofs.Taking.{ServedOn, served-start, served-handed, served-here, served-end}
 use Rattle.descriptors.proofs.hand_all.Statement.{statement}
 use Rattle.descriptors.proofs.hand_all.Tie as tie
 
 abbrev Inv-loop : tie.InvT-loop
-Inv-loop bytes out₀ current₀ from₀ out current from = (from ≤ length bytes) × (length out ≡ length out₀) × Onward current₀ bytes current from
+Inv-loop bytes out₀ current₀ from₀ out current from = (from ≤ length bytes) × (length out ≡ length out₀) × ServedOn current₀ bytes current from
 
 abbrev μ-loop : tie.MeasureT-loop
 μ-loop bytes out₀ current₀ from₀ out current from = length bytes - from
@@ -21,7 +21,7 @@ abbrev μ-loop : tie.MeasureT-loop
 loop-holds : tie.Need-loop-holds Inv-loop μ-loop
 loop-holds c =
     let at-args = c .before .before .args in
-    (omega arith, refl, onward-start (at-args .session) (at-args .bytes .now))
+    (omega arith, refl, served-start (at-args .session) (at-args .bytes .now))
 
 sub-hand-on : tie.Need-sub-hand-on Inv-loop μ-loop
 sub-hand-on c = search needs
@@ -44,7 +44,7 @@ add-from c =
     let bytes = at-args .bytes .now in
     let gave = at-hand .hand-on .ensures in
     let inside = at-hand .before .before .before .loop-test .taken in
-    let step = onward-handed session bytes _ _ (at-loop .loop .inv .2) inside _ _ (gave .0) (gave .1 .0) in
+    let step = served-handed session bytes _ _ (at-loop .loop .inv .2) inside _ _ (gave .0) (gave .1 .0) in
     omega (arith, step .1)
 
 same-length : tie.Need-same-length Inv-loop μ-loop
@@ -62,12 +62,12 @@ returns c =
     let bytes = at-args .bytes .now in
     let gave = at-hand .hand-on .ensures in
     let inside = at-hand .before .before .before .loop-test .taken in
-    let step = onward-handed session bytes _ _ (at-loop .loop .inv .2) inside _ _ (gave .0) (gave .1 .0) in
+    let step = served-handed session bytes _ _ (at-loop .loop .inv .2) inside _ _ (gave .0) (gave .1 .0) in
     let next = at-hand .hand-on .result .session in
     record {
       count = _;
       within = step .1;
-      session = onward-here session bytes next _ (step .2);
+      session = served-here session bytes next _ (step .2);
       whole = λ e. absurd (true≢false (sym e));
       unrefused = λ e. absurd (true≢false (sym e));
     }
@@ -81,7 +81,7 @@ loop-less c =
     let bytes = at-args .bytes .now in
     let gave = at-hand .hand-on .ensures in
     let inside = at-hand .before .before .before .loop-test .taken in
-    let step = onward-handed session bytes _ _ (at-loop .loop .inv .2) inside _ _ (gave .0) (gave .1 .0) in
+    let step = served-handed session bytes _ _ (at-loop .loop .inv .2) inside _ _ (gave .0) (gave .1 .0) in
     omega (arith, step .0, inside)
 
 loop-again : tie.Need-loop-again Inv-loop μ-loop
@@ -93,7 +93,7 @@ loop-again c =
     let bytes = at-args .bytes .now in
     let gave = at-hand .hand-on .ensures in
     let inside = at-hand .before .before .before .loop-test .taken in
-    let step = onward-handed session bytes _ _ (at-loop .loop .inv .2) inside _ _ (gave .0) (gave .1 .0) in
+    let step = served-handed session bytes _ _ (at-loop .loop .inv .2) inside _ _ (gave .0) (gave .1 .0) in
     (step .1, ap length (gave .1 .1 .1) ∙ simp length-sets (at-loop .loop .inv .1), step .2)
 
 same-length-2 : tie.Need-same-length-2 Inv-loop μ-loop
@@ -110,8 +110,8 @@ returns-2 c =
     record {
       count = at-loop .loop .from;
       within = inv .0;
-      session = onward-here session bytes current _ (inv .2);
-      whole = λ e. onward-end session bytes current _ (inv .2) (c .before .loop-test .left);
+      session = served-here session bytes current _ (inv .2);
+      whole = λ e. served-end session bytes current _ (inv .2) (c .before .loop-test .left);
       unrefused = λ e. eqb-false (current .stage) 2 (not-true _ e);
     }
 
