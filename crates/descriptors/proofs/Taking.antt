@@ -142,8 +142,8 @@ module _ (s : Session) (bytes : List ℕ) where
   served-start j = let same : j ≡ 0 + j = omega arith in ap (λ (k : ℕ). servedOver s (take k bytes)) same
 
   module _ (current : Session) (from : ℕ) (on : ServedOn s bytes current from) where
-    served-next : from < length bytes → ServedOn s bytes (fedSession current (drop from bytes)) (from + takenOf (drop from bytes))
-    served-next h j =
+    served-fed : from < length bytes → ServedOn s bytes (fedSession current (drop from bytes)) (from + takenOf (drop from bytes))
+    served-fed h j =
         let rest = drop from bytes in
         let t = takenOf rest in
         let behind : from + (t + j) ≡ from + t + j = omega arith in
@@ -162,7 +162,7 @@ module _ (s : Session) (bytes : List ℕ) where
         let same : taken ≡ takenOf rest = q ∙ ap takenOf all in
         let fed : next ≡ fedSession current rest = e ∙ ap (λ (l : List ℕ). fedSession current l) all in
         let some = taken-some rest (omega (arith, size)) in
-        (omega (arith, same, some), omega (arith, same, taken-within rest, size), rw (fed, same) (served-next h))
+        (omega (arith, same, some), omega (arith, same, taken-within rest, size), rw (fed, same) (served-fed h))
 
     pub served-here : current ≡ servedOver s (take from bytes)
     unfolding servedLines
