@@ -72,6 +72,16 @@ decimal-length (suc k) n h = go (known (ltb n 10)) (decimal-length k (n / 10))
         let l = ih (omega arith) in
         omega (arith, length-large n (ltb-false n 10 t))
 
+-- a number from 10 ^ k up to one below 10 ^ (k + 1) has k + 1 digits
+pub decimal-exact : (k n : ℕ) → 10 ^ k ≤ n → n < 10 ^ suc k → length (decimal n) ≡ suc k
+decimal-exact zero n l h = rw (decimal-small n (omega arith))
+decimal-exact (suc k) n l h =
+    let e = pow-suc 10 k in
+    let f = pow-suc 10 (suc k) in
+    let t : 10 ^ 1 ≤ 10 ^ suc k = pow-le-pow-right (omega arith) {i = 1} (omega arith) in
+    let tenth = decimal-exact k (n / 10) (omega arith) (omega arith) in
+    omega (arith, length-large n (omega arith))
+
 -- one digit is read
 pub value-digit : (acc d : ℕ) (rest : List ℕ) → 48 ≤ d → d ≤ 57 → valueFrom acc (d ∷ rest) ≡ valueFrom (acc * 10 + (d - 48)) rest
 unfolding valueFrom

@@ -55,13 +55,18 @@ pub fn read_number(s: &[u8]) -> Number
 pub fn digit_count(n: u32) -> usize
     ensures { λ r. ⌜ r ≡ length (decimal n) ⌝ }
 {
-    let mut count: usize = 1;
-    let mut rest = n;
-    while 10 <= rest {
-        rest = rest / 10;
-        count += 1;
+    match n {
+        0..=9 => 1,
+        10..=99 => 2,
+        100..=999 => 3,
+        1_000..=9_999 => 4,
+        10_000..=99_999 => 5,
+        100_000..=999_999 => 6,
+        1_000_000..=9_999_999 => 7,
+        10_000_000..=99_999_999 => 8,
+        100_000_000..=999_999_999 => 9,
+        1_000_000_000..=4_294_967_295 => 10,
     }
-    count
 }
 
 // Writes n at a place of the buffer, as much of it as fits, and answers the place behind it.

@@ -1,34 +1,52 @@
--- The loop's invariant: the digits counted so far and those of what is left are one more than those of n. What is left falls with each turn.
-use mathlib.Core.Path.{_≡_, ap}
-use Prim.Native.Nat.{_+_}
+-- Each range is one citation: from 10 ^ k up to one below 10 ^ (k + 1) there are k + 1 digits. The first range holds 0 as well, one digit by itself.
+use mathlib.Core.Path.{sym, ap}
 use native.Mathlib.Omega.{arith}
 use lib.ListN.{length}
-use Rattle.decimal.specs.Decimal.{decimal}
-use Rattle.decimal.proofs.Laws.{decimal-some, decimal-small, decimal-length, length-large}
+use Rattle.decimal.proofs.Laws.{decimal-small, decimal-exact}
 use Rattle.decimal.proofs.digit_count.Statement.{statement}
 use Rattle.decimal.proofs.digit_count.Tie as tie
 
-abbrev Inv-loop : tie.InvT-loop
-Inv-loop n count₀ rest₀ count rest = count + length (decimal rest) ≡ 1 + length (decimal n)
+returns : tie.Need-returns
+returns c = sym (ap length (decimal-small _ (omega arith)))
 
-abbrev μ-loop : tie.MeasureT-loop
-μ-loop n count₀ rest₀ count rest = rest
+returns-2 : tie.Need-returns-2
+returns-2 c = sym (decimal-exact 1 _ (omega arith) (omega arith))
 
-loop-holds : tie.Need-loop-holds Inv-loop μ-loop
-loop-holds c = omega arith
+returns-3 : tie.Need-returns-3
+returns-3 c = sym (decimal-exact 2 _ (omega arith) (omega arith))
 
-add-count : tie.Need-add-count Inv-loop μ-loop
-add-count c = omega (arith, decimal-some (c .before .loop .rest), decimal-length 9 (c .before .before .args .n) (omega arith))
+returns-4 : tie.Need-returns-4
+returns-4 c = sym (decimal-exact 3 _ (omega arith) (omega arith))
 
-loop-less : tie.Need-loop-less Inv-loop μ-loop
-loop-less c = omega arith
+returns-5 : tie.Need-returns-5
+returns-5 c = sym (decimal-exact 4 _ (omega arith) (omega arith))
 
-loop-again : tie.Need-loop-again Inv-loop μ-loop
-loop-again c = omega (arith, length-large (c .before .loop .rest) (omega arith))
+returns-6 : tie.Need-returns-6
+returns-6 c = sym (decimal-exact 5 _ (omega arith) (omega arith))
 
-returns : tie.Need-returns Inv-loop μ-loop
-returns c = omega (arith, ap length (decimal-small (c .before .loop .rest) (omega arith)))
+returns-7 : tie.Need-returns-7
+returns-7 c = sym (decimal-exact 6 _ (omega arith) (omega arith))
+
+returns-8 : tie.Need-returns-8
+returns-8 c = sym (decimal-exact 7 _ (omega arith) (omega arith))
+
+returns-9 : tie.Need-returns-9
+returns-9 c = sym (decimal-exact 8 _ (omega arith) (omega arith))
+
+returns-10 : tie.Need-returns-10
+returns-10 c = sym (decimal-exact 9 _ (omega arith) (omega arith))
 
 pub digit-count-spec : {M : Type 1} → statement M
 digit-count-spec =
-    tie.close (tie.spec Inv-loop μ-loop loop-holds add-count loop-less loop-again returns)
+    tie.close
+    (tie.spec
+    returns
+    returns-2
+    returns-3
+    returns-4
+    returns-5
+    returns-6
+    returns-7
+    returns-8
+    returns-9
+    returns-10)
