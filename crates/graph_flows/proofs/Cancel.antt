@@ -237,6 +237,27 @@ module _ (tails heads : List ℕ) (n : ℕ) where
           rw (t, cancelled) (ih (within-same (lower-long tails heads flows es c) w) (omega arith))
       at (was-false t) ih = rw (t, cancelled) (no-cycle flows w (ltb-false (cycleVertex tails heads n flows) n t))
 
+  -- where no positive edge is on a cycle, the first round finds none, so nothing is lowered
+  none-found : (flows : List ℕ) → Acyclic tails heads flows → ltb (cycleVertex tails heads n flows) n ≡ false
+  unfolding cycleVertex
+  none-found flows acyclic = at (known (ltb (cycleVertex tails heads n flows) n))
+    where
+      at : Known (ltb (cycleVertex tails heads n flows) n) → ltb (cycleVertex tails heads n flows) n ≡ false
+      at (was-true t) =
+          let v = cycleVertex tails heads n flows in
+          let yes = lowest-least (onCycle tails heads n flows) 0 n .hit (omega (arith, ltb-true v n t)) in
+          let f = on-cycle-first tails heads flows n v yes in
+          absurd (acyclic v (f .next) (f .edge) (f .rest))
+      at (was-false t) = t
+
+  pub nothing-cancelled : (flows : List ℕ) → Acyclic tails heads flows → acyclicFlows tails heads n flows ≡ flows
+  unfolding acyclicFlows cancelled
+  nothing-cancelled flows acyclic = rounds (length flows)
+    where
+      rounds : (k : ℕ) → cancelled tails heads n k flows ≡ flows
+      rounds zero = refl
+      rounds (suc k) = rw (none-found flows acyclic, cancelled)
+
 module _ (tails heads flows : List ℕ) (n : ℕ) (w : EndsBelow tails heads flows n) (lt : length tails ≡ length flows) (lh : length heads ≡ length flows) where
   acyclic-less : Less tails heads flows (acyclicFlows tails heads n flows)
   unfolding acyclicFlows
