@@ -36,12 +36,13 @@ pub struct Board {
     source: usize,
     tails: [u8; EDGES],
     heads: [u8; EDGES],
-    text_flows: [u32; EDGES],
     homes: [u8; TERMINALS],
     demands: [u32; TERMINALS],
     /// The edges that leave each vertex, and those that enter it.
     leaving: [u64; VERTICES],
     entering: [u64; VERTICES],
+    /// The flow without its cycles, and the flow now.
+    acyclic: [u32; EDGES],
     flows: [u32; EDGES],
     positive: u64,
     marks: u64,
@@ -121,11 +122,11 @@ impl Board {
             source: 0,
             tails: [0; EDGES],
             heads: [0; EDGES],
-            text_flows: [0; EDGES],
             homes: [0; TERMINALS],
             demands: [0; TERMINALS],
             leaving: [0; VERTICES],
             entering: [0; VERTICES],
+            acyclic: [0; EDGES],
             flows: [0; EDGES],
             positive: 0,
             marks: 0,
@@ -142,9 +143,9 @@ impl Board {
         if let Err(refusal) = self.read(text).and_then(|()| self.judge()) {
             return refusal;
         }
-        self.flows = self.text_flows;
         self.index();
         self.cancel();
+        self.acyclic = self.flows;
         self.marks = 0;
         self.places = self.homes;
         self.away = ((1u64 << self.terminals) - 1) as u32;
@@ -167,7 +168,7 @@ impl Board {
             reader.letter(b'C')?;
             self.tails[edge] = reader.number(0, vertices - 1, b',')? as u8;
             self.heads[edge] = reader.number(0, vertices - 1, b',')? as u8;
-            self.text_flows[edge] = reader.number(0, 1_000_000, b'\n')?;
+            self.flows[edge] = reader.number(0, 1_000_000, b'\n')?;
         }
         for terminal in 0..self.terminals {
             reader.letter(b'W')?;
@@ -188,8 +189,8 @@ impl Board {
             if self.tails[edge] == self.heads[edge] {
                 return Err(3);
             }
-            surplus[self.heads[edge] as usize & 31] += self.text_flows[edge] as i32;
-            surplus[self.tails[edge] as usize & 31] -= self.text_flows[edge] as i32;
+            surplus[self.heads[edge] as usize & 31] += self.flows[edge] as i32;
+            surplus[self.tails[edge] as usize & 31] -= self.flows[edge] as i32;
         }
         for terminal in 0..self.terminals {
             if self.homes[terminal] as usize == self.source {
@@ -510,7 +511,7 @@ impl Board {
                 loads[edge as usize & 63] += self.demands[terminal];
             }
         }
-        // The longest report has 3,032 bytes.
+        // No report has more than 2,948 bytes.
         let mut text = [0u8; 4_096];
         let mut at = line(&mut text, 0, b'R', &[self.terminals as u32, self.edges as u32]);
         for terminal in 0..self.terminals {
@@ -522,7 +523,7 @@ impl Board {
             text[at - 1] = b'\n';
         }
         for edge in 0..self.edges {
-            at = line(&mut text, at, b'L', &[edge as u32, self.text_flows[edge], loads[edge]]);
+            at = line(&mut text, at, b'L', &[edge as u32, self.acyclic[edge], loads[edge]]);
         }
         buffer.get_mut(..at).ok_or(8u32)?.copy_from_slice(&text[..at]);
         Ok(at)

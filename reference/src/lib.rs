@@ -24,12 +24,13 @@ pub mod fast;
 #[cfg(feature = "engine")]
 pub mod engine;
 
-// Inputs for the engine and for the rules themselves.
+// Inputs for the engine and for the rules themselves, and sheets of before.
 pub mod boards;
 pub mod calls;
 pub mod cases;
 pub mod damage;
 pub mod encoded;
+pub mod old_sheets;
 pub mod properties;
 pub mod random;
 pub mod scripts;

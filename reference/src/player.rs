@@ -221,11 +221,11 @@ impl Player {
 
     /// "28 not finished. 29 nothing was loaded."
     pub fn sheet_text(&self) -> Result<Vec<u8>, Refusal> {
-        let network = self.network().ok_or(29u32)?;
+        let Loaded { network, acyclic_flows } = self.loaded.as_ref().ok_or(29u32)?;
         if !self.is_over() {
             return Err(28);
         }
-        Ok(report(network, &self.board().unwrap().routes))
+        Ok(report(network, acyclic_flows, &self.board().unwrap().routes))
     }
 
     /// "Board writer: 29, 8." "The board writer gives the loaded text at every stage of play."

@@ -53,6 +53,7 @@ fn s_changed() {
 fn the_board_that_drains() {
     let board = text("B,3,3,1,0 C,0,1,4 C,1,2,3 C,2,1,3 W,1,4 ");
     assert_eq!(acyclic_flows(&read(&board).unwrap()), [4, 0, 0]);
+    assert_eq!(sheet(&board), b"R,1,3\nM,0,1,0\nL,0,4,4\nL,1,0,0\nL,2,0,0\n");
     let mut player = loaded(&board);
     assert_eq!(player.carry(0, 0), 0);
     assert_eq!(player.turn(&steps(&[1, 2])), 25);

@@ -6,14 +6,18 @@ use mathlib.Core.List.{List}
 use Prim.Native.Nat.{ℕ, _≤_, _<_}
 use native.Mathlib.Omega.{arith}
 use lib.Dec.{leb, eqb}
-use lib.ListN.{length}
+use lib.ListN.{length, getD}
 use borrow.Author.Tests.{ne-eqb, le-leb, lt-leb, leb-true}
 use Rattle.lists.proofs.Laws.{pick-yes, pick-no}
 use Rattle.board.specs.declared.Board.{Board}
-use Rattle.load.specs.Load.{loadText}
+use Rattle.board.specs.declared.Network.{Network}
+use Rattle.text.specs.Results.{readText}
+use Rattle.graph_flows.proofs.Cancel.{nothing-cancelled}
+use Rattle.load.specs.Load.{acyclicOf, loadText}
+use Rattle.load.proofs.Loads.{loaded-lawful}
 use Rattle.solve_finish.specs.declared.Finished.{Finished}
 use Rattle.solve_finish.specs.Finishes.{finishCall}
-use Rattle.report.specs.Reports.{reportText, unreported}
+use Rattle.report.specs.Reports.{loadRow, reportText, unreported}
 use Rattle.sheet_output.specs.Outputs.{numberLine, sheetOutput}
 use Rattle.sheet_output.proofs.Prefix.{sheet-prefix}
 use Rattle.descriptors.proofs.PrintedPieces.{pieces-printed}
@@ -21,10 +25,11 @@ use Rattle.catalog.specs.Table.{table}
 use Rattle.catalog.specs.Catalog.{boards, catalogText, catalogCall}
 use Rattle.catalog.proofs.Rule.{all-accepted}
 use Rattle.catalog.proofs.Assured.{loads}
-use Rattle.theorem_list.proofs.Reports.{every-report, sheet-printed}
+use Rattle.theorem_keep.proofs.Network.{acyclic-of-below}
+use Rattle.theorem_list.proofs.Reports.{every-report, finished-acyclic, sheet-printed}
 use Rattle.theorem_list.proofs.Longest.{report-short}
 use Rattle.promises.specs.Plays.{OfPlay, OfFinish}
-use Rattle.promises.specs.Sheets.{AboutSheets}
+use Rattle.promises.specs.Sheets.{FirstFlow, AboutSheets}
 use Rattle.promises.proofs.Lines.{play-printed, play-refused}
 
 large : 1500 ≤ length table
@@ -44,6 +49,19 @@ short k n low h =
 after : (text : List ℕ) (f : Board) → OfFinish text f → unreported f ≡ 0
 after text f p = let q = p .play in rw (p .given, q .after) (every-report text (q .calls) (q .accepted) .after)
 
+-- the third field of a line is the acyclic flow of the text, whatever was played
+first : (text : List ℕ) (f : Board) → OfFinish text f → (e : ℕ) → FirstFlow (readText text .network) e (getD (loadRow f e) 1 0)
+first text f p e =
+    let q = p .play in
+    let net : Network = readText text .network in
+    let same : getD (f .acyclic) e 0 ≡ getD (acyclicOf net) e 0 =
+    rw (p .given, q .after) (ap (λ (l : List ℕ). getD l e 0) (finished-acyclic text (q .calls) (q .accepted))) in
+    record {
+      acyclic = same;
+      below = omega (arith, same, acyclic-of-below net (loaded-lawful text (q .accepted)) e);
+      whole = λ none. same ∙ ap (λ (l : List ℕ). getD l e 0) (nothing-cancelled (net .tails) (net .heads) (net .vertices) (net .flows) none);
+    }
+
 room : (text : List ℕ) (f : Board) → OfFinish text f → length (reportText f) ≤ 2948
 room text f p = let q = p .play in rw (p .given, q .after) (report-short text (q .calls) (q .accepted))
 
@@ -60,6 +78,7 @@ about-sheets = record {
   catalog-short = short;
   sheet-before = λ text b p. rw (p .after) (every-report text (p .calls) (p .accepted) .before);
   sheet-after = after;
+  sheet-first = first;
   sheet-printed = λ text h. sheet-printed text h .printed;
   sheet-refused = refused;
   sheet-reads = sheet-prefix;

@@ -4,11 +4,14 @@ use mathlib.Core.Bool.{true}
 use mathlib.Core.Logic.{_≢_}
 use mathlib.Core.List.{List, [], _++_}
 use Prim.Native.Nat.{ℕ, _≤_, _<_}
-use lib.ListN.{length, take}
+use lib.ListN.{length, getD, take}
 use Rattle.board.specs.declared.Board.{Board}
-use Rattle.load.specs.Load.{loadText}
+use Rattle.board.specs.declared.Network.{Network}
+use Rattle.text.specs.Results.{readText}
+use Rattle.graph_flows.specs.Paths.{Acyclic}
+use Rattle.load.specs.Load.{acyclicOf, loadText}
 use Rattle.solve_finish.specs.Finishes.{finishCall}
-use Rattle.report.specs.Reports.{reportText, unreported}
+use Rattle.report.specs.Reports.{loadRow, reportText, unreported}
 use Rattle.sheet_output.specs.Inputs.{textSpace, boardPart, movesPart}
 use Rattle.sheet_output.specs.Outputs.{numberLine, sheetOutput}
 use Rattle.play_session.specs.Replies.{playOutput}
@@ -18,6 +21,12 @@ use Rattle.catalog.specs.Table.{table}
 use Rattle.catalog.specs.Catalog.{boards, catalogText, catalogCall, allAccepted}
 use Rattle.promises.specs.Plays.{OfPlay, OfFinish}
 use Rattle.promises.specs.Lines.{ordersFrom, said}
+
+-- what stands for edge e: its acyclic flow, which is at most the text's, and just that where the text has no cycle of positive edges
+pub record FirstFlow (net : Network) (e shown : ℕ) : Type 0 where
+  pub acyclic : shown ≡ getD (acyclicOf net) e 0
+  pub below : shown ≤ getD (net .flows) e 0
+  pub whole : Acyclic (net .tails) (net .heads) (net .flows) → shown ≡ getD (net .flows) e 0
 
 pub record AboutSheets : Type 0 where
   -- "Forty boards of the team's making, one constant table of at least 1,500 numbers": nothing is left behind the fortieth
@@ -31,6 +40,8 @@ pub record AboutSheets : Type 0 where
   -- "28 not finished": so it is on every board of play; a board that a finish gave has a sheet
   pub sheet-before : (text : List ℕ) (b : Board) → OfPlay text b → unreported b ≡ 28
   pub sheet-after : (text : List ℕ) (f : Board) → OfFinish text f → unreported f ≡ 0
+  -- "The third field of an L line becomes the drained first flow" (document 02, E4): behind the letter and the edge, in every sheet
+  pub sheet-first : (text : List ℕ) (f : Board) → OfFinish text f → (e : ℕ) → FirstFlow (readText text .network) e (getD (loadRow f e) 1 0)
   -- "Program `sheet` reads a board on standard input, finishes it and prints the sheet, or the refusal number alone on a line"
   pub sheet-printed : (text : List ℕ) → loadText text .answer ≡ 0 → sheetOutput text ≡ reportText (finishCall (loadText text .board) .board)
   pub sheet-refused : (text : List ℕ) → loadText text .answer ≢ 0 → sheetOutput text ≡ numberLine (loadText text .answer)

@@ -70,12 +70,12 @@ module _ (b : Board) (reported : unreported b ≡ 0) where
   })
 
   -- the text over the tables that were filled is the text of the board
-  pub report-text : (counts : List ℕ) (rows : List (List ℕ)) → counts ≡ countsBy b → rows ≡ rowsBy b → tableText (b .network) counts rows ≡ reportText b
+  pub report-text : (counts : List ℕ) (rows : List (List ℕ)) → counts ≡ countsBy b → rows ≡ rowsBy b → tableText (b .network) (b .acyclic) counts rows ≡ reportText b
   unfolding tableText reportText
   report-text counts rows e r = rw (e, r, route-lines b report-terminals report-fits, load-lines b report-terminals report-fits)
 
 -- the three parts of the report, one behind the other
-module _ (net : Network) (counts : List ℕ) (rows : List (List ℕ)) (buf b1 b2 b3 : List ℕ) (at p1 p2 p3 : ℕ) where
+module _ (net : Network) (acyclic counts : List ℕ) (rows : List (List ℕ)) (buf b1 b2 b3 : List ℕ) (at p1 p2 p3 : ℕ) where
   abbrev head : List ℕ
   head = lineText 82 (net .terminals ∷ net .edges ∷ [])
 
@@ -83,13 +83,13 @@ module _ (net : Network) (counts : List ℕ) (rows : List (List ℕ)) (buf b1 b2
   routes = linesText 77 (tableRouteRow counts rows) 0 (net .terminals)
 
   abbrev loads : List ℕ
-  loads = linesText 76 (tableLoadRow net counts rows) 0 (net .edges)
+  loads = linesText 76 (tableLoadRow net acyclic counts rows) 0 (net .edges)
 
   pub tables-written : p1 ≡ at + length head → b1 ≡ sets buf at head → p2 ≡ p1 + length routes → b2 ≡ sets b1 p1 routes → p3 ≡ p2 + length loads
-      → b3 ≡ sets b2 p2 loads → (p3 ≡ at + length (tableText net counts rows)) × (b3 ≡ sets buf at (tableText net counts rows))
+      → b3 ≡ sets b2 p2 loads → (p3 ≡ at + length (tableText net acyclic counts rows)) × (b3 ≡ sets buf at (tableText net acyclic counts rows))
   unfolding tableText
   tables-written q1 e1 q2 e2 q3 e3 =
-      let whole : TextLeft buf (sets buf at (tableText net counts rows)) at (at + length (tableText net counts rows)) (head ++ (routes ++ loads)) =
+      let whole : TextLeft buf (sets buf at (tableText net acyclic counts rows)) at (at + length (tableText net acyclic counts rows)) (head ++ (routes ++ loads)) =
       record { size = refl; gives = refl } in
       let behind-head = left-part head (routes ++ loads) b1 p1 whole e1 q1 in
       let behind-routes = left-part routes loads b2 p2 behind-head e2 q2 in

@@ -33,13 +33,13 @@ lines-same x f g i (suc k) same = rw (same i (omega arith), lines-same x f g (su
 
 -- the line of an edge by the sets of the routes, and that those lines are the ones by the rows
 abbrev pub setLoadRow : List ℕ → List ℕ → List ℕ → ℕ → ℕ → List ℕ
-setLoadRow flows demands routes terminals e = e ∷ getD flows e 0 ∷ setLoad routes demands e terminals ∷ []
+setLoadRow acyclic demands routes terminals e = e ∷ getD acyclic e 0 ∷ setLoad routes demands e terminals ∷ []
 
-pub set-lines : (net : Network) (counts : List ℕ) (rows : List (List ℕ)) (routes : List ℕ) → net .edges ≤ maxEdges → AreRouteSets routes counts rows (net .terminals)
-    → linesText 76 (setLoadRow (net .flows) (net .demands) routes (net .terminals)) 0 (net .edges) ≡ linesText 76 (tableLoadRow net counts rows) 0 (net .edges)
-set-lines net counts rows routes few are =
-    lines-same 76 (setLoadRow (net .flows) (net .demands) routes (net .terminals)) (tableLoadRow net counts rows) 0 (net .edges)
-    (λ j h. ap (λ (n : ℕ). j ∷ getD (net .flows) j 0 ∷ n ∷ []) (set-load routes counts rows (net .demands) j (net .terminals) are (omega arith)))
+pub set-lines : (net : Network) (acyclic counts : List ℕ) (rows : List (List ℕ)) (routes : List ℕ) → net .edges ≤ maxEdges → AreRouteSets routes counts rows (net .terminals)
+    → linesText 76 (setLoadRow acyclic (net .demands) routes (net .terminals)) 0 (net .edges) ≡ linesText 76 (tableLoadRow net acyclic counts rows) 0 (net .edges)
+set-lines net acyclic counts rows routes few are =
+    lines-same 76 (setLoadRow acyclic (net .demands) routes (net .terminals)) (tableLoadRow net acyclic counts rows) 0 (net .edges)
+    (λ j h. ap (λ (n : ℕ). j ∷ getD acyclic j 0 ∷ n ∷ []) (set-load routes counts rows (net .demands) j (net .terminals) are (omega arith)))
 
 -- the counts and the rows of a board's moves
 abbrev pub countsBy : Board → List ℕ
@@ -57,5 +57,5 @@ module _ (b : Board) (few : b .network .terminals ≤ maxTerminals) (fit : route
       (λ j h. let less : j < b .network .terminals = omega arith in
       rw (row-route b j (omega arith) (fits-at b j fit less), counts-route b j (omega arith)))
 
-  pub load-lines : linesText 76 (tableLoadRow (b .network) (countsBy b) (rowsBy b)) 0 (b .network .edges) ≡ linesText 76 (loadRow b) 0 (b .network .edges)
-  load-lines = lines-same 76 (tableLoadRow (b .network) (countsBy b) (rowsBy b)) (loadRow b) 0 (b .network .edges) (λ j h. rw (table-load b j few fit))
+  pub load-lines : linesText 76 (tableLoadRow (b .network) (b .acyclic) (countsBy b) (rowsBy b)) 0 (b .network .edges) ≡ linesText 76 (loadRow b) 0 (b .network .edges)
+  load-lines = lines-same 76 (tableLoadRow (b .network) (b .acyclic) (countsBy b) (rowsBy b)) (loadRow b) 0 (b .network .edges) (λ j h. rw (table-load b j few fit))

@@ -3,13 +3,14 @@ use mathlib.Core.Bool.{Bool}
 use mathlib.Core.List.{List, [], _∷_, _++_}
 use Prim.Native.Nat.{ℕ}
 use lib.Dec.{leb, eqb}
-use lib.ListN.{length, getD, drop}
+use lib.ListN.{length, drop}
 use lib.Seq.{sets}
 use Rattle.lists.specs.Choice.{pick, both}
 use Rattle.board.specs.Record.{playStage, finishedStage}
 use Rattle.board.specs.declared.Board.{Board}
 use Rattle.text.specs.Text.{lineText, linesText}
 use Rattle.text.specs.declared.Written.{Written}
+use Rattle.move_guard.specs.Parts.{acyclicFlow}
 use Rattle.move_guard.specs.Guard.{loaded}
 use Rattle.report_routes.specs.Routes.{route, load}
 use Rattle.report_routes.specs.Tables.{routesFit}
@@ -18,9 +19,9 @@ use Rattle.report_routes.specs.Tables.{routesFit}
 abbrev pub routeRow : Board → ℕ → List ℕ
 routeRow b i = i ∷ length (route b i) ∷ route b i
 
--- `L,channel,first flow,load`, "where first flow is the one in the board text and load is the sum of needs routed over it"
+-- `L,channel,first flow,load`: first flow is "the drained first flow" (document 02, E4), "and load is the sum of needs routed over it"
 abbrev pub loadRow : Board → ℕ → List ℕ
-loadRow b e = e ∷ getD (b .network .flows) e 0 ∷ load b e ∷ []
+loadRow b e = e ∷ acyclicFlow b e ∷ load b e ∷ []
 
 -- `R,mills,channels`, then a line for each terminal and one for each edge
 unfoldable pub reportText : Board → List ℕ

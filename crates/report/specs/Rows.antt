@@ -11,15 +11,15 @@ use Rattle.report_routes.specs.Inner.{rowAt, tableLoad, Moderate}
 abbrev pub tableRouteRow : List ℕ → List (List ℕ) → ℕ → List ℕ
 tableRouteRow counts rows i = i ∷ getD counts i 0 ∷ rowAt counts rows i
 
--- edge e, its flow in the text, and its load
-abbrev pub tableLoadRow : Network → List ℕ → List (List ℕ) → ℕ → List ℕ
-tableLoadRow net counts rows e = e ∷ getD (net .flows) e 0 ∷ tableLoad counts rows (net .demands) e (net .terminals) ∷ []
+-- edge e, its acyclic flow, and its load
+abbrev pub tableLoadRow : Network → List ℕ → List ℕ → List (List ℕ) → ℕ → List ℕ
+tableLoadRow net acyclic counts rows e = e ∷ getD acyclic e 0 ∷ tableLoad counts rows (net .demands) e (net .terminals) ∷ []
 
 -- the text of the report
-unfoldable pub tableText : Network → List ℕ → List (List ℕ) → List ℕ
-tableText net counts rows =
+unfoldable pub tableText : Network → List ℕ → List ℕ → List (List ℕ) → List ℕ
+tableText net acyclic counts rows =
     lineText 82 (net .terminals ∷ net .edges ∷ [])
-    ++ (linesText 77 (tableRouteRow counts rows) 0 (net .terminals) ++ linesText 76 (tableLoadRow net counts rows) 0 (net .edges))
+    ++ (linesText 77 (tableRouteRow counts rows) 0 (net .terminals) ++ linesText 76 (tableLoadRow net acyclic counts rows) 0 (net .edges))
 
 -- what the writing asks for: counts within the limits, demands whose sums do not wrap, and routes that have room in their rows
 pub record Printable (net : Network) (counts : List ℕ) : Type 0 where

@@ -111,25 +111,25 @@ fn put_loads(
     buf: &mut [u8],
     at: usize,
     net: Network,
+    acyclic: [u32; Board::MAX_EDGES],
     counts: [u32; Board::MAX_TERMINALS],
     rows: [[u32; Board::MAX_VERTICES as usize]; Board::MAX_TERMINALS],
 ) -> usize
     requires { ⌜ (at ≤ 100000)
         × ((net .edges ≤ maxEdges) × ((net .terminals ≤ maxTerminals) × Moderate (net .demands))) ⌝ }
-    ensures { λ r. ⌜ r ≡ at + length (linesText 76 (tableLoadRow net counts rows) 0 (net .edges)) ⌝ }
+    ensures { λ r. ⌜ r ≡ at + length (linesText 76 (tableLoadRow net acyclic counts rows) 0 (net .edges)) ⌝ }
     ensures { λ r. ⌜ r ≤ at + 35 * maxEdges ⌝ }
     ensures { λ r. ⌜ now (buf .exit) ≡
-        sets (now (buf .entry)) at (linesText 76 (tableLoadRow net counts rows) 0 (net .edges)) ⌝ }
+        sets (now (buf .entry)) at (linesText 76 (tableLoadRow net acyclic counts rows) 0 (net .edges)) ⌝ }
 {
     let edges = net.edges;
     let terminals = net.terminals;
-    let flows = net.flows;
     let demands = net.demands;
     let routes = report_routes::edge_sets(counts, rows, terminals);
     let mut to = at;
     let mut e: u32 = 0;
     while e < edges {
-        let flow = flows[e as usize];
+        let flow = acyclic[e as usize];
         let load = report_routes::load(routes, demands, terminals, e);
         let row = [e, flow, load];
         to = text_writer::put_line(buf, to, b'L', &row);
@@ -144,32 +144,34 @@ fn put_tables(
     buf: &mut [u8],
     at: usize,
     net: Network,
+    acyclic: [u32; Board::MAX_EDGES],
     counts: [u32; Board::MAX_TERMINALS],
     rows: [[u32; Board::MAX_VERTICES as usize]; Board::MAX_TERMINALS],
 ) -> usize
     requires { ⌜ (at ≤ 65536) × Printable net counts ⌝ }
-    ensures { λ r. ⌜ r ≡ at + length (tableText net counts rows) ⌝ }
+    ensures { λ r. ⌜ r ≡ at + length (tableText net acyclic counts rows) ⌝ }
     ensures { λ r. ⌜ r ≤ at + 8280 ⌝ }
-    ensures { λ r. ⌜ now (buf .exit) ≡ sets (now (buf .entry)) at (tableText net counts rows) ⌝ }
+    ensures { λ r. ⌜ now (buf .exit) ≡ sets (now (buf .entry)) at (tableText net acyclic counts rows) ⌝ }
 {
     let sizes = [net.terminals, net.edges];
     let head = text_writer::put_line(buf, at, b'R', &sizes);
     let routes = put_routes(buf, head, counts, rows, net.terminals);
-    put_loads(buf, routes, net, counts, rows)
+    put_loads(buf, routes, net, acyclic, counts, rows)
 }
 
 // Whether the report has room in so many bytes: it is measured by writing it into a buffer that drops it.
 fn has_room(
     room: usize,
     net: Network,
+    acyclic: [u32; Board::MAX_EDGES],
     counts: [u32; Board::MAX_TERMINALS],
     rows: [[u32; Board::MAX_VERTICES as usize]; Board::MAX_TERMINALS],
 ) -> bool
     requires { ⌜ Printable net counts ⌝ }
-    ensures { λ r. ⌜ r ≡ leb (length (tableText net counts rows)) room ⌝ }
+    ensures { λ r. ⌜ r ≡ leb (length (tableText net acyclic counts rows)) room ⌝ }
 {
     let mut none = [0u8; 1];
-    let length = put_tables(&mut none, 0, net, counts, rows);
+    let length = put_tables(&mut none, 0, net, acyclic, counts, rows);
     length <= room
 }
 
@@ -205,11 +207,11 @@ pub fn put_sheet(buf: &mut [u8], at: usize, whole: bool, board: Board) -> Writte
         return Written::refused(number);
     }
     if lists::and(whole, buf.len() < REPORT_BYTES) {
-        if !has_room(buf.len(), net, counts, rows) {
+        if !has_room(buf.len(), net, acyclic, counts, rows) {
             return Written::refused(8);
         }
     }
-    let end = put_tables(buf, at, net, counts, rows);
+    let end = put_tables(buf, at, net, acyclic, counts, rows);
     Written {
         answer: 0,
         used: end - at,

@@ -73,7 +73,7 @@ pub finishing : String → List ℕ → List (List ℕ) → List ℕ → Case
 finishing text flows routes loads = record { text = text; answer = 0; calls = []; given = []; flows = flows; last = 0; routes = routes; loads = loads }
 
 -- the board whose channels 1 and 2 drain to 0, and document 01's T
-withCycle : String
+unfoldable pub withCycle : String
 withCycle = "B,3,3,1,0\nC,0,1,4\nC,1,2,3\nC,2,1,3\nW,1,4\n"
 
 unfoldable pub boardT : String

@@ -1,4 +1,5 @@
--- What the programs print for document 01's T, computed from the definitions: the sheet that it shows, and a play with lines of every kind.
+-- What the programs print, computed from the definitions: for document 01's T the sheet that it shows, and a play with lines of every kind; for the board
+-- whose channels 1 and 2 drain to 0, a sheet that shows them so (document 02, E4).
 use mathlib.Core.Bool.{Bool}
 use mathlib.Core.List.{_++_}
 use Prim.Native.String.{String}
@@ -38,11 +39,14 @@ use Rattle.play_lines.specs.Orders.{fieldsOf, onto, isLetter, carryOf, turnOf, 
 use Rattle.sheet_output.specs.Outputs.{reportOf, finishOutput, sheetOutput}
 use Rattle.sheet_output.specs.Inputs.{firstLines, linesOf, linesWanted, boardPart, movesPart}
 use Rattle.play_session.specs.Replies.{replied, replyText, repliesFrom, playOutput}
-use Rattle.theorem_cases.proofs.Cases.{bytes, boardT, same}
+use Rattle.theorem_cases.proofs.Cases.{bytes, withCycle, boardT, same}
 
 -- document 01's sheet
 sheetT : String
 sheetT = "R,2,4\nM,0,2,0,2\nM,1,2,1,3\nL,0,3,2\nL,1,3,4\nL,2,3,2\nL,3,3,4\n"
+
+sheetWithCycle : String
+sheetWithCycle = "R,1,3\nM,0,1,0\nL,0,4,4\nL,1,0,0\nL,2,0,0\n"
 
 -- two carries, the turn, an undo and a hint; a channel too large for a step, a line of another form, the empty turn; a finish, a line after it, and one
 -- without its line feed
@@ -55,11 +59,12 @@ answersT = "0\n0\n0\n0\n0\n6\n1\n7\n0\n"
 pub asShown : Bool
 asShown =
     both (same (sheetOutput (bytes boardT)) (bytes sheetT))
-    (same (playOutput (bytes boardT ++ bytes lines)) (bytes answersT ++ (bytes sheetT ++ bytes "20\n1\n")))
+    (both (same (sheetOutput (bytes withCycle)) (bytes sheetWithCycle))
+    (same (playOutput (bytes boardT ++ bytes lines)) (bytes answersT ++ (bytes sheetT ++ bytes "20\n1\n"))))
 
 pub printed : T asShown
 unfolding asShown lines answersT playOutput repliesFrom replyText replied hintRefusal boardPart movesPart firstLines linesWanted linesOf header line letter
-    field numbers then fieldsOf onto isLetter carryOf turnOf byFields orderOf same bytes boardT sheetT sheetOutput finishOutput reportOf reportText
+    field numbers then fieldsOf onto isLetter carryOf turnOf byFields orderOf same bytes withCycle boardT sheetT sheetWithCycle sheetOutput finishOutput reportOf reportText
     started unreported routesFit route routeBy load decimal decimalFrom numbersText lineText linesText loadText readText both pick indexOf numberOf
     valueFrom ranged all lowest sumAt keyed closedBoard opens pass passes reached leads onward since follow smallest lowered lowerCycle onCycle
     cycleVertex cycleFrom cancelled acyclicFlows answered intact loaded playing flowFits enters isOpen openEdge hasOpen openTerminal someOpen onBoard

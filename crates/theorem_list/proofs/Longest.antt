@@ -34,6 +34,7 @@ use Rattle.report.specs.Reports.{routeRow, loadRow, reportText}
 use Rattle.theorem_keep.proofs.Network.{acyclic-of-below, flow-small}
 use Rattle.theorem_list.specs.Complete.{verticesAlong, Simple, InUse, Complete}
 use Rattle.theorem_list.proofs.EveryList.{every-list}
+use Rattle.theorem_list.proofs.Reports.{played-acyclic}
 use Rattle.theorem_list.proofs.Rooms.{distinct-few}
 
 -- x or 0
@@ -101,7 +102,7 @@ module _ (c : Board) (law : Lawful (c .network)) (small : (e : ℕ) → acyclicF
   -- the line of edge e, whose number has at most d digits
   load-line : (d e : ℕ) → 0 < d → e < 10 ^ d → e < c .network .edges → length (lineText 76 (loadRow c e)) ≤ d + 19
   load-line d e some digits h =
-      omega (arith, line-within 76 (d ∷ 7 ∷ 7 ∷ []) (loadRow c e) (some, digits, omega (arith, law .flow e h, load-small e)))
+      omega (arith, line-within 76 (d ∷ 7 ∷ 7 ∷ []) (loadRow c e) (some, digits, omega (arith, small e, load-small e)))
 
   -- 8 bytes for the first line, 1,606 for the routes, 1,334 for the loads
   short-report : length (reportText c) ≤ 2948
@@ -139,6 +140,5 @@ report-short text cs loads =
     let law : Lawful net = loaded-lawful text loads in
     let first = load-accepted text loads in
     let network : played (loadText text .board) cs .network ≡ net = faithful .network ∙ ap (λ (b : Board). b .network) first in
-    let acyclic : played (loadText text .board) cs .acyclic ≡ acyclicOf net = faithful .acyclic ∙ ap (λ (b : Board). b .acyclic) first in
     complete-short (played (loadText text .board) cs) (finishCall (played (loadText text .board) cs)) (faithful .finish) (rw network law)
-    (λ e. rw acyclic (omega (arith, acyclic-of-below net law e, flow-small net law e)))
+    (λ e. rw (played-acyclic text cs loads) (omega (arith, acyclic-of-below net law e, flow-small net law e)))

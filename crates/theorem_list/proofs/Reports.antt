@@ -1,6 +1,6 @@
 -- A board reached by play keeps the invariant, so it is intact and its routes have room in their rows: all that it lacks for a report is that play is over. Finish
 -- plays on by accepted moves, so the board at its end keeps the invariant too, and to end play changes nothing that the two tests look at.
-use mathlib.Core.Path.{_≡_, refl, _∙_}
+use mathlib.Core.Path.{_≡_, refl, ap, _∙_}
 use mathlib.Core.Bool.{true}
 use mathlib.Core.List.{List, []}
 use Prim.Native.Nat.{ℕ, _≤_}
@@ -10,7 +10,9 @@ use borrow.Author.Tests.{le-leb, eq-eqb, ne-eqb}
 use Rattle.lists.proofs.Laws.{pick-yes, pick-no, both-true}
 use Rattle.board.specs.Record.{playStage, finishedStage}
 use Rattle.board.specs.declared.Board.{Board}
-use Rattle.load.specs.Load.{loadText}
+use Rattle.text.specs.Results.{readText}
+use Rattle.load.specs.Load.{acyclicOf, loadText}
+use Rattle.load.proofs.Loads.{load-accepted}
 use Rattle.move_guard.specs.Guard.{intact, loaded}
 use Rattle.move_guard.proofs.Facts.{playing-intact}
 use Rattle.report_routes.specs.Routes.{route}
@@ -71,6 +73,15 @@ every-report text cs loads =
       complete = every-list text cs loads .finish;
       after = finished-reported (played (loadText text .board) cs) st;
     }
+
+-- the acyclic flow stays that of the text, in play and at its end
+pub played-acyclic : (text : List ℕ) (cs : List Call) → loadText text .answer ≡ 0
+    → played (loadText text .board) cs .acyclic ≡ acyclicOf (readText text .network)
+played-acyclic text cs loads = every-list text cs loads .acyclic ∙ ap (λ (b : Board). b .acyclic) (load-accepted text loads)
+
+pub finished-acyclic : (text : List ℕ) (cs : List Call) → loadText text .answer ≡ 0
+    → finishCall (played (loadText text .board) cs) .board .acyclic ≡ acyclicOf (readText text .network)
+finished-acyclic text cs loads = every-list text cs loads .finish .acyclic ∙ played-acyclic text cs loads
 
 pub sheet-printed : (text : List ℕ) → loadText text .answer ≡ 0 → Printed text (loadText text .board)
 unfolding sheetOutput

@@ -15,13 +15,13 @@ use Rattle.report.proofs.put_loads.Statement.{statement}
 use Rattle.report.proofs.put_loads.Tie as tie
 
 abbrev Inv-loop : tie.InvT-loop
-Inv-loop buf₀ at edges terminals flows demands routes to₀ e₀ buf to e =
+Inv-loop buf₀ at acyclic edges terminals demands routes to₀ e₀ buf to e =
     (e ≤ edges) × (to ≤ at + 35 * e)
-    × TextLeft buf (sets buf₀ at (linesText 76 (setLoadRow flows demands routes terminals) 0 edges)) to (at + length (linesText 76 (setLoadRow flows demands routes terminals) 0 edges))
-    (linesText 76 (setLoadRow flows demands routes terminals) e (edges - e))
+    × TextLeft buf (sets buf₀ at (linesText 76 (setLoadRow acyclic demands routes terminals) 0 edges)) to (at + length (linesText 76 (setLoadRow acyclic demands routes terminals) 0 edges))
+    (linesText 76 (setLoadRow acyclic demands routes terminals) e (edges - e))
 
 abbrev μ-loop : tie.MeasureT-loop
-μ-loop buf₀ at edges terminals flows demands routes to₀ e₀ buf to e = edges - e
+μ-loop buf₀ at acyclic edges terminals demands routes to₀ e₀ buf to e = edges - e
 
 edge-sets-requires : tie.Need-edge-sets-requires Inv-loop μ-loop
 edge-sets-requires c κs = search needs
@@ -59,10 +59,10 @@ loop-again c =
     let at-load = c .before .before .before .before .before .load in
     let at-loop-test = c .before .before .before .before .before .before .loop-test in
     let at-loop = c .before .before .before .before .before .before .before .loop in
-    let flows = c .before .before .before .before .before .before .before .before .before .before .before .before .args .net .flows in (
+    let acyclic = c .before .before .before .before .before .before .before .before .before .before .before .args .t4 in (
       omega arith,
       omega arith,
-      lines-turned _ _ _ _ (at-loop-test .taken) (at-loop .inv .2) _ _ _ (ap (λ (n : ℕ). at-loop .e ∷ getD flows (at-loop .e) 0 ∷ n ∷ []) (at-load .ensures))
+      lines-turned _ _ _ _ (at-loop-test .taken) (at-loop .inv .2) _ _ _ (ap (λ (n : ℕ). at-loop .e ∷ getD acyclic (at-loop .e) 0 ∷ n ∷ []) (at-load .ensures))
           (at-put-line .ensures .1 .1)
           (at-put-line .ensures .0),
     )
@@ -73,8 +73,8 @@ same-length c = ap length (lines-done _ _ _ _ (c .loop-test .left) (c .before .l
 returns : tie.Need-returns Inv-loop μ-loop
 returns c =
     let d = lines-done _ _ _ _ (c .loop-test .left) (c .before .loop .inv .2) in
-    let start = c .before .before .before .before .before .before in
-    let same = set-lines (start .args .net) (start .args .counts) (start .args .rows) _ (start .pre .1 .0) (c .before .before .edge-sets .ensures .are) in
+    let start = c .before .before .before .before .before in
+    let same = set-lines (start .args .net) (start .args .t4) (start .args .counts) (start .args .rows) _ (start .pre .1 .0) (c .before .before .edge-sets .ensures .are) in
     (rw (← same) (d .0), (omega arith, rw (← same) (d .1)))
 
 pub put-loads-spec : {M : Type 1} → statement M

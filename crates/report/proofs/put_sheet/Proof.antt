@@ -44,18 +44,21 @@ Tested = lts.After-loaded-in cs reads.Pre reads.Post
 abbrev Numbered : Type 0
 Numbered = lts.After-unreported-in cs reads.Pre reads.Post
 
+-- the beginning, and the board that was given there
+abbrev begun : Tested → lts.Start cs reads.Pre reads.Post
+begun t = t .before .before .before .before .before .before .before .before .before .before
+
 abbrev given : Tested → Board
-given t = t .before .before .before .before .before .before .before .before .before .before .args .t4
+given t = begun t .args .t4
 
 tested : (t : Tested) → t .loaded-in .result ≡ loaded (given t)
 tested t =
     let at-intact = t .before in
     let joined = at-intact .before .if1 in
     let at-blank = at-intact .before .before in
-    let start = at-blank .before .before .before .before .before .before .before in
-    let board = start .args .t4 in
+    let board = given t in
     -- what owning the board tells of its journal
-    let journal = start .good .1 .1 .1 .0 .1 .1 .1 .1 .1 .1 .1 .1 .0 in
+    let journal = begun t .good .1 .1 .1 .0 .1 .1 .1 .1 .1 .1 .1 .1 .0 in
     let long : length (board .journal) ≡ maxMoves = simp length-map at (journal .1 .0 .1) in
     let last = last-read board _ (joined .last) _ long (at-blank .before .minus .ensures)
     (⊎-elim (λ w. inl (w .0 .taken, w .2)) (λ w. inr (w .0 .left, w .1 ∙ at-blank .blank .ensures)) (joined .came)) in
@@ -63,9 +66,8 @@ tested t =
 
 demands-long : (t : Tested) → length (given t .network .demands) ≡ maxTerminals
 demands-long t =
-    let start = t .before .before .before .before .before .before .before .before .before .before in
     -- what owning the board tells of its network
-    let network = start .good .1 .1 .1 .0 .1 .1 .1 in
+    let network = begun t .good .1 .1 .1 .0 .1 .1 .1 in
     let demands = network .0 .1 .1 .1 .1 .1 .1 .1 .1 .1 .1 .0 in
     simp length-map at (demands .1 .0 .1)
 
@@ -149,7 +151,7 @@ returns-3 c =
     let at-and = measured .before in
     let passed = at-and .before in
     let n = passed .before in
-    let args = loading n .before .before .before .before .before .before .before .before .before .before .args in
+    let args = begun (loading n) .args in
     let filled = n .before .before .fill .ensures in
     let reported = sym (numbered n) ∙ passed .if3 .left in
     let text = report-text (args .t4) reported _ _ (filled .1) (filled .0) in
@@ -162,7 +164,7 @@ put-tables-requires : tie.Need-put-tables-requires
 put-tables-requires c κs =
     let passed = c .before .before .before in
     let n = passed .before in
-    (loading n .before .before .before .before .before .before .before .before .before .before .pre, report-printable _ (sym (numbered n) ∙ passed .if3 .left) _ (n .before .before .fill .ensures .1) (demands-long (loading n)))
+    (begun (loading n) .pre, report-printable _ (sym (numbered n) ∙ passed .if3 .left) _ (n .before .before .fill .ensures .1) (demands-long (loading n)))
 
 sub-t31 : tie.Need-sub-t31
 sub-t31 c = search needs
@@ -177,7 +179,7 @@ returns-4 c =
     let at-and = joined .before in
     let passed = at-and .before in
     let n = passed .before in
-    let args = loading n .before .before .before .before .before .before .before .before .before .before .args in
+    let args = begun (loading n) .args in
     let put = at-put-tables .put-tables .ensures in
     let filled = n .before .before .fill .ensures in
     let reported = sym (numbered n) ∙ passed .if3 .left in

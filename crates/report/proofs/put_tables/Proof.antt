@@ -26,7 +26,7 @@ returns c =
     let at-put-routes = c .before .before .before .before .before .before .put-routes in
     let at-put-line = c .before .before .before .before .before .before .before .before .before .before .put-line in
     let args = c .before .before .before .before .before .before .before .before .before .before .before .before .before .before .args in
-    let d = tables-written (args .net) (args .counts) (args .rows) (args .buf .now) _ _ _ (args .at) _ _ _ (at-put-line .ensures .0)
+    let d = tables-written (args .net) (args .acyclic) (args .counts) (args .rows) (args .buf .now) _ _ _ (args .at) _ _ _ (at-put-line .ensures .0)
     (at-put-line .ensures .1 .1) (at-put-routes .ensures .0) (at-put-routes .ensures .1 .1) (at-put-loads .ensures .0) (at-put-loads .ensures .1 .1) in
     (d .0, (omega arith, d .1))
 

@@ -19,7 +19,7 @@ use reference::engine::{self, EDGES};
 use reference::player::Player;
 use reference::random::Random;
 use reference::text::{flows, read, write};
-use report::{compare_long_lines, compare_programs};
+use report::{compare_long_lines, compare_old_sheets, compare_programs};
 use std::collections::BTreeMap;
 use std::fmt::Debug;
 use std::thread;
@@ -148,6 +148,7 @@ fn compare_made(seed: u64, tally: &mut Tally) -> Result<(), String> {
     ];
     lists.iter().try_for_each(|calls| compare_play(T.as_bytes(), calls, true, tally))?;
     compare_catalog(&mut rng, tally)?;
+    compare_old_sheets(tally)?;
     compare_long_lines(T, tally)
 }
 

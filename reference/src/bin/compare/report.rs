@@ -7,6 +7,7 @@ use reference::calls::random_input;
 use reference::damage::damaged;
 use reference::encoded::{call_by_reference, codes_of, EngineCall};
 use reference::engine;
+use reference::old_sheets::old_sheets;
 use reference::player::{Player, Written};
 use reference::programs::{play, sheet};
 use reference::random::Random;
@@ -147,6 +148,18 @@ pub fn compare_programs(rng: &mut Random, tally: &mut Tally) -> Result<(), Strin
         input.splice(..good.len().min(input.len()), text);
     }
     compare_program("play", &input, play(&input), tally)
+}
+
+/// "The old sheets are compared again with this field changed and no other": through `play`, and where no move stands through `sheet`.
+pub fn compare_old_sheets(tally: &mut Tally) -> Result<(), String> {
+    old_sheets().iter().try_for_each(|old| {
+        if old.moves.is_empty() {
+            compare_program("sheet", old.board.as_bytes(), old.changed().into_bytes(), tally)?;
+        }
+        compare_program("play", &old.input(), old.output(), tally)?;
+        *tally.entry("old sheets".into()).or_default() += 1;
+        Ok(())
+    })
 }
 
 /// Lines of 400,000 bytes, and nothing.
