@@ -1,5 +1,5 @@
--- The book of promises: every sentence of document 01 and of the three demands that claims something, in the paper's order. Demand 1 besides: no function traps, wraps or
--- runs on, which is what the checker proves of each.
+-- The book of promises: every sentence that claims something, of document 01 in the paper's order, of the three demands, and of the requests of document 02 that were
+-- met, each where it belongs. Demand 1 besides: no function traps, wraps or runs on, which is what the checker proves of each.
 use mathlib.Core.Path.{_≡_}
 use mathlib.Core.List.{List}
 use Prim.Native.Nat.{ℕ}

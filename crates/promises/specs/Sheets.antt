@@ -1,4 +1,4 @@
--- Document 01, "The shelf" and "Route sheet". The sheet itself is `reportText`, over the routes and loads of the player.
+-- Document 01, "The shelf" and "Route sheet"; document 02, E4. The sheet itself is `reportText`, over the routes and loads of the player.
 use mathlib.Core.Path.{_≡_}
 use mathlib.Core.Bool.{true}
 use mathlib.Core.Logic.{_≢_}
