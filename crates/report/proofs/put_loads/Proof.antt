@@ -55,16 +55,17 @@ loop-less c = omega arith
 
 loop-again : tie.Need-loop-again Inv-loop μ-loop
 loop-again c =
-    let at-put-line = c .before .before .put-line in
-    let at-load = c .before .before .before .before .before .load in
-    let at-loop-test = c .before .before .before .before .before .before .loop-test in
-    let at-loop = c .before .before .before .before .before .before .before .loop in
-    let acyclic = c .before .before .before .before .before .before .before .before .before .before .before .args .t4 in (
+    let written = c .before .before in
+    let summed = written .before .before .before in
+    let tested = summed .before in
+    let now = tested .before .loop in
+    let start = tested .before .before .before .before .before in
+    let acyclic = start .args .t4 in (
       omega arith,
       omega arith,
-      lines-turned _ _ _ _ (at-loop-test .taken) (at-loop .inv .2) _ _ _ (ap (λ (n : ℕ). at-loop .e ∷ getD acyclic (at-loop .e) 0 ∷ n ∷ []) (at-load .ensures))
-          (at-put-line .ensures .1 .1)
-          (at-put-line .ensures .0),
+      lines-turned _ _ _ _ (tested .loop-test .taken) (now .inv .2) _ _ _ (ap (λ (n : ℕ). now .e ∷ getD acyclic (now .e) 0 ∷ n ∷ []) (summed .load .ensures))
+          (written .put-line .ensures .1 .1)
+          (written .put-line .ensures .0),
     )
 
 same-length : tie.Need-same-length Inv-loop μ-loop

@@ -46,7 +46,10 @@ Numbered = lts.After-unreported-in cs reads.Pre reads.Post
 
 -- the beginning, and the board that was given there
 abbrev begun : Tested → lts.Start cs reads.Pre reads.Post
-begun t = t .before .before .before .before .before .before .before .before .before .before
+begun t =
+    let at-intact = t .before in
+    let at-blank = at-intact .before .before in
+    at-blank .before .before .before .before .before .before .before
 
 abbrev given : Tested → Board
 given t = begun t .args .t4

@@ -22,12 +22,13 @@ same-length c = search needs
 
 returns : tie.Need-returns
 returns c =
-    let at-put-loads = c .before .before .put-loads in
-    let at-put-routes = c .before .before .before .before .before .before .put-routes in
-    let at-put-line = c .before .before .before .before .before .before .before .before .before .before .put-line in
-    let args = c .before .before .before .before .before .before .before .before .before .before .before .before .before .before .args in
-    let d = tables-written (args .net) (args .acyclic) (args .counts) (args .rows) (args .buf .now) _ _ _ (args .at) _ _ _ (at-put-line .ensures .0)
-    (at-put-line .ensures .1 .1) (at-put-routes .ensures .0) (at-put-routes .ensures .1 .1) (at-put-loads .ensures .0) (at-put-loads .ensures .1 .1) in
+    let at-loads = c .before .before in
+    let at-routes = at-loads .before .before .before .before in
+    let at-head = at-routes .before .before .before .before in
+    let args = at-head .before .before .before .before .args in
+    let d = tables-written (args .net) (args .acyclic) (args .counts) (args .rows) (args .buf .now) _ _ _ (args .at) _ _ _ (at-head .put-line .ensures .0)
+    (at-head .put-line .ensures .1 .1) (at-routes .put-routes .ensures .0) (at-routes .put-routes .ensures .1 .1) (at-loads .put-loads .ensures .0)
+    (at-loads .put-loads .ensures .1 .1) in
     (d .0, (omega arith, d .1))
 
 pub put-tables-spec : {M : Type 1} → statement M
