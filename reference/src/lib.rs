@@ -1,6 +1,6 @@
-//! The reference program: document 01 written down plainly, to compare the engine with.
+//! The reference program: document 01, with the requests of document 02 that were met, written down plainly, to compare the engine with.
 //!
-//! It was written from document 01 and never from the engine's code or definitions. Speed and memory are no concern: it uses growable
+//! It was written from these papers and never from the engine's code or definitions. Speed and memory are no concern: it uses growable
 //! vectors and sets, and every call makes the board afresh from the text and the standing moves. Each rule stands under the sentence that
 //! it follows, in quotes.
 //!

@@ -1,7 +1,6 @@
 //! "The old sheets are compared again with this field changed and no other": document 02, E4.
 
 use reference::cases::{S, T};
-use reference::catalog::BOARDS;
 use reference::old_sheets::{old_sheets, OldSheet};
 use reference::programs::{play, sheet};
 
@@ -16,13 +15,13 @@ fn made_again() {
     }
 }
 
-/// The file is the one that was stored: so many sheets, those of the catalog first, some behind moves, some changed and most not.
+/// The file is the one that was stored: so many sheets, those of the catalog as it was first, some behind moves, some changed and most not.
 #[test]
 fn as_stored() {
     let sheets = old_sheets();
     let count = |is: fn(&&OldSheet) -> bool| sheets.iter().filter(is).count();
     assert_eq!((sheets.len(), count(|old| !old.moves.is_empty()), count(|old| old.changed() != old.text())), (192, 49, 62));
-    assert!(sheets.iter().zip(BOARDS).all(|(old, text)| old.board == text && old.moves.is_empty()));
+    assert!(sheets.iter().take(40).enumerate().all(|(number, old)| old.name == format!("catalog {number}") && old.moves.is_empty()));
 }
 
 /// Document 01's S and T keep their sheets; that of the board with a cycle changes in two lines.

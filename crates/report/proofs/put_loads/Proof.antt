@@ -58,12 +58,12 @@ loop-again c =
     let written = c .before .before in
     let summed = written .before .before .before in
     let tested = summed .before in
-    let now = tested .before .loop in
+    let round = tested .before .loop in
     let start = tested .before .before .before .before .before in
     let acyclic = start .args .t4 in (
       omega arith,
       omega arith,
-      lines-turned _ _ _ _ (tested .loop-test .taken) (now .inv .2) _ _ _ (ap (λ (n : ℕ). now .e ∷ getD acyclic (now .e) 0 ∷ n ∷ []) (summed .load .ensures))
+      lines-turned _ _ _ _ (tested .loop-test .taken) (round .inv .2) _ _ _ (ap (λ (n : ℕ). round .e ∷ getD acyclic (round .e) 0 ∷ n ∷ []) (summed .load .ensures))
           (written .put-line .ensures .1 .1)
           (written .put-line .ensures .0),
     )
