@@ -1,6 +1,5 @@
 -- A list of calls on a board: what they answer, and the board after them.
-use mathlib.Core.Path.{_≡_}
-use mathlib.Core.List.{List, [], _∷_}
+use mathlib.Core.List.{List, [], _∷_, _++_}
 use Prim.Native.Nat.{ℕ, _+_}
 use lib.Dec.{ltb}
 use lib.ListN.{length}
@@ -15,7 +14,7 @@ use Rattle.move_turn.specs.Turns.{turnCall}
 use Rattle.move_undo.specs.Undone.{undoCall}
 use Rattle.solve_next.specs.declared.Advice.{Advice}
 use Rattle.solve_next.specs.declared.Suggestion.{Suggestion}
-use Rattle.solve_next.specs.Hints.{hintRefusal, Hinted}
+use Rattle.solve_next.specs.Hints.{hintRefusal, hintCall}
 
 -- a call with its arguments: a carry of a terminal over an edge, a turn along steps, an undo, or a hint
 pub data Call : Type 0 where
@@ -40,14 +39,16 @@ unfoldable pub answers : Board → List Call → List ℕ
 answers b [] = []
 answers b (c ∷ cs) = made b c .answer ∷ answers (made b c .board) cs
 
--- the hints that the calls gave, in order: each kept the hint's rule on the board of that point
-abbrev pub HintsKept : Board → List Call → List Suggestion → Type 0
-HintsKept b [] hs = hs ≡ []
-HintsKept b (hint ∷ cs) [] = ⊥
-HintsKept b (hint ∷ cs) (h ∷ hs) = Hinted b h × HintsKept b cs hs
-HintsKept b (carry i e ∷ cs) hs = HintsKept (made b (carry i e) .board) cs hs
-HintsKept b (turn w ∷ cs) hs = HintsKept (made b (turn w) .board) cs hs
-HintsKept b (undo ∷ cs) hs = HintsKept (made b undo .board) cs hs
+-- the hint that one call gives, if it is one; and the hints of the calls, in order
+abbrev pub hintedBy : Board → Call → List Suggestion
+hintedBy b (carry i e) = []
+hintedBy b (turn w) = []
+hintedBy b undo = []
+hintedBy b hint = hintCall b ∷ []
+
+unfoldable pub hintsOf : Board → List Call → List Suggestion
+hintsOf b [] = []
+hintsOf b (c ∷ cs) = hintedBy b c ++ hintsOf (made b c .board) cs
 
 -- a hint's move in numbers: its kind, terminal, edge, count of steps, and the steps
 abbrev pub adviceCode : Advice → List ℕ
@@ -64,9 +65,3 @@ behind buf k = pick (ltb k (length buf)) (k + adviceWidth) k
 unfoldable pub noted : List ℕ → ℕ → List Suggestion → List ℕ
 noted buf k [] = buf
 noted buf k (h ∷ hs) = noted (sets buf k (adviceCode (h .advice))) (behind buf k) hs
-
--- the calls gave hints that kept their rule, and their moves were written into the buffer from place k on, which then is `out`
-pub record Told (buf : List ℕ) (k : ℕ) (b : Board) (cs : List Call) (out : List ℕ) : Type 0 where
-  pub hints : List Suggestion
-  pub kept : HintsKept b cs hints
-  pub written : out ≡ noted buf k hints

@@ -11,10 +11,9 @@ use Rattle.board.specs.declared.Board.{Board}
 use Rattle.load.specs.Load.{loadText}
 use Rattle.move_guard.specs.Guard.{playing}
 use Rattle.solve_finish.specs.Finishes.{finishCall}
-use Rattle.solve_next.specs.declared.Suggestion.{Suggestion}
 use Rattle.report_routes.specs.Routes.{route}
-use Rattle.move_list.specs.Calls.{Call, played, answers, HintsKept}
-use Rattle.theorem_list.specs.Player.{afresh, standingMoves, says, HintsKeptBy, routeOf}
+use Rattle.move_list.specs.Calls.{Call, played, answers, hintsOf}
+use Rattle.theorem_list.specs.Player.{afresh, standingMoves, says, suggests, routeOf}
 use Rattle.theorem_list.specs.Complete.{Complete}
 
 -- b, the board after the calls cs on the board that the text gave, is the reference player's, and so were the answers; and finish completes it
@@ -36,8 +35,8 @@ pub record Faithful (text : List ℕ) (cs : List Call) (b : Board) : Type 0 wher
   -- play goes on, so that no answer was 20
   pub in-play : playing b ≡ true
   pub none-over : has 20 (answers (loadText text .board) cs) ≡ false
-  -- "Each carry, turn and undo answered this player's number; each hint kept the hint's rule on this player's board at that point"
+  -- "Each carry, turn and undo answered this player's number"; each hint was that of "this player's board at that point"
   pub same-answers : answers (loadText text .board) cs ≡ says text [] cs
-  pub hinted : (hs : List Suggestion) → HintsKept (loadText text .board) cs hs → HintsKeptBy text [] cs hs
+  pub same-hints : hintsOf (loadText text .board) cs ≡ suggests text [] cs
   -- finish completes the board
   pub finish : Complete b (finishCall b)

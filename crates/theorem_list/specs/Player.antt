@@ -1,6 +1,4 @@
 -- The reference player: document 01, "The player who never strayed".
-use mathlib.Core.Path.{_≡_}
-use mathlib.Core.Bool.{true}
 use mathlib.Core.List.{List, [], _∷_, _++_}
 use Prim.Native.Nat.{ℕ, _-_}
 use lib.Dec.{eqb}
@@ -11,8 +9,7 @@ use Rattle.move_carry.specs.Carries.{carryRefusal, carried}
 use Rattle.move_turn.specs.Turns.{turnRefusal, turned}
 use Rattle.load.specs.Load.{loadText}
 use Rattle.solve_next.specs.declared.Suggestion.{Suggestion}
-use Rattle.solve_next.specs.Hints.{offers}
-use Rattle.move_list.specs.Calls.{Call, carry, turn, undo, hint}
+use Rattle.move_list.specs.Calls.{Call, carry, turn, undo, hint, hintedBy}
 
 -- what a listed move does to the player's board, "as under Moves"; only carries and turns are listed
 abbrev pub listed : Board → Call → Board
@@ -25,11 +22,6 @@ listed b hint = b
 unfoldable pub listedAll : Board → List Call → Board
 listedAll b [] = b
 listedAll b (c ∷ cs) = listedAll (listed b c) cs
-
--- a hint that is not refused gives "some move that would be accepted. It gives none only if every mill is at the spring"
-pub record Offered (b : Board) (h : Suggestion) : Type 0 where
-  pub number : h .answer ≡ 0
-  pub move : offers b (h .advice) ≡ true
 
 -- "This player is fed the loaded text": the board is made afresh each time, from the text and the standing moves
 module _ (text : List ℕ) where
@@ -59,14 +51,10 @@ module _ (text : List ℕ) where
   says ms [] = []
   says ms (c ∷ cs) = saysTo ms c ∷ says (standingAfter ms c) cs
 
-  -- each hint "kept the hint's rule on this player's board at that point"
-  abbrev pub HintsKeptBy : List Call → List Call → List Suggestion → Type 0
-  HintsKeptBy ms [] hs = hs ≡ []
-  HintsKeptBy ms (hint ∷ cs) [] = ⊥
-  HintsKeptBy ms (hint ∷ cs) (h ∷ hs) = Offered (afresh ms) h × HintsKeptBy ms cs hs
-  HintsKeptBy ms (carry i e ∷ cs) hs = HintsKeptBy (standingAfter ms (carry i e)) cs hs
-  HintsKeptBy ms (turn w ∷ cs) hs = HintsKeptBy (standingAfter ms (turn w)) cs hs
-  HintsKeptBy ms (undo ∷ cs) hs = HintsKeptBy (standingAfter ms undo) cs hs
+  -- the hints: each is that of "this player's board at that point"
+  unfoldable pub suggests : List Call → List Call → List Suggestion
+  suggests ms [] = []
+  suggests ms (c ∷ cs) = hintedBy (afresh ms) c ++ suggests (standingAfter ms c) cs
 
 -- the edge that a call carries terminal i over; and the player's route of it, "last one first"
 abbrev pub goesOver : ℕ → Call → List ℕ
