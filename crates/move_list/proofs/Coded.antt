@@ -1,25 +1,25 @@
 -- The laws that the functions cite: what a list of numbers holds is read and written from its front, so each round of a
 -- loop does the first of what is left, and leaves the rest.
-use mathlib.Core.Path.{_≡_, refl, sym, _∙_}
-use mathlib.Core.Bool.{Bool, true, false, true≢false}
-use mathlib.Core.List.{List, [], _∷_}
+use mathlib.Core.Path.{_≡_, refl, sym}
+use mathlib.Core.Bool.{true, false}
+use mathlib.Core.List.{List, [], _∷_, _++_}
 use Prim.Native.Nat.{ℕ, suc, _+_, _-_, _≤_, _<_}
 use native.Mathlib.Numerals.{add-one}
 use native.Mathlib.Omega.{arith}
 use lib.Dec.{leb, ltb}
-use borrow.Author.Tests.{leb-true, ltb-true, ltb-false}
+use borrow.Author.Tests.{leb-true, lt-ltb, le-ltb}
 use lib.ListN.{length, getD, take, drop, set, length-drop, drop-of-length-le}
 use lib.Seq.{drop-cons, sets}
-use Rattle.lists.specs.Choice.{pick, both}
-use Rattle.lists.proofs.Laws.{Known, was-true, was-false, known, pick-yes, pick-no, both-left, both-right}
+use Rattle.lists.specs.Choice.{both}
+use Rattle.lists.proofs.Laws.{pick-yes, pick-no, both-left, both-right}
 use Rattle.lists.proofs.Stored.{stored-turn, stored-past}
 use Rattle.board.specs.declared.Board.{Board}
 use Rattle.board.specs.declared.Entry.{Entry}
 use Rattle.board.specs.declared.Played.{Played}
 use Rattle.solve_next.specs.declared.Advice.{Advice}
-use Rattle.move_list.specs.declared.Reply.{Reply}
-use Rattle.move_list.specs.Calls.{Call, carry, turn, undo, hint, made, played, answers, adviceCode, adviceWidth, behind, noted, Told}
-use Rattle.move_list.specs.Inner.{isHint, plain, Replied}
+use Rattle.solve_next.specs.declared.Suggestion.{Suggestion}
+use Rattle.solve_next.specs.Hints.{hintCall}
+use Rattle.move_list.specs.Calls.{Call, hint, made, played, answers, hintedBy, hintsOf, adviceCode, adviceWidth, behind, noted}
 use Rattle.move_list.specs.Codes.{part, callOf, callsOf, moveCode, journalCoded}
 
 -- the steps of a turn
@@ -60,48 +60,15 @@ calls-few steps (x ∷ []) h = refl
 calls-few steps (x ∷ y ∷ []) h = refl
 calls-few steps (x ∷ y ∷ z ∷ codes) h = absurd (omega arith)
 
--- what a call gives that is no hint
-pub plain-replied : (b : Board) (c : Call) (p : Played) (r : Reply) → isHint c ≡ false → r ≡ plain p → p ≡ made b c → Replied b c r
-plain-replied b c p r no-hint e m =
-    rw (e, m) (record { answer = refl; board = refl; hinted = sym no-hint; hint = λ t. absurd (true≢false (sym t ∙ no-hint)) })
+-- the hints that are noted with those of the first call: none of its own, or one
+module _ (b : Board) (c : Call) (rest : List Suggestion) (buf buf' : List ℕ) (k k' : ℕ) where
+  pub none-hinted : hintedBy b c ≡ [] → buf' ≡ buf → k' ≡ k → noted buf' k' rest ≡ noted buf k (hintedBy b c ++ rest)
+  none-hinted n e ek = rw (n, e, ek)
 
--- what the first call adds to the hints of the others
-module _ (b : Board) (c : Call) (given : Reply) (makes : Replied b c given) (cs : List Call) (buf r out : List ℕ) (k k' : ℕ)
-    (er : r ≡ pick (given .hinted) (sets buf k (adviceCode (given .advice))) buf) (ek : k' ≡ pick (given .hinted) (behind buf k) k) where
-  -- a call that is no hint
-  no-hint : isHint c ≡ false → Told r k' (given .board) cs out → Told buf k (made b c .board) cs out
-  no-hint h t =
-      let none : given .hinted ≡ false = makes .hinted ∙ h in
-      let same-buf : r ≡ buf = er ∙ pick-no _ _ _ none in
-      let same-place : k' ≡ k = ek ∙ pick-no _ _ _ none in
-      rw (← makes .board, ← same-buf, ← same-place) t
-
-pub one-told : (b : Board) (c : Call) (given : Reply) → Replied b c given → (cs : List Call) (buf r out : List ℕ) (k k' : ℕ)
-    → r ≡ pick (given .hinted) (sets buf k (adviceCode (given .advice))) buf → k' ≡ pick (given .hinted) (behind buf k) k
-    → Told r k' (given .board) cs out → Told buf k b (c ∷ cs) out
-unfolding noted
-one-told b (carry i e) given makes cs buf r out k k' er ek t =
-    let u = no-hint b (carry i e) given makes cs buf r out k k' er ek refl t in
-    record { hints = u .hints; kept = u .kept; written = u .written }
-one-told b (turn w) given makes cs buf r out k k' er ek t =
-    let u = no-hint b (turn w) given makes cs buf r out k k' er ek refl t in
-    record { hints = u .hints; kept = u .kept; written = u .written }
-one-told b undo given makes cs buf r out k k' er ek t =
-    let u = no-hint b undo given makes cs buf r out k k' er ek refl t in
-    record { hints = u .hints; kept = u .kept; written = u .written }
-one-told b hint given makes cs buf r out k k' er ek t =
-    let stored : r ≡ sets buf k (adviceCode (given .advice)) = er ∙ pick-yes _ _ _ (makes .hinted) in
-    let after : k' ≡ behind buf k = ek ∙ pick-yes _ _ _ (makes .hinted) in
-    let u : Told (sets buf k (adviceCode (given .advice))) (behind buf k) b cs out = rw (← stored, ← after, ← makes .board) t in
-    record {
-      hints = record { answer = given .answer; advice = given .advice } ∷ u .hints;
-      kept = (makes .hint refl, u .kept);
-      written = u .written;
-    }
-
--- what the calls cs tell from place k of a buffer on completes what all calls tell
-abbrev pub Onward : List ℕ → Board → List Call → List ℕ → ℕ → Board → List Call → Type 0
-Onward first start all buf k b cs = (out : List ℕ) → Told buf k b cs out → Told first 0 start all out
+  pub one-hinted : (h : Suggestion) → c ≡ hint → h ≡ hintCall b → buf' ≡ sets buf k (adviceCode (h .advice)) → k' ≡ behind buf k
+      → noted buf' k' rest ≡ noted buf k (hintedBy b c ++ rest)
+  unfolding noted
+  one-hinted h n eh e ek = rw (n, e, ek, eh)
 
 -- the calls that are left, with this many numbers; one round makes the first of them
 module _ (steps codes : List ℕ) (left : ℕ) where
@@ -123,29 +90,30 @@ module _ (steps codes : List ℕ) (left : ℕ) where
     unfolding answers
     answers-end buf k h = rw (calls-none h)
 
-    pub told-end : (buf : List ℕ) (k : ℕ) → left < 3 → Told buf k b calls buf
-    unfolding noted
-    told-end buf k h = record { hints = []; kept = rw (calls-none h) refl; written = refl }
+    pub hints-end : (buf : List ℕ) (k : ℕ) → left < 3 → buf ≡ noted buf k (hintsOf b calls)
+    unfolding noted hintsOf
+    hints-end buf k h = rw (calls-none h)
 
-    module _ (given : Reply) (some : 3 ≤ left) (inside : left ≤ length codes)
-        (makes : Replied b (callOf steps (getD codes at 0) (getD codes (at + 1) 0) (getD codes (at + 2) 0)) given) where
+    module _ (p : Played) (some : 3 ≤ left) (inside : left ≤ length codes)
+        (makes : p ≡ made b (callOf steps (getD codes at 0) (getD codes (at + 1) 0) (getD codes (at + 2) 0))) where
       next : length codes - (left - 3) ≡ at + 3
       next = omega arith
 
-      pub played-turn : played (given .board) (callsOf steps (drop (length codes - (left - 3)) codes)) ≡ played b calls
+      pub played-turn : played (p .board) (callsOf steps (drop (length codes - (left - 3)) codes)) ≡ played b calls
       unfolding played
-      played-turn = rw (calls-turn steps codes at (omega arith), next, makes .board)
+      played-turn = rw (calls-turn steps codes at (omega arith), next, makes)
 
-      pub answers-turn : (buf r : List ℕ) (k : ℕ) → r ≡ set buf k (given .answer)
-          → sets r (k + 1) (answers (given .board) (callsOf steps (drop (length codes - (left - 3)) codes))) ≡ sets buf k (answers b calls)
+      pub answers-turn : (buf r : List ℕ) (k : ℕ) → r ≡ set buf k (p .answer)
+          → sets r (k + 1) (answers (p .board) (callsOf steps (drop (length codes - (left - 3)) codes))) ≡ sets buf k (answers b calls)
       unfolding answers
-      answers-turn buf r k e = rw (calls-turn steps codes at (omega arith), next, e, makes .board, makes .answer, add-one k)
+      answers-turn buf r k e = rw (calls-turn steps codes at (omega arith), next, e, makes, add-one k)
 
-      pub told-turn : (buf r out : List ℕ) (k k' : ℕ) → r ≡ pick (given .hinted) (sets buf k (adviceCode (given .advice))) buf
-          → k' ≡ pick (given .hinted) (behind buf k) k → Told r k' (given .board) (callsOf steps (drop (length codes - (left - 3)) codes)) out → Told buf k b calls out
-      told-turn buf r out k k' er ek t =
-          rw (calls-turn steps codes at (omega arith))
-          (one-told b (callOf steps (getD codes at 0) (getD codes (at + 1) 0) (getD codes (at + 2) 0)) given makes _ buf r out k k' er ek (rw next at t))
+      pub hints-turn : (buf buf' : List ℕ) (k k' : ℕ)
+          → ((rest : List Suggestion)
+          → noted buf' k' rest ≡ noted buf k (hintedBy b (callOf steps (getD codes at 0) (getD codes (at + 1) 0) (getD codes (at + 2) 0)) ++ rest))
+          → noted buf' k' (hintsOf (p .board) (callsOf steps (drop (length codes - (left - 3)) codes))) ≡ noted buf k (hintsOf b calls)
+      unfolding hintsOf
+      hints-turn buf buf' k k' told = rw (calls-turn steps codes at (omega arith), next, makes) (told _)
 
 -- before the first round all is left
 pub all-left : (codes : List ℕ) → drop (length codes - length codes) codes ≡ codes
@@ -188,32 +156,15 @@ advice-stored buf k a b1 b2 b3 b4 b5 e1 e2 e3 e4 e5 =
     let four : k + 4 ≡ suc (suc (suc (suc k))) = omega arith in
     rw (e5, e4, e3, e2, e1, one, two, three, four)
 
--- the move of a hint is noted, or there is nothing to note
-module _ (buf : List ℕ) (k : ℕ) (hinted : Bool) (a : Advice) where
-  -- no hint, or no place for one
-  pub nothing-noted : both hinted (ltb k (length buf)) ≡ false → (k ≡ pick hinted (behind buf k) k) × (buf ≡ pick hinted (sets buf k (adviceCode a)) buf)
-  unfolding behind both
-  nothing-noted h = go (known hinted)
-    where
-      go : Known hinted → (k ≡ pick hinted (behind buf k) k) × (buf ≡ pick hinted (sets buf k (adviceCode a)) buf)
-      go (was-false t) = (sym (pick-no hinted _ _ t), sym (pick-no hinted _ _ t))
-      go (was-true t) =
-          let past : ltb k (length buf) ≡ false = rw t at h in (
-            sym (pick-yes hinted _ _ t ∙ pick-no (ltb k (length buf)) _ _ past),
-            sym (pick-yes hinted _ _ t ∙ stored-past buf (adviceCode a) k (ltb-false k (length buf) past)),
-          )
-
-  -- a hint, and a place for it
-  pub one-noted : both hinted (ltb k (length buf)) ≡ true → (r : List ℕ) → r ≡ sets buf k (adviceCode a)
-      → (k + adviceWidth ≡ pick hinted (behind buf k) k) × (r ≡ pick hinted (sets buf k (adviceCode a)) buf)
+-- the move of a hint is noted where there is a place for it
+module _ (buf : List ℕ) (k : ℕ) where
+  pub nothing-noted : (a : Advice) → length buf ≤ k → (k ≡ behind buf k) × (buf ≡ sets buf k (adviceCode a))
   unfolding behind
-  one-noted h r e =
-      let t : hinted ≡ true = both-left _ _ h in
-      let inside : ltb k (length buf) ≡ true = both-right _ _ h in
-      (sym (pick-yes hinted _ _ t ∙ pick-yes (ltb k (length buf)) _ _ inside), e ∙ sym (pick-yes hinted _ _ t))
+  nothing-noted a h = (sym (pick-no (ltb k (length buf)) _ _ (le-ltb k (length buf) h)), sym (stored-past buf (adviceCode a) k h))
 
-  pub note-inside : both hinted (ltb k (length buf)) ≡ true → k < length buf
-  note-inside h = ltb-true k (length buf) (both-right _ _ h)
+  pub one-noted : k < length buf → k + adviceWidth ≡ behind buf k
+  unfolding behind
+  one-noted h = sym (pick-yes (ltb k (length buf)) _ _ (lt-ltb k (length buf) h))
 
 -- the entries from place i on
 module _ (js : List Entry) (i k : ℕ) (buf : List ℕ) where

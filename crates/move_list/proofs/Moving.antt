@@ -2,19 +2,20 @@
 -- a carry writes the place behind the last move and an undo the place of the last move, and a place past the end of the journal is written by neither.
 use mathlib.Core.Path.{_≡_, refl, sym, ap, _∙_}
 use mathlib.Core.Bool.{Bool, true, false, true≢false}
-use mathlib.Core.List.{List}
+use mathlib.Core.List.{List, [], _++_}
 use mathlib.Core.Logic.{_≢_}
 use Prim.Native.Nat.{ℕ, _+_, _-_, _≤_}
 use native.Mathlib.Omega.{arith}
 use lib.Dec.{eqb}
 use lib.ListN.{length, getD, set, length-set}
 use lib.Seq.{set-out, sets, length-sets}
-use borrow.Author.Tests.{eqb-true, ne-eqb}
+use borrow.Author.Tests.{eqb-true, eq-eqb, ne-eqb}
 use Rattle.lists.specs.Choice.{pick, either}
-use Rattle.lists.proofs.Laws.{Known, was-true, was-false, known, pick-yes, pick-no}
+use Rattle.lists.proofs.Laws.{Known, was-true, was-false, known, pick-yes, pick-no, either-left, either-right}
 use Rattle.board.specs.Limits.{maxEdges, maxTerminals, maxMoves}
 use Rattle.board.specs.declared.Board.{Board}
 use Rattle.board.specs.declared.Entry.{Entry}
+use Rattle.board.specs.declared.Played.{Played}
 use Rattle.move_guard.specs.declared.Change.{Change}
 use Rattle.move_guard.specs.Moved.{lastEntry}
 use Rattle.move_guard.specs.Guard.{playing}
@@ -23,11 +24,13 @@ use Rattle.move_guard.proofs.Stores.{stored, numbered, change-stored, change-re
 use Rattle.move_carry.proofs.Makes.{carry-by-change, carry-room}
 use Rattle.move_undo.specs.Undone.{undoChange}
 use Rattle.move_undo.proofs.Makes.{undo-by-change, undo-room, undo-blanks}
-use Rattle.move_list.specs.declared.Reply.{Reply}
-use Rattle.move_list.specs.Calls.{carry, undo, made, played, answers, adviceCode, behind}
-use Rattle.move_list.specs.Inner.{isHint, plain, Replied}
-use Rattle.move_list.specs.Codes.{callOf, callsOf}
-use Rattle.move_list.proofs.Coded.{Onward, calls, plain-replied, played-turn, answers-turn, told-turn}
+use Rattle.move_cycle.specs.Steps.{stepsOf}
+use Rattle.move_turn.specs.Turns.{turnCall}
+use Rattle.solve_next.specs.declared.Suggestion.{Suggestion}
+use Rattle.solve_next.specs.Hints.{hintCall}
+use Rattle.move_list.specs.Calls.{carry, turn, undo, hint, made, played, answers, hintedBy, hintsOf, adviceCode, behind, noted}
+use Rattle.move_list.specs.Codes.{part, callOf, callsOf}
+use Rattle.move_list.proofs.Coded.{none-hinted, one-hinted, calls, played-turn, answers-turn, hints-turn}
 
 -- the arrays of a board have their lengths
 pub record BoardSized (b : Board) : Type 0 where
@@ -75,10 +78,10 @@ module _ (steps : List ℕ) (b : Board) (kind a c : ℕ) (last : Entry) (plays :
           let t : eqb kind 2 ≡ true = either-second _ _ moving n in
           as-undo t (call-undo steps kind a c n t) (ec ∙ pick-no _ _ _ n)
 
-  no-hint : isHint (callOf steps kind a c) ≡ false
-  no-hint = go which
+  pub move-hints-none : hintedBy b (callOf steps kind a c) ≡ []
+  move-hints-none = go which
     where
-      go : Which → isHint (callOf steps kind a c) ≡ false
+      go : Which → hintedBy b (callOf steps kind a c) ≡ []
       go (as-carry n call e) = rw call refl
       go (as-undo t call e) = rw call refl
 
@@ -125,9 +128,25 @@ module _ (steps : List ℕ) (b : Board) (kind a c : ℕ) (last : Entry) (plays :
       go (as-carry n call ed) = rw call (change-refused b change h ∙ carry-by-change b a c plays change ep ed)
       go (as-undo t call ed) = rw call (back-refused b change h ∙ undo-by-change b plays last ep el change ed)
 
-  -- so the call replies with it
-  pub move-replied : (b' : Board) → numbered change b' ≡ made b (callOf steps kind a c) → Replied b (callOf steps kind a c) (plain (numbered change b'))
-  move-replied b' e = plain-replied b (callOf steps kind a c) (numbered change b') _ no-hint refl e
+-- a turn, and a hint
+module _ (steps : List ℕ) (b : Board) (kind a c : ℕ) (still : either (eqb kind 0) (eqb kind 2) ≡ false) where
+  call-turn : kind ≡ 1 → callOf steps kind a c ≡ turn (stepsOf (part steps a c))
+  unfolding callOf
+  call-turn q = pick-no _ _ _ (either-left _ _ still) ∙ pick-yes _ _ _ (eq-eqb kind 1 q)
+
+  call-hint : kind ≢ 1 → callOf steps kind a c ≡ hint
+  unfolding callOf
+  call-hint n = pick-no _ _ _ (either-left _ _ still) ∙ pick-no _ _ _ (ne-eqb kind 1 n) ∙ pick-no _ _ _ (either-right _ _ still)
+
+  turn-hints-none : kind ≡ 1 → hintedBy b (callOf steps kind a c) ≡ []
+  turn-hints-none q = rw (call-turn q) refl
+
+  turn-made : (p : Played) → kind ≡ 1 → p ≡ turnCall b (stepsOf (part steps a c)) → p ≡ made b (callOf steps kind a c)
+  turn-made p q e = rw (call-turn q) e
+
+  hint-made : (h : Suggestion) → kind ≢ 1 → h ≡ hintCall b → record { answer = h .answer; board = b } ≡ made b (callOf steps kind a c)
+  unfolding hintCall
+  hint-made h n e = rw (call-hint n, e)
 
 -- where the loop is: so much is left, and what is left of the calls completes what all of them give
 module _ (steps codes buf₀ hints₀ : List ℕ) (b₀ : Board) where
@@ -138,30 +157,52 @@ module _ (steps codes buf₀ hints₀ : List ℕ) (b₀ : Board) where
       × (length hints ≡ length hints₀)
       × (played b (calls steps codes left) ≡ played b₀ (callsOf steps codes))
       × (sets buf k (answers b (calls steps codes left)) ≡ sets buf₀ 0 (answers b₀ (callsOf steps codes)))
-      × Onward hints₀ b₀ (callsOf steps codes) hints j b (calls steps codes left)
+      × (noted hints j (hintsOf b (calls steps codes left)) ≡ noted hints₀ 0 (hintsOf b₀ (callsOf steps codes)))
       × BoardSized b
 
-  module _ (buf hints : List ℕ) (b : Board) (left k j : ℕ) (some : 3 ≤ left) (going : Going buf hints b left k j) (given : Reply)
-      (makes : Replied b (callOf steps (getD codes (length codes - left) 0) (getD codes (length codes - left + 1) 0) (getD codes (length codes - left + 2) 0)) given) where
+  module _ (buf hints : List ℕ) (b : Board) (left k j : ℕ) (some : 3 ≤ left) (going : Going buf hints b left k j) where
+    -- the three numbers of the next call
+    abbrev kind : ℕ
+    kind = getD codes (length codes - left) 0
+
+    abbrev first : ℕ
+    first = getD codes (length codes - left + 1) 0
+
+    abbrev second : ℕ
+    second = getD codes (length codes - left + 2) 0
+
     inside : left ≤ length codes
     inside = omega (arith, going .0)
 
-    noted-length : (hints' : List ℕ) → hints' ≡ pick (given .hinted) (sets hints j (adviceCode (given .advice))) hints → length hints' ≡ length hints
-    noted-length hints' e = go (known (given .hinted))
-      where
-        go : Known (given .hinted) → length hints' ≡ length hints
-        go (was-true t) = ap length (e ∙ pick-yes _ _ _ t) ∙ length-sets hints j (adviceCode (given .advice))
-        go (was-false t) = ap length (e ∙ pick-no _ _ _ t)
+    module _ (buf' hints' : List ℕ) (b' : Board) (j' : ℕ) where
+      -- one call more, with what it gave
+      going-turn : (p : Played) → p ≡ made b (callOf steps kind first second) → buf' ≡ set buf k (p .answer) → length hints' ≡ length hints
+          → ((rest : List Suggestion) → noted hints' j' rest ≡ noted hints j (hintedBy b (callOf steps kind first second) ++ rest))
+          → b' ≡ p .board → BoardSized b' → Going buf' hints' b' (left - 3) (k + 1) j'
+      going-turn p makes e-buf long told e-b s = (
+        omega (arith, going .0),
+        ap length e-buf ∙ length-set buf k (p .answer) ∙ going .1,
+        long ∙ going .2,
+        rw e-b (played-turn steps codes left b p some inside makes ∙ going .3),
+        rw e-b (answers-turn steps codes left b p some inside makes buf buf' k e-buf ∙ going .4),
+        rw e-b (hints-turn steps codes left b p some inside makes hints hints' j j' told ∙ going .5),
+        s,
+      )
 
-    pub going-turn : (buf' hints' : List ℕ) (b' : Board) (j' : ℕ) → buf' ≡ set buf k (given .answer)
-        → hints' ≡ pick (given .hinted) (sets hints j (adviceCode (given .advice))) hints → b' ≡ given .board → j' ≡ pick (given .hinted) (behind hints j) j → BoardSized b'
-        → Going buf' hints' b' (left - 3) (k + 1) j'
-    going-turn buf' hints' b' j' e-buf e-hints e-b e-j s = (
-      omega (arith, going .0),
-      ap length e-buf ∙ length-set buf k (given .answer) ∙ going .1,
-      noted-length hints' e-hints ∙ going .2,
-      rw e-b (played-turn steps codes left b given some inside makes ∙ going .3),
-      rw e-b (answers-turn steps codes left b given some inside makes buf buf' k e-buf ∙ going .4),
-      rw e-b (λ out t. going .5 out (told-turn steps codes left b given some inside makes hints hints' out j j' e-hints e-j t)),
-      s,
-    )
+      pub going-moved : (p : Played) → p ≡ made b (callOf steps kind first second) → hintedBy b (callOf steps kind first second) ≡ [] → buf' ≡ set buf k (p .answer)
+          → hints' ≡ hints → j' ≡ j → b' ≡ p .board → BoardSized b' → Going buf' hints' b' (left - 3) (k + 1) j'
+      going-moved p makes none e-buf e-hints e-j e-b s =
+          going-turn p makes e-buf (ap length e-hints) (λ rest. none-hinted b (callOf steps kind first second) rest hints hints' j j' none e-hints e-j) e-b s
+
+      module _ (still : either (eqb kind 0) (eqb kind 2) ≡ false) where
+        pub going-turned : (p : Played) → kind ≡ 1 → p ≡ turnCall b (stepsOf (part steps first second)) → buf' ≡ set buf k (p .answer) → hints' ≡ hints → j' ≡ j
+            → b' ≡ p .board → BoardSized b' → Going buf' hints' b' (left - 3) (k + 1) j'
+        going-turned p q e = going-moved p (turn-made steps b kind first second still p q e) (turn-hints-none steps b kind first second still q)
+
+        pub going-hinted : (h : Suggestion) → kind ≢ 1 → h ≡ hintCall b → buf' ≡ set buf k (h .answer) → hints' ≡ sets hints j (adviceCode (h .advice))
+            → j' ≡ behind hints j → b' ≡ b → Going buf' hints' b' (left - 3) (k + 1) j'
+        going-hinted h n e e-buf e-hints e-j e-b =
+            let called : callOf steps kind first second ≡ hint = call-hint steps b kind first second still n in
+            going-turn (record { answer = h .answer; board = b }) (hint-made steps b kind first second still h n e) e-buf
+            (ap length e-hints ∙ length-sets hints j (adviceCode (h .advice)))
+            (λ rest. one-hinted b (callOf steps kind first second) rest hints hints' j j' h called e e-hints e-j) e-b (rw e-b (going .6))

@@ -8,78 +8,33 @@ use board::Played;
 use move_guard::Change;
 use solve_next::Advice;
 ghost use mathlib.Core.Path.{_≡_};
-ghost use mathlib.Core.Bool.{true, false};
+ghost use mathlib.Core.Bool.{true};
 ghost use Prim.Native.Nat.{_+_, _-_, _≤_};
 ghost use lib.Dec.{eqb};
 ghost use lib.ListN.{set};
 ghost use Rattle.move_turn.specs.Turns.{turnCall};
-ghost use Rattle.lists.specs.Choice.{pick, either};
+ghost use Rattle.lists.specs.Choice.{pick};
 ghost use Rattle.board.specs.Limits.{maxMoves};
 ghost use Rattle.move_cycle.specs.Steps.{stepsOf};
 ghost use Rattle.move_carry.specs.Carries.{carryChange};
 ghost use Rattle.move_undo.specs.Undone.{undoChange};
 ghost use Rattle.move_undo.specs.Inner.{Small};
-ghost use Rattle.move_list.specs.Calls.{hint, played, answers, adviceCode, behind, Told};
-ghost use Rattle.move_list.specs.Inner.{plain, Replied, lastPlace};
-ghost use Rattle.move_list.specs.Codes.{part, callOf, callsOf, moveCode, journalCoded};
+ghost use Rattle.move_list.specs.Calls.{played, answers, hintsOf, adviceCode, behind, noted};
+ghost use Rattle.move_list.specs.Inner.{lastPlace};
+ghost use Rattle.move_list.specs.Codes.{part, callsOf, moveCode, journalCoded};
 ghost use lib.Seq.{sets};
 
 // A turn along the steps from a up to c.
-fn turn_part(board: Board, steps: &[u8], a: usize, c: usize) -> Played
+fn turn_part(board: Board, steps: &[u8], a: u32, c: u32) -> Played
     ensures { λ r. ⌜ r ≡ turnCall board (stepsOf (part (now (steps .entry)) a c)) ⌝ }
 {
-    let inside = lists::and(a <= c, c <= steps.len());
+    let from = a as usize;
+    let to = c as usize;
+    let inside = lists::and(from <= to, to <= steps.len());
     if !inside {
         return move_turn::turn(board, &steps[..0]);
     }
-    move_turn::turn(board, &steps[a..c])
-}
-
-// What a call gives: its number, the board after it, and for a hint the move that it gave.
-pub struct Reply {
-    pub answer: u32,
-    pub board: Board,
-    pub hinted: bool,
-    pub advice: Advice,
-}
-
-// What a call that is no hint gives.
-fn replied(played: Played) -> Reply
-    ensures { λ r. ⌜ r ≡ plain played ⌝ }
-{
-    let board = played.board;
-    let advice = Advice::none();
-    Reply {
-        answer: played.answer,
-        board: board,
-        hinted: false,
-        advice: advice,
-    }
-}
-
-// A hint.
-fn ask(board: Board) -> Reply
-    ensures { λ r. ⌜ Replied board hint r ⌝ }
-{
-    let given = solve_next::hint(board);
-    let advice = given.advice;
-    Reply {
-        answer: given.answer,
-        board: board,
-        hinted: true,
-        advice: advice,
-    }
-}
-
-// A call that is no carry and no undo.
-fn make(board: Board, steps: &[u8], kind: u32, a: u32, c: u32) -> Reply
-    requires { ⌜ either (eqb kind 0) (eqb kind 2) ≡ false ⌝ }
-    ensures { λ r. ⌜ Replied board (callOf (now (steps .entry)) kind a c) r ⌝ }
-{
-    if kind == 1 {
-        return replied(turn_part(board, steps, a as usize, c as usize));
-    }
-    ask(board)
+    move_turn::turn(board, &steps[from..to])
 }
 
 // What a carry of terminal a over edge c, where the kind is 0, or else an undo would change, on a board with these
@@ -152,15 +107,12 @@ fn put_advice(buf: &mut [u32], k: usize, advice: Advice)
     put_steps(buf, k + 4, steps);
 }
 
-// Stores the move of a hint from place k on, where the call was one; gives the place of the next.
-fn note(buf: &mut [u32], k: usize, hinted: bool, advice: Advice) -> usize
-    ensures { λ r. ⌜ r ≡ pick hinted (behind (now (buf .entry)) k) k ⌝ }
-    ensures { λ _. ⌜ now (buf .exit) ≡ pick hinted (sets (now (buf .entry)) k (adviceCode advice))
-        (now (buf .entry)) ⌝ }
+// Stores the move of a hint from place k on, where the buffer reaches that far; gives the place of the next.
+fn note(buf: &mut [u32], k: usize, advice: Advice) -> usize
+    ensures { λ r. ⌜ r ≡ behind (now (buf .entry)) k ⌝ }
+    ensures { λ _. ⌜ now (buf .exit) ≡ sets (now (buf .entry)) k (adviceCode advice) ⌝ }
 {
-    let inside = k < buf.len();
-    let writes = lists::and(hinted, inside);
-    if !writes {
+    if buf.len() <= k {
         return k;
     }
     put_advice(buf, k, advice);
@@ -173,8 +125,8 @@ pub fn run(board: Board, codes: &[u32], steps: &[u8], buf: &mut [u32], hints: &m
     ensures { λ r. ⌜ r ≡ played board (callsOf (now (steps .entry)) (now (codes .entry))) ⌝ }
     ensures { λ _. ⌜ now (buf .exit) ≡
         sets (now (buf .entry)) 0 (answers board (callsOf (now (steps .entry)) (now (codes .entry)))) ⌝ }
-    ensures { λ _. ⌜ Told (now (hints .entry)) 0 board (callsOf (now (steps .entry)) (now (codes .entry)))
-        (now (hints .exit)) ⌝ }
+    ensures { λ _. ⌜ now (hints .exit) ≡
+        noted (now (hints .entry)) 0 (hintsOf board (callsOf (now (steps .entry)) (now (codes .entry)))) ⌝ }
 {
     let mut b = board;
     let mut left = codes.len();
@@ -216,12 +168,15 @@ pub fn run(board: Board, codes: &[u32], steps: &[u8], buf: &mut [u32], hints: &m
                 }
             }
             lists::put_word(buf, k, change.answer);
+        } else if kind == 1 {
+            let given = turn_part(b, steps, a, c);
+            lists::put_word(buf, k, given.answer);
+            b = given.board;
         } else {
-            let given = make(b, steps, kind, a, c);
+            let given = solve_next::hint(b);
             lists::put_word(buf, k, given.answer);
             let advice = given.advice;
-            j = note(hints, j, given.hinted, advice);
-            b = given.board;
+            j = note(hints, j, advice);
         }
         left -= 3;
         k += 1;

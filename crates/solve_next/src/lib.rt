@@ -13,7 +13,7 @@ ghost use Rattle.solve_carry.specs.Search.{foundCarry};
 ghost use Rattle.solve_walk.specs.Walk.{cycleOf, packed};
 ghost use Rattle.solve_next.specs.Parts.{Searchable, Walkable};
 ghost use Rattle.solve_next.specs.Choosing.{allHomeIn, judge, nextAct, noAdvice, adviceOf, actOf};
-ghost use Rattle.solve_next.specs.Hints.{Hinted};
+ghost use Rattle.solve_next.specs.Hints.{hintCall};
 
 // ---- The move that the solver makes next.
 
@@ -153,7 +153,7 @@ fn judge(board: Board, advice: Advice) -> u32
 
 // ---- The call `hint`.
 
-// What a hint gives: 0 and a move that would be accepted, or none; or the number that it is refused with.
+// What a hint gives: 0 and the move that a finish would make next, or none; or the number that it is refused with.
 pub struct Suggestion {
     pub answer: u32,
     pub advice: Advice,
@@ -161,7 +161,7 @@ pub struct Suggestion {
 
 // The move that the solver would make next; none where every terminal is at the source, and after a refusal.
 pub fn hint(board: Board) -> Suggestion
-    ensures { λ r. ⌜ Hinted board r ⌝ }
+    ensures { λ r. ⌜ r ≡ hintCall board ⌝ }
 {
     let none = Advice::none();
     if !move_guard::playing(board) {

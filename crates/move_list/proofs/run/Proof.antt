@@ -2,14 +2,13 @@
 -- A carry or an undo is stored into the board in place; what is stored is the board that it gives.
 use mathlib.Core.Path.{_≡_, refl, sym, _∙_}
 use mathlib.Core.List.{[]}
-use mathlib.Core.Bool.{true, false}
+use mathlib.Core.Bool.{true}
 use mathlib.Core.Logic.{⊎-elim, inl, inr}
 use Prim.Native.Nat.{ℕ, _+_, _-_}
 use native.Mathlib.Omega.{arith}
 use lib.Dec.{eqb}
 use lib.ListN.{length, getD, length-map}
 use Rattle.lists.specs.Choice.{either}
-use Rattle.lists.proofs.Laws.{pick-no}
 use Rattle.board.specs.Limits.{maxEdges, maxTerminals}
 use Rattle.board.specs.declared.Board.{Board}
 use Rattle.move_guard.specs.Moved.{lastEntry}
@@ -17,10 +16,9 @@ use Rattle.move_guard.specs.Guard.{playing}
 use Rattle.move_guard.proofs.Parts.{last-read, in-play}
 use Rattle.move_undo.proofs.Makes.{undo-small}
 use Rattle.move_list.specs.Calls.{made}
-use Rattle.move_list.specs.Inner.{plain}
 use Rattle.move_list.specs.Codes.{callOf}
-use Rattle.move_list.proofs.Coded.{all-left, played-end, answers-end, told-end}
-use Rattle.move_list.proofs.Moving.{BoardSized, Going, going-turn, move-room, move-stored, move-past, move-refused, move-replied}
+use Rattle.move_list.proofs.Coded.{all-left, played-end, answers-end, hints-end}
+use Rattle.move_list.proofs.Moving.{BoardSized, move-hints-none, move-room, move-stored, move-past, move-refused, Going, going-moved, going-turned, going-hinted}
 use borrow.Author.Needs.{needs, length-unmapped}
 use Rattle.move_list.proofs.run.Statement.{statement}
 use Rattle.move_list.proofs.run.Tie as tie
@@ -29,7 +27,8 @@ use Rattle.move_list.proofs.run.Lts as lts
 use Rattle.board.proofs.Entry.blank.Reads as blank-reads
 use Rattle.move_list.proofs.after.Reads as after-reads
 use Rattle.move_list.proofs.move_change.Reads as move-change-reads
-use Rattle.move_list.proofs.make.Reads as make-reads
+use Rattle.move_list.proofs.turn_part.Reads as turn-part-reads
+use Rattle.solve_next.proofs.hint.Reads as hint-reads
 use Rattle.move_list.proofs.note.Reads as note-reads
 use Rattle.move_list.proofs.slot.Reads as slot-reads
 use Rattle.move_guard.proofs.intact_in.Reads as intact-in-reads
@@ -44,8 +43,12 @@ Inv-loop codes steps buf₀ hints₀ b₀ left₀ k₀ j₀ buf hints b left k j
 abbrev μ-loop : tie.MeasureT-loop
 μ-loop codes steps buf₀ hints₀ b₀ left₀ k₀ j₀ buf hints b left k j = left
 
--- what is known once the parts of the board are tested
-module _ (c : lts.After-and (or-reads.Asked, or-reads.Learnt, minus-reads.Asked, minus-reads.Learnt, blank-reads.Asked, blank-reads.Learnt, intact-in-reads.Asked, intact-in-reads.Learnt, and-reads.Asked, and-reads.Learnt, move-change-reads.Asked, move-change-reads.Learnt, slot-reads.Asked, slot-reads.Learnt, after-reads.Asked, after-reads.Learnt, put-word-reads.Asked, put-word-reads.Learnt, make-reads.Asked, make-reads.Learnt, note-reads.Asked, note-reads.Learnt) reads.Pre reads.Post Inv-loop μ-loop) where
+-- the place where the parts of the board are tested
+abbrev AfterTests : Type 0
+AfterTests = lts.After-and (or-reads.Asked, or-reads.Learnt, minus-reads.Asked, minus-reads.Learnt, blank-reads.Asked, blank-reads.Learnt, intact-in-reads.Asked, intact-in-reads.Learnt, and-reads.Asked, and-reads.Learnt, move-change-reads.Asked, move-change-reads.Learnt, slot-reads.Asked, slot-reads.Learnt, after-reads.Asked, after-reads.Learnt, put-word-reads.Asked, put-word-reads.Learnt, turn-part-reads.Asked, turn-part-reads.Learnt, hint-reads.Asked, hint-reads.Learnt, note-reads.Asked, note-reads.Learnt) reads.Pre reads.Post Inv-loop μ-loop
+
+-- what is known there
+module _ (c : AfterTests) where
   abbrev now-board : Board
   now-board = c .before .before .before .before .before .before .before .before .before .before .before .before .before .before .before .loop .b
 
@@ -87,7 +90,7 @@ loop-holds c =
       refl,
       rw all-left,
       rw all-left,
-      rw all-left (λ out t. t),
+      rw all-left,
       record { flows = length-unmapped ℕ (start .args .board .flows) maxEdges (owned .1 .1 .1 .1 .1 .0 .1 .0 .1); demands = length-unmapped ℕ (start .args .board .network .demands) maxTerminals (owned .1 .1 .1 .0 .1 .1 .1 .1 .1 .1 .1 .1 .1 .1 .0 .1 .0 .1); journal = sym (length-map (start .args .board .journal) _) ∙ owned .1 .1 .1 .1 .1 .1 .1 .1 .0 .1 .0 .1 },
     )
 
@@ -167,11 +170,17 @@ element-set-from-entry c = search needs
 put-word-requires : tie.Need-put-word-requires Inv-loop μ-loop
 put-word-requires c κs = search needs
 
-make-requires : tie.Need-make-requires Inv-loop μ-loop
-make-requires c κs = sym (c .before .or .ensures) ∙ c .if1 .left
+turn-part-requires : tie.Need-turn-part-requires Inv-loop μ-loop
+turn-part-requires c κs = search needs
 
 put-word-requires-2 : tie.Need-put-word-requires-2 Inv-loop μ-loop
 put-word-requires-2 c κs = search needs
+
+hint-requires : tie.Need-hint-requires Inv-loop μ-loop
+hint-requires c κs = search needs
+
+put-word-requires-3 : tie.Need-put-word-requires-3 Inv-loop μ-loop
+put-word-requires-3 c κs = search needs
 
 note-requires : tie.Need-note-requires Inv-loop μ-loop
 note-requires c κs = search needs
@@ -196,7 +205,7 @@ loop-again c =
     let some = at-test .loop-test .taken in
     ⊎-elim
     (λ w.
-    let at-and : lts.After-and (or-reads.Asked, or-reads.Learnt, minus-reads.Asked, minus-reads.Learnt, blank-reads.Asked, blank-reads.Learnt, intact-in-reads.Asked, intact-in-reads.Learnt, and-reads.Asked, and-reads.Learnt, move-change-reads.Asked, move-change-reads.Learnt, slot-reads.Asked, slot-reads.Learnt, after-reads.Asked, after-reads.Learnt, put-word-reads.Asked, put-word-reads.Learnt, make-reads.Asked, make-reads.Learnt, note-reads.Asked, note-reads.Learnt) reads.Pre reads.Post Inv-loop μ-loop = record {
+    let at-and : AfterTests = record {
       before = record {
         before = record {
           before = record {
@@ -239,19 +248,25 @@ loop-again c =
     (λ v.
     move-refused steps b (kind at-and) (first at-and) (second at-and) _ _ change (plays at-and) (last-one at-and) (moving at-and) (w .10 .ensures) (v .0 .left) (now-sized at-and) b' (v .1)))
     (w .12 .came) in
-    going-turn steps codes _ _ _ _ _ _ _ _ _ some (at-loop .inv) (plain (record { answer = change .answer; board = b' }))
-    (move-replied steps b (kind at-and) (first at-and) (second at-and) _ _ change (plays at-and) (last-one at-and) (moving at-and) (w .10 .ensures) b' (stepped .0))
-    _ _ _ _ (w .17 ∙ w .14 .ensures) (w .18 ∙ sym (pick-no false _ _ refl)) same (w .20 ∙ sym (pick-no false _ _ refl)) (rw same (stepped .1)))
+    let none = move-hints-none steps b (kind at-and) (first at-and) (second at-and) _ _ change (plays at-and) (last-one at-and) (moving at-and) (w .10 .ensures) in
+    going-moved steps codes _ _ _ _ _ _ _ _ _ some (at-loop .inv) _ _ _ _ (record { answer = change .answer; board = b' }) (stepped .0) none (w .17 ∙ w .14 .ensures) (w .18) (w .20)
+    same (rw same (stepped .1)))
+    (⊎-elim
     (λ w.
-    let given = w .1 .result in
-    let owned = w .1 .ok .1 .1 .1 .0 in
-    let same : c .if1 .b ≡ given .board = w .14 in
+    let still = sym (c .before .or .ensures) ∙ w .0 .left in
+    let given = w .2 .result in
+    let owned = w .2 .ok .1 .1 .1 .0 in
+    let same : c .if1 .b ≡ given .board = w .10 in
     let new-sized : BoardSized (given .board) = record {
       flows = length-unmapped ℕ (given .board .flows) maxEdges (owned .1 .1 .1 .1 .1 .0 .1 .0 .1);
       demands = length-unmapped ℕ (given .board .network .demands) maxTerminals (owned .1 .1 .1 .0 .1 .1 .1 .1 .1 .1 .1 .1 .1 .1 .0 .1 .0 .1);
       journal = sym (length-map (given .board .journal) _) ∙ owned .1 .1 .1 .1 .1 .1 .1 .1 .0 .1 .0 .1;
     } in
-    going-turn steps codes _ _ _ _ _ _ _ _ _ some (at-loop .inv) given (w .1 .ensures) _ _ _ _ (w .12 ∙ w .3 .ensures) (w .13 ∙ w .8 .ensures .1) same (w .15 ∙ w .8 .ensures .0) (rw same new-sized))
+    going-turned steps codes _ _ _ _ _ _ _ _ _ some (at-loop .inv) _ _ _ _ still given (w .1 .taken) (w .2 .ensures) (w .8 ∙ w .4 .ensures) (w .9) (w .11) same (rw same new-sized))
+    (λ w.
+    let still = sym (c .before .or .ensures) ∙ w .0 .left in
+    going-hinted steps codes _ _ _ _ _ _ _ _ _ some (at-loop .inv) _ _ _ _ still (w .2 .result) (w .1 .left) (w .2 .ensures) (w .12 ∙ w .4 .ensures) (w .13 ∙ w .9 .ensures .1)
+    (w .15 ∙ w .9 .ensures .0) (w .14)))
     (c .if1 .came)
 
 same-length : tie.Need-same-length Inv-loop μ-loop
@@ -266,7 +281,7 @@ returns c =
     let codes = c .before .before .before .before .before .before .args .codes .now in
     let over = c .loop-test .left in (
       played-end _ codes _ _ over ∙ at-loop .inv .3,
-      (answers-end _ codes _ _ _ _ over ∙ at-loop .inv .4, at-loop .inv .5 _ (told-end _ codes _ _ _ _ over)),
+      (answers-end _ codes _ _ _ _ over ∙ at-loop .inv .4, hints-end _ codes _ _ _ _ over ∙ at-loop .inv .5),
     )
 
 pub run-spec : {M : Type 1} → statement M
@@ -300,8 +315,10 @@ run-spec =
     mul-entry
     element-set-from-entry
     put-word-requires
-    make-requires
+    turn-part-requires
     put-word-requires-2
+    hint-requires
+    put-word-requires-3
     note-requires
     add-k
     loop-less
