@@ -1,7 +1,7 @@
 -- After every list of calls the engine stands where the reference player does: after each call its board is the board made afresh from the standing moves. An
 -- accepted move joins the list, a refused call and a hint leave board and list, and undo gives the very board that the last standing move was made on. The
 -- rest of the theorem is read off from the standing moves.
-use mathlib.Core.Path.{_≡_, refl, sym, ap, _∙_, subst}
+use mathlib.Core.Path.{_≡_, refl, sym, ap, _∙_}
 use mathlib.Core.Bool.{Bool, true, false}
 use mathlib.Core.Logic.{_⊎_, inl, inr, _≢_}
 use mathlib.Core.List.{List, [], _∷_, _++_}
@@ -23,11 +23,10 @@ use Rattle.move_carry.specs.Carries.{carryRefusal, carried, carryCall}
 use Rattle.graph_flows.specs.Trails.{Step}
 use Rattle.move_turn.specs.Turns.{turnRefusal, turned, turnCall}
 use Rattle.move_undo.specs.Undone.{undoRefusal, undone, undoCall}
-use Rattle.solve_next.specs.declared.Suggestion.{Suggestion}
 use Rattle.solve_next.specs.Hints.{hintRefusal}
 use Rattle.theorem_keep.proofs.Standing.{Standing, standing-playing}
-use Rattle.move_list.specs.Calls.{Call, carry, turn, undo, hint, made, played, answers, HintsKept}
-use Rattle.theorem_list.specs.Player.{listedAll, afresh, saysTo, standingAfter, standingMoves, says, HintsKeptBy}
+use Rattle.move_list.specs.Calls.{Call, carry, turn, undo, hint, made, played, answers, hintsOf}
+use Rattle.theorem_list.specs.Player.{listedAll, afresh, saysTo, standingAfter, standingMoves, says, suggests}
 use Rattle.theorem_list.specs.Faithful.{Faithful}
 use Rattle.theorem_list.proofs.Finish.{finish-completes, hint-taken}
 use Rattle.theorem_list.proofs.Stands.{
@@ -173,21 +172,10 @@ module _ (text : List ℕ) (loads : loadText text .answer ≡ 0) where
       both-missed 20 (saysTo text ms c) (says text (standingAfter text ms c) cs) (λ q. never-over text ms (standing-playing (afresh text ms) st) c (sym q))
       (none-over (standingAfter text ms c) cs (same ms c s .stands))
 
-  same-hints : (ms cs : List Call) (hs : List Suggestion) → Stands text ms → HintsKept (afresh text ms) cs hs → HintsKeptBy text ms cs hs
-  same-hints ms [] hs s k = k
-  same-hints ms (hint ∷ cs) [] s k = k
-  same-hints ms (hint ∷ cs) (h ∷ hs) s k =
-      let taken : h .answer ≡ 0 = k .0 .number ∙ hint-taken (afresh text ms) (stands-follows text loads ms s .standing) in
-      (record { number = taken; move = k .0 .move taken }, same-hints ms cs hs s (k .1))
-  same-hints ms (carry i e ∷ cs) hs s k =
-      let q = same ms (carry i e) s in
-      same-hints (standingAfter text ms (carry i e)) cs hs (q .stands) (subst (λ (b : Board). HintsKept b cs hs) (q .board) k)
-  same-hints ms (turn w ∷ cs) hs s k =
-      let q = same ms (turn w) s in
-      same-hints (standingAfter text ms (turn w)) cs hs (q .stands) (subst (λ (b : Board). HintsKept b cs hs) (q .board) k)
-  same-hints ms (undo ∷ cs) hs s k =
-      let q = same ms undo s in
-      same-hints (standingAfter text ms undo) cs hs (q .stands) (subst (λ (b : Board). HintsKept b cs hs) (q .board) k)
+  same-hints : (ms cs : List Call) → Stands text ms → hintsOf (afresh text ms) cs ≡ suggests text ms cs
+  unfolding hintsOf suggests
+  same-hints ms [] s = refl
+  same-hints ms (c ∷ cs) s = let q = same ms c s in rw (q .board, same-hints (standingAfter text ms c) cs (q .stands))
 
   -- the player's board, after every list of calls
   faithful : (cs : List Call) → Faithful text cs (afresh text (standingMoves text [] cs))
@@ -207,7 +195,7 @@ module _ (text : List ℕ) (loads : loadText text .answer ≡ 0) where
         in-play = standing-playing (afresh text (standingMoves text [] cs)) (f .standing);
         none-over = rw (same-answers [] cs none) (none-over [] cs none);
         same-answers = same-answers [] cs none;
-        hinted = λ hs k. same-hints [] cs hs none k;
+        same-hints = same-hints [] cs none;
         finish = finish-completes (afresh text (standingMoves text [] cs)) (f .standing);
       }
 

@@ -7,6 +7,7 @@ pub mod Ends
 pub mod Stops
 pub mod Acts
 pub mod Finish
+pub mod HintFirst
 pub mod Stands
 pub mod EveryList
 pub mod Rooms

@@ -12,7 +12,7 @@ use Rattle.move_guard.specs.Parts.{flow, acyclicFlow, place}
 use Rattle.graph_flows.specs.Trails.{Trail, downs}
 use Rattle.solve_next.specs.Choosing.{allHome, judge, acted, nextAct}
 use Rattle.solve_finish.specs.declared.Finished.{Finished}
-use Rattle.solve_finish.specs.Finishes.{ended}
+use Rattle.solve_finish.specs.Finishes.{ended, finishCall}
 use Rattle.report_routes.specs.Routes.{route, load, largest}
 use Rattle.theorem_keep.specs.Bound.{movesBound}
 
@@ -61,3 +61,10 @@ pub record Complete (b : Board) (f : Finished) : Type 0 where
   pub few : b .moves + f .count ≤ movesBound (b .network)
   pub room : movesBound (b .network) ≤ maxMoves
   pub places : length (f .board .journal) ≡ maxMoves
+
+-- board c is on the way of the finish of b, one move further: both are finished to one board, but for where the finish began, and from c it takes one move less
+pub record OneFurther (b c : Board) : Type 0 where
+  pub accepted : finishCall b .answer ≡ 0
+  pub accepted-further : finishCall c .answer ≡ 0
+  pub board : finishCall b .board ≡ ended (b .moves) (finishCall c .board)
+  pub count : finishCall b .count ≡ finishCall c .count + 1
