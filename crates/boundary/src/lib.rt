@@ -5,7 +5,7 @@ ghost use lib.ListN.{length};
 ghost use Rattle.text.specs.Results.{writeText, written};
 ghost use Rattle.load.specs.Load.{loadText};
 ghost use Rattle.solve_finish.specs.Finishes.{finishCall};
-ghost use Rattle.move_list.specs.Calls.{answers, Told};
+ghost use Rattle.move_list.specs.Calls.{answers, hintsOf, noted};
 ghost use Rattle.move_list.specs.Codes.{callsOf, journalCoded};
 ghost use lib.Seq.{sets};
 ghost use Rattle.report.specs.Reports.{sheetCall, sheeted};
@@ -71,8 +71,9 @@ pub extern "C" fn vulprow_play(
     ensures { λ _. ⌜ now (given .exit) ≡
         sets (now (given .entry)) 0 (answers (loadText (now (text .entry)) .board)
         (callsOf (now (steps .entry)) (now (codes .entry)))) ⌝ }
-    ensures { λ _. ⌜ Told (now (hints .entry)) 0 (loadText (now (text .entry)) .board)
-        (callsOf (now (steps .entry)) (now (codes .entry))) (now (hints .exit)) ⌝ }
+    ensures { λ _. ⌜ now (hints .exit) ≡
+        noted (now (hints .entry)) 0 (hintsOf (loadText (now (text .entry)) .board)
+        (callsOf (now (steps .entry)) (now (codes .entry)))) ⌝ }
     ensures { λ _. ⌜ now (flows .exit) ≡ after (now (text .entry)) (now (steps .entry)) (now (codes .entry)) .flows ⌝ }
     ensures { λ _. ⌜ now (places .exit) ≡
         after (now (text .entry)) (now (steps .entry)) (now (codes .entry)) .places ⌝ }
@@ -118,8 +119,9 @@ pub extern "C" fn vulprow_finish(
     ensures { λ _. ⌜ now (given .exit) ≡
         sets (now (given .entry)) 0 (answers (loadText (now (text .entry)) .board)
         (callsOf (now (steps .entry)) (now (codes .entry)))) ⌝ }
-    ensures { λ _. ⌜ Told (now (hints .entry)) 0 (loadText (now (text .entry)) .board)
-        (callsOf (now (steps .entry)) (now (codes .entry))) (now (hints .exit)) ⌝ }
+    ensures { λ _. ⌜ now (hints .exit) ≡
+        noted (now (hints .entry)) 0 (hintsOf (loadText (now (text .entry)) .board)
+        (callsOf (now (steps .entry)) (now (codes .entry)))) ⌝ }
     ensures { λ _. ⌜ now (count .exit) ≡ finished (now (text .entry)) (now (steps .entry))
         (now (codes .entry)) .count ⌝ }
     ensures { λ _. ⌜ now (flows .exit) ≡ finished (now (text .entry)) (now (steps .entry))

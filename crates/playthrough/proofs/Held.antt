@@ -1,5 +1,5 @@
--- What the functions ensure, put together, is demand 3: the answers are the player's, the hints keep their rule on the player's board, and the finish
--- completes the board, all by the theorem about every list of calls.
+-- What the functions ensure, put together, is demand 3: the answers and the hints are the player's, and the finish completes the board, all by the theorem about
+-- every list of calls.
 use mathlib.Core.Path.{_≡_, ap, _∙_}
 use mathlib.Core.List.{List}
 use Prim.Native.Nat.{ℕ}
@@ -9,7 +9,8 @@ use Rattle.load.specs.declared.Loaded.{Loaded}
 use Rattle.load.specs.Load.{loadText}
 use Rattle.solve_finish.specs.declared.Finished.{Finished}
 use Rattle.solve_finish.specs.Finishes.{finishCall}
-use Rattle.move_list.specs.Calls.{Call, played, answers, Told}
+use Rattle.solve_next.specs.declared.Suggestion.{Suggestion}
+use Rattle.move_list.specs.Calls.{Call, played, answers, hintsOf, noted}
 use Rattle.theorem_list.specs.Faithful.{Faithful}
 use Rattle.theorem_list.proofs.EveryList.{every-list}
 use Rattle.playthrough.specs.declared.Outcome.{Outcome}
@@ -23,13 +24,10 @@ module _ (text : List ℕ) (cs : List Call) (l : Loaded) (loads : l ≡ loadText
   pub from-load : {A : Type 0} (f : Board → A) → f (l .board) ≡ f (loadText text .board)
   from-load f = rw loads
 
-  pub told-loaded : (hints hints' : List ℕ) → Told hints 0 (l .board) cs hints' → Told hints 0 (loadText text .board) cs hints'
-  told-loaded hints hints' t = rw (← loads) t
-
 pub held : (text : List ℕ) (cs : List Call) (given given' hints hints' : List ℕ) (r : Outcome) → r ≡ outcome text cs
-    → given' ≡ sets given 0 (answers (loadText text .board) cs) → Told hints 0 (loadText text .board) cs hints'
+    → given' ≡ sets given 0 (answers (loadText text .board) cs) → hints' ≡ noted hints 0 (hintsOf (loadText text .board) cs)
     → Holds text cs given given' hints hints' r
-held text cs given given' hints hints' r e g t loads = rw e here
+held text cs given given' hints hints' r e g h loads = rw e here
   where
     u : Faithful text cs (played (loadText text .board) cs)
     u = every-list text cs loads
@@ -38,6 +36,6 @@ held text cs given given' hints hints' r e g t loads = rw e here
     here = record {
       faithful = u;
       answers-written = g ∙ ap (λ (xs : List ℕ). sets given 0 xs) (u .same-answers);
-      hinted = record { suggestions = t .hints; kept = u .hinted (t .hints) (t .kept); written = t .written };
+      hints-written = h ∙ ap (λ (hs : List Suggestion). noted hints 0 hs) (u .same-hints);
       finished = u .finish;
     }

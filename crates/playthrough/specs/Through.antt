@@ -4,10 +4,9 @@ use mathlib.Core.List.{List, []}
 use Prim.Native.Nat.{ℕ}
 use lib.Seq.{sets}
 use Rattle.load.specs.Load.{loadText}
-use Rattle.solve_next.specs.declared.Suggestion.{Suggestion}
 use Rattle.solve_finish.specs.Finishes.{finishCall}
 use Rattle.move_list.specs.Calls.{Call, played, noted}
-use Rattle.theorem_list.specs.Player.{says, HintsKeptBy}
+use Rattle.theorem_list.specs.Player.{says, suggests}
 use Rattle.theorem_list.specs.Complete.{Complete}
 use Rattle.theorem_list.specs.Faithful.{Faithful}
 use Rattle.playthrough.specs.declared.Outcome.{Outcome}
@@ -22,17 +21,11 @@ outcome text cs = record {
 
 -- the buffers of the answers and of the hints' moves, before and after
 module _ (text : List ℕ) (cs : List Call) (given given' hints hints' : List ℕ) (r : Outcome) where
-  -- the moves of the hints, each of which kept the hint's rule on the reference player's board
-  pub record HintsWritten : Type 0 where
-    pub suggestions : List Suggestion
-    pub kept : HintsKeptBy text [] cs suggestions
-    pub written : hints' ≡ noted hints 0 suggestions
-
   -- demand 3, of what was answered, written and given
   pub record Held : Type 0 where
     pub faithful : Faithful text cs (r .board)
     pub answers-written : given' ≡ sets given 0 (says text [] cs)
-    pub hinted : HintsWritten
+    pub hints-written : hints' ≡ noted hints 0 (suggests text [] cs)
     pub finished : Complete (r .board) (r .finish)
 
   -- .. for every text that is accepted

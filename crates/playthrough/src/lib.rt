@@ -4,7 +4,7 @@ use solve_finish::Finished;
 ghost use mathlib.Core.Path.{_≡_};
 ghost use lib.Seq.{sets};
 ghost use Rattle.load.specs.Load.{loadText};
-ghost use Rattle.move_list.specs.Calls.{answers, Told};
+ghost use Rattle.move_list.specs.Calls.{answers, hintsOf, noted};
 ghost use Rattle.move_list.specs.Codes.{callsOf};
 ghost use Rattle.playthrough.specs.Through.{outcome, Holds};
 
@@ -28,8 +28,9 @@ pub fn play_through(
     ensures { λ _. ⌜ now (given .exit) ≡
         sets (now (given .entry)) 0 (answers (loadText (now (text .entry)) .board)
         (callsOf (now (steps .entry)) (now (codes .entry)))) ⌝ }
-    ensures { λ _. ⌜ Told (now (hints .entry)) 0 (loadText (now (text .entry)) .board)
-        (callsOf (now (steps .entry)) (now (codes .entry))) (now (hints .exit)) ⌝ }
+    ensures { λ _. ⌜ now (hints .exit) ≡
+        noted (now (hints .entry)) 0 (hintsOf (loadText (now (text .entry)) .board)
+        (callsOf (now (steps .entry)) (now (codes .entry)))) ⌝ }
     ensures { λ r. ⌜ Holds (now (text .entry)) (callsOf (now (steps .entry)) (now (codes .entry))) (now (given .entry))
         (now (given .exit)) (now (hints .entry)) (now (hints .exit)) r ⌝ }
 {

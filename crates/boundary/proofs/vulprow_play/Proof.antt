@@ -3,9 +3,8 @@ use mathlib.Core.Path.{ap, _∙_}
 use lib.Seq.{sets}
 use Rattle.board.specs.declared.Board.{Board}
 use Rattle.load.specs.declared.Loaded.{Loaded}
-use Rattle.move_list.specs.Calls.{played, answers}
+use Rattle.move_list.specs.Calls.{played, answers, hintsOf, noted}
 use Rattle.move_list.specs.Codes.{callsOf, journalCoded}
-use Rattle.playthrough.proofs.Held.{told-loaded}
 use borrow.Author.Needs.{needs}
 use Rattle.boundary.proofs.vulprow_play.Statement.{statement}
 use Rattle.boundary.proofs.vulprow_play.Tie as tie
@@ -38,12 +37,12 @@ returns c =
     let calls = callsOf (args .steps .now) (args .codes .now) in
     let end = at-run .ensures .0 ∙ ap (λ (b : Board). played b calls) board in
     let journal = c .before .before .put-journal .ensures ∙ ap (λ (b : Board). journalCoded (args .journal .now) 0 (b .journal)) end in
-    let told = told-loaded (args .text .now) calls _ loading _ _ (at-run .ensures .1 .1) in (
+    let hints = at-run .ensures .1 .1 ∙ ap (λ (b : Board). noted (args .hints .now) 0 (hintsOf b calls)) board in (
       ap (λ (l : Loaded). l .answer) loading,
       (
         at-run .ensures .1 .0 ∙ ap (λ (b : Board). sets (args .given .now) 0 (answers b calls)) board,
         (
-          told,
+          hints,
           (
             ap (λ (b : Board). b .flows) end,
             (

@@ -1,9 +1,9 @@
 -- What the three calls ensure, each put into the next, and the theorem about every list of calls.
 use mathlib.Core.Path.{_∙_}
 use lib.Seq.{sets}
-use Rattle.move_list.specs.Calls.{answers}
+use Rattle.move_list.specs.Calls.{answers, hintsOf, noted}
 use Rattle.move_list.specs.Codes.{callsOf}
-use Rattle.playthrough.proofs.Held.{gathered, from-load, told-loaded, held}
+use Rattle.playthrough.proofs.Held.{gathered, from-load, held}
 use borrow.Author.Needs.{needs}
 use Rattle.playthrough.proofs.play_through.Statement.{statement}
 use Rattle.playthrough.proofs.play_through.Tie as tie
@@ -33,8 +33,8 @@ returns c =
     let loads = at-load .load .ensures in
     let whole = gathered text calls _ loads _ _ (at-run .ensures .0) (c .finish .ensures) in
     let given = at-run .ensures .1 .0 ∙ from-load text calls _ loads (λ b. sets (args .given .now) 0 (answers b calls)) in
-    let told = told-loaded text calls _ loads _ _ (at-run .ensures .1 .1) in
-    (whole, (given, (told, held text calls _ _ _ _ _ whole given told)))
+    let hints = at-run .ensures .1 .1 ∙ from-load text calls _ loads (λ b. noted (args .hints .now) 0 (hintsOf b calls)) in
+    (whole, (given, (hints, held text calls _ _ _ _ _ whole given hints)))
 
 pub play-through-spec : {M : Type 1} → statement M
 play-through-spec =
