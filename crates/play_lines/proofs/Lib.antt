@@ -5,3 +5,4 @@ pub mod Grown
 pub mod Follows
 pub mod Exact
 pub mod Tests
+pub mod MovesWritten

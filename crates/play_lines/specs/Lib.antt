@@ -1,3 +1,4 @@
 pub mod Orders
+pub mod MoveLines
 pub mod Scans
 pub mod Inner
