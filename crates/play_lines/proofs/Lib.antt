@@ -6,3 +6,5 @@ pub mod Follows
 pub mod Exact
 pub mod Tests
 pub mod MovesWritten
+pub mod MovesRead
+pub mod MovesShort

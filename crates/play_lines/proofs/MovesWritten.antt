@@ -7,7 +7,7 @@ use mathlib.Core.Logic.{_⊎_, inl, inr}
 use mathlib.Core.List.{List, [], _∷_, _++_, append-assoc}
 use Prim.Native.Nat.{ℕ, suc, _+_, _-_, _<_, _≤_, min}
 use native.Mathlib.Omega.{arith}
-use lib.ListN.{length, getD, set, take, drop, length-append, drop-of-length-le}
+use lib.ListN.{length, getD, set, take, drop, drop-of-length-le}
 use lib.Seq.{sets, drop-cons, take-all}
 use borrow.Author.Tests.{eq-eqb, ne-eqb}
 use Rattle.lists.proofs.Laws.{lt-or-ge, pick-yes, pick-no}
@@ -33,8 +33,8 @@ letter-down (down e) h = refl
 letter-down (up e) h = let z : _≡_ {A = ℕ} 0 1 = cc in absurd (omega arith)
 
 -- a text that is to be written
-all-left : (buf text : List ℕ) (at : ℕ) → TextLeft buf (sets buf at text) at (at + length text) text
-all-left buf text at = record { size = refl; gives = refl }
+whole-left : (buf text : List ℕ) (at : ℕ) → TextLeft buf (sets buf at text) at (at + length text) text
+whole-left buf text at = record { size = refl; gives = refl }
 
 -- its four parts, one behind the other
 module _ (s : Step) (buf b1 b2 b3 b4 : List ℕ) (at edge way end : ℕ) (he : edge ≡ edgeOf s) (hw : way ≡ wayLetter s) where
@@ -42,7 +42,7 @@ module _ (s : Step) (buf b1 b2 b3 b4 : List ℕ) (at edge way end : ℕ) (he : e
       → b4 ≡ set b3 (end + 1) way → (end + 2 ≡ at + length (stepText s)) × (b4 ≡ sets buf at (stepText s))
   step-put e1 p e2 e3 e4 =
       let digits = decimal (edgeOf s) in
-      let l1 = left-part (44 ∷ []) (digits ++ (44 ∷ wayLetter s ∷ [])) b1 (at + 1) (all-left buf (stepText s) at) e1 refl in
+      let l1 = left-part (44 ∷ []) (digits ++ (44 ∷ wayLetter s ∷ [])) b1 (at + 1) (whole-left buf (stepText s) at) e1 refl in
       let l2 = left-part digits (44 ∷ wayLetter s ∷ []) b2 end l1 (rw he at e2) (rw he at p) in
       let l3 = left-part (44 ∷ []) (wayLetter s ∷ []) b3 (end + 1) l2 e3 refl in
       let step : end + 2 ≡ end + 1 + 1 = omega arith in
@@ -77,7 +77,7 @@ pub turn-put : (w : List Step) (buf b1 b2 b3 : List ℕ) (at end : ℕ) → b1 �
     → (end + 1 ≡ at + length (moveLine (augment w))) × (b3 ≡ sets buf at (moveLine (augment w)))
 unfolding moveLine
 turn-put w buf b1 b2 b3 at end e1 p e2 e3 =
-    let l1 = left-part (84 ∷ []) (stepsText w ++ (10 ∷ [])) b1 (at + 1) (all-left buf (moveLine (augment w)) at) e1 refl in
+    let l1 = left-part (84 ∷ []) (stepsText w ++ (10 ∷ [])) b1 (at + 1) (whole-left buf (moveLine (augment w)) at) e1 refl in
     let l2 = left-part (stepsText w) (10 ∷ []) b2 end l1 e2 p in
     left-none (left-part (10 ∷ []) [] b3 (end + 1) l2 e3 refl)
 
@@ -92,13 +92,13 @@ carry-put i e buf b at end p q = (rw (carry-line i e) at p, rw (carry-line i e) 
 
 -- ---- the line of a hint, by its kind
 
-hint-none : (a : Advice) → a .kind ≡ noKind → hintLine a ≡ 78 ∷ 10 ∷ []
+line-none : (a : Advice) → a .kind ≡ noKind → hintLine a ≡ 78 ∷ 10 ∷ []
 unfolding hintLine
-hint-none a h = pick-yes _ _ _ (eq-eqb (a .kind) noKind h)
+line-none a h = pick-yes _ _ _ (eq-eqb (a .kind) noKind h)
 
-pub hint-carry : (a : Advice) → (a .kind ≡ noKind → ⊥) → a .kind ≡ carryKind → hintLine a ≡ moveLine (relocate (a .terminal) (a .edge))
+pub line-of-carry : (a : Advice) → (a .kind ≡ noKind → ⊥) → a .kind ≡ carryKind → hintLine a ≡ moveLine (relocate (a .terminal) (a .edge))
 unfolding hintLine
-hint-carry a n h = pick-no _ _ _ (ne-eqb (a .kind) noKind n) ∙ ap moveLine (act-carry a h)
+line-of-carry a n h = pick-no _ _ _ (ne-eqb (a .kind) noKind n) ∙ ap moveLine (act-carry a h)
 
 -- the steps that are taken
 pub steps-within : (count : ℕ) (steps : List ℕ) → length steps ≡ maxEdges → take (min count maxEdges) steps ≡ take count steps
@@ -108,10 +108,10 @@ steps-within count steps long = go (lt-or-ge count maxEdges)
     go (inl h) = let same : min count maxEdges ≡ count = omega arith in rw same
     go (inr h) = take-all (min count maxEdges) steps (omega arith) ∙ sym (take-all count steps (omega arith))
 
-pub hint-turn : (a : Advice) (n : ℕ) → (a .kind ≡ noKind → ⊥) → (a .kind ≡ carryKind → ⊥) → length (a .steps) ≡ maxEdges
+pub line-of-turn : (a : Advice) (n : ℕ) → (a .kind ≡ noKind → ⊥) → (a .kind ≡ carryKind → ⊥) → length (a .steps) ≡ maxEdges
     → n ≡ min (a .count) maxEdges → hintLine a ≡ moveLine (augment (stepsOf (take n (a .steps))))
 unfolding hintLine
-hint-turn a n some nc long e =
+line-of-turn a n some nc long e =
     pick-no _ _ _ (ne-eqb (a .kind) noKind some)
     ∙ ap moveLine (act-turn a nc ∙ ap (λ (w : List ℕ). augment (stepsOf w)) (rw e (sym (steps-within (a .count) (a .steps) long))))
 
@@ -123,7 +123,7 @@ hint-put a line buf b at end e p q = (rw e p, rw e q)
 pub none-put : (a : Advice) (buf b1 b2 : List ℕ) (at : ℕ) → a .kind ≡ noKind → b1 ≡ set buf at 78 → b2 ≡ set b1 (at + 1) 10
     → (at + 2 ≡ at + length (hintLine a)) × (b2 ≡ sets buf at (hintLine a))
 none-put a buf b1 b2 at h e1 e2 =
-    let l1 = left-part (78 ∷ []) (10 ∷ []) b1 (at + 1) (all-left buf (78 ∷ 10 ∷ []) at) e1 refl in
+    let l1 = left-part (78 ∷ []) (10 ∷ []) b1 (at + 1) (whole-left buf (78 ∷ 10 ∷ []) at) e1 refl in
     let step : at + 2 ≡ at + 1 + 1 = omega arith in
     let d = left-none (left-part (10 ∷ []) [] b2 (at + 2) l1 e2 step) in
-    hint-put a (78 ∷ 10 ∷ []) buf b2 at (at + 2) (hint-none a h) (d .0) (d .1)
+    hint-put a (78 ∷ 10 ∷ []) buf b2 at (at + 2) (line-none a h) (d .0) (d .1)

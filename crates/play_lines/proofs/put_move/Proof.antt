@@ -5,7 +5,7 @@ use native.Mathlib.Omega.{arith}
 use lib.ListN.{length, length-take}
 use lib.Seq.{length-take-le}
 use Rattle.board.specs.Limits.{maxEdges}
-use Rattle.play_lines.proofs.MovesWritten.{hint-put, none-put, hint-carry, hint-turn}
+use Rattle.play_lines.proofs.MovesWritten.{hint-put, none-put, line-of-carry, line-of-turn}
 use borrow.Author.Needs.{needs, length-unmapped}
 use Rattle.play_lines.proofs.put_move.Statement.{statement}
 use Rattle.play_lines.proofs.put_move.Tie as tie
@@ -48,7 +48,7 @@ returns-2 c =
     let at-some = at-kind .before .before in
     let start = at-some .before .before .before in
     let p =
-    hint-put (start .args .advice) _ (start .args .buf .now) _ (start .args .at) _ (hint-carry (start .args .advice) (at-some .if1 .left) (at-kind .if2 .taken))
+    hint-put (start .args .advice) _ (start .args .buf .now) _ (start .args .at) _ (line-of-carry (start .args .advice) (at-some .if1 .left) (at-kind .if2 .taken))
     (at-carry .put-carry .ensures .0) (at-carry .put-carry .ensures .1 .1) in
     (p .0, (omega arith, p .1))
 
@@ -88,7 +88,7 @@ returns-3 c =
     let long : length steps ≡ maxEdges = length-unmapped ℕ steps maxEdges (start .good .1 .1 .0 .1 .1 .1 .1 .1 .1 .0 .1 .0 .1) in
     let p =
     hint-put (start .args .advice) _ (start .args .buf .now) _ (start .args .at) _
-    (hint-turn (start .args .advice) _ (at-some .if1 .left) (at-kind .if2 .left) long (at-count .steps-held .ensures))
+    (line-of-turn (start .args .advice) _ (at-some .if1 .left) (at-kind .if2 .left) long (at-count .steps-held .ensures))
     (at-turn .put-turn .ensures .0) (at-turn .put-turn .ensures .1 .1) in
     (p .0, (omega (arith, length-take (at-count .steps-held .result) steps), p .1))
 

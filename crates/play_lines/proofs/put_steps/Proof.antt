@@ -44,8 +44,12 @@ loop-again c =
     let at-put-step = c .before .before in
     let at-test = at-put-step .before .before .before in
     let at-loop = at-test .before in
-    let start = at-loop .before .before .before in
-    (omega arith, omega arith, steps-turned (start .args .steps .now) _ (at-loop .loop .inv .2) (at-test .loop-test .taken) (at-loop .loop .inv .0) _ _ (at-put-step .put-step .ensures .1 .1) (at-put-step .put-step .ensures .0))
+    let start = at-loop .before .before .before in (
+      omega arith,
+      omega arith,
+      steps-turned (start .args .steps .now) _ (at-loop .loop .inv .2) (at-test .loop-test .taken) (at-loop .loop .inv .0) _ _
+          (at-put-step .put-step .ensures .1 .1) (at-put-step .put-step .ensures .0),
+    )
 
 same-length : tie.Need-same-length Inv-loop μ-loop
 same-length c = ap length (steps-done (c .before .before .before .before .args .steps .now) _ (c .before .loop .inv .2) (c .loop-test .left) .1) ∙ simp length-sets
