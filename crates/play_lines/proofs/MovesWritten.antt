@@ -36,7 +36,7 @@ letter-down (up e) h = let z : _≡_ {A = ℕ} 0 1 = cc in absurd (omega arith)
 whole-left : (buf text : List ℕ) (at : ℕ) → TextLeft buf (sets buf at text) at (at + length text) text
 whole-left buf text at = record { size = refl; gives = refl }
 
--- its four parts, one behind the other
+-- the four parts of a step, one behind the other
 module _ (s : Step) (buf b1 b2 b3 b4 : List ℕ) (at edge way end : ℕ) (he : edge ≡ edgeOf s) (hw : way ≡ wayLetter s) where
   pub step-put : b1 ≡ set buf at 44 → end ≡ at + 1 + length (decimal edge) → b2 ≡ sets b1 (at + 1) (decimal edge) → b3 ≡ set b2 end 44
       → b4 ≡ set b3 (end + 1) way → (end + 2 ≡ at + length (stepText s)) × (b4 ≡ sets buf at (stepText s))
