@@ -26,7 +26,7 @@ use Rattle.play_lines.proofs.Shapes.{Shape, begin, orderFrom, shapeTake
 use Rattle.play_lines.proofs.Follows.{FollowsShape, follows-next, follows-end}
 
 -- bytes in front of the first field
-abbrev into : List ℕ → List (List ℕ) → List (List ℕ)
+abbrev pub into : List ℕ → List (List ℕ) → List (List ℕ)
 into f [] = f ∷ []
 into f (g ∷ gs) = (f ++ g) ∷ gs
 
@@ -35,7 +35,7 @@ unfolding onto
 into-onto f c [] = refl
 into-onto f c (g ∷ gs) = ap (λ l. l ∷ gs) (sym (append-snoc f c g))
 
-into-none : (s : List ℕ) → into [] (fieldsOf s) ≡ fieldsOf s
+pub into-none : (s : List ℕ) → into [] (fieldsOf s) ≡ fieldsOf s
 unfolding fieldsOf
 into-none [] = refl
 into-none (c ∷ s) = split (known (eqb c 44))
@@ -50,11 +50,11 @@ into-none (c ∷ s) = split (known (eqb c 44))
 
 -- the fields after one byte
 module _ (c : ℕ) (s f : List ℕ) where
-  comma-fields : eqb c 44 ≡ true → into f (fieldsOf (c ∷ s)) ≡ f ∷ fieldsOf s
+  pub comma-fields : eqb c 44 ≡ true → into f (fieldsOf (c ∷ s)) ≡ f ∷ fieldsOf s
   unfolding fieldsOf
   comma-fields e = rw (e, fieldsOf, append-nil)
 
-  byte-fields : eqb c 44 ≡ false → into f (fieldsOf (c ∷ s)) ≡ into (f ++ (c ∷ [])) (fieldsOf s)
+  pub byte-fields : eqb c 44 ≡ false → into f (fieldsOf (c ∷ s)) ≡ into (f ++ (c ∷ [])) (fieldsOf s)
   unfolding fieldsOf
   byte-fields e = rw (e, fieldsOf) (into-onto f c (fieldsOf s))
 

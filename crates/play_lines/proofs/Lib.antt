@@ -5,3 +5,6 @@ pub mod Grown
 pub mod Follows
 pub mod Exact
 pub mod Tests
+pub mod MovesWritten
+pub mod MovesRead
+pub mod MovesShort

@@ -1,12 +1,18 @@
 // A line of a play, read byte by byte in fixed memory.
 use board::Board;
 use decimal::Number;
+use solve_next::Advice;
 ghost use mathlib.Core.Path.{_≡_};
-ghost use Prim.Native.Nat.{_+_, _-_, _*_};
+ghost use Prim.Native.Nat.{_+_, _-_, _*_, _≤_, min};
 ghost use lib.Dec.{leb, ltb, eqb};
+ghost use lib.ListN.{length};
+ghost use lib.Seq.{sets};
 ghost use Rattle.lists.specs.Choice.{pick, both};
 ghost use Rattle.decimal.specs.Decimal.{maxDigits};
 ghost use Rattle.board.specs.Limits.{maxEdges};
+ghost use Rattle.move_cycle.specs.Steps.{stepOf, stepsOf};
+ghost use Rattle.solve_next.specs.Choosing.{relocate, augment};
+ghost use Rattle.play_lines.specs.MoveLines.{wayLetter, stepText, stepsText, moveLine, hintLine};
 ghost use Rattle.play_lines.specs.Scans.{
   noPiece,
   isDigit,
@@ -403,4 +409,104 @@ pub fn is_blank(scan: Scan) -> bool
     let form = scan.form;
     let piece = scan.piece;
     lists::and(form.kind == Form::NOTHING, piece.size == 0)
+}
+
+// ---- A move as a line.
+
+// The letter of a step's way: D for down, U for up.
+fn way_letter(step: u8) -> u8
+    ensures { λ r. ⌜ r ≡ wayLetter (stepOf step) ⌝ }
+{
+    if move_cycle::is_up(step) { b'U' } else { b'D' }
+}
+
+// Writes a step behind a comma, as `,7,D`, at a place of the buffer, and answers the place behind it.
+fn put_step(buf: &mut [u8], at: usize, step: u8) -> usize
+    requires { ⌜ at ≤ 131072 ⌝ }
+    ensures { λ r. ⌜ r ≡ at + length (stepText (stepOf step)) ⌝ }
+    ensures { λ r. ⌜ r ≤ at + 13 ⌝ }
+    ensures { λ _. ⌜ now (buf .exit) ≡ sets (now (buf .entry)) at (stepText (stepOf step)) ⌝ }
+{
+    let edge = move_cycle::edge_of(step);
+    let way = way_letter(step);
+    lists::put_byte(buf, at, b',');
+    let end = decimal::write_number(buf, at + 1, edge);
+    lists::put_byte(buf, end, b',');
+    lists::put_byte(buf, end + 1, way);
+    end + 2
+}
+
+// Writes steps in their order.
+fn put_steps(buf: &mut [u8], at: usize, steps: &[u8]) -> usize
+    requires { ⌜ (at ≤ 65537) × (length (now steps) ≤ maxEdges) ⌝ }
+    ensures { λ r. ⌜ r ≡ at + length (stepsText (stepsOf (now (steps .entry)))) ⌝ }
+    ensures { λ r. ⌜ r ≤ at + 13 * length (now (steps .entry)) ⌝ }
+    ensures { λ _. ⌜ now (buf .exit) ≡ sets (now (buf .entry)) at (stepsText (stepsOf (now (steps .entry)))) ⌝ }
+{
+    let count = steps.len();
+    let mut to = at;
+    let mut left = count;
+    while 0 < left {
+        let i = count - left;
+        to = put_step(buf, to, steps[i]);
+        left -= 1;
+    }
+    to
+}
+
+// Writes the line of a turn: `T`, its steps, and a line feed.
+fn put_turn(buf: &mut [u8], at: usize, steps: &[u8]) -> usize
+    requires { ⌜ (at ≤ 65536) × (length (now steps) ≤ maxEdges) ⌝ }
+    ensures { λ r. ⌜ r ≡ at + length (moveLine (augment (stepsOf (now (steps .entry))))) ⌝ }
+    ensures { λ r. ⌜ r ≤ at + (2 + 13 * length (now (steps .entry))) ⌝ }
+    ensures { λ _. ⌜ now (buf .exit) ≡
+        sets (now (buf .entry)) at (moveLine (augment (stepsOf (now (steps .entry))))) ⌝ }
+{
+    lists::put_byte(buf, at, b'T');
+    let end = put_steps(buf, at + 1, steps);
+    lists::put_byte(buf, end, b'\n');
+    end + 1
+}
+
+// Writes the line of a carry: `K`, the terminal, the edge, and a line feed.
+fn put_carry(buf: &mut [u8], at: usize, terminal: u32, edge: u32) -> usize
+    requires { ⌜ at ≤ 65536 ⌝ }
+    ensures { λ r. ⌜ r ≡ at + length (moveLine (relocate terminal edge)) ⌝ }
+    ensures { λ r. ⌜ r ≤ at + 24 ⌝ }
+    ensures { λ _. ⌜ now (buf .exit) ≡ sets (now (buf .entry)) at (moveLine (relocate terminal edge)) ⌝ }
+{
+    let row = [terminal, edge];
+    text_writer::put_line(buf, at, b'K', &row)
+}
+
+// A count of steps, and no more than have places.
+fn steps_held(count: u32) -> usize
+    ensures { λ r. ⌜ r ≡ min count maxEdges ⌝ }
+{
+    if count < Board::MAX_EDGES as u32 {
+        count as usize
+    } else {
+        Board::MAX_EDGES
+    }
+}
+
+// Writes the move of a hint as a line, or `N` where there is none, at a place of the buffer, and answers the place
+// behind it. A byte past the end of the buffer is dropped.
+pub fn put_move(buf: &mut [u8], at: usize, advice: Advice) -> usize
+    requires { ⌜ at ≤ 65536 ⌝ }
+    ensures { λ r. ⌜ r ≡ at + length (hintLine advice) ⌝ }
+    ensures { λ r. ⌜ r ≤ at + (2 + 13 * maxEdges) ⌝ }
+    ensures { λ _. ⌜ now (buf .exit) ≡ sets (now (buf .entry)) at (hintLine advice) ⌝ }
+{
+    if advice.kind == Advice::NONE {
+        lists::put_byte(buf, at, b'N');
+        lists::put_byte(buf, at + 1, b'\n');
+        return at + 2;
+    }
+    if advice.kind == Advice::CARRY {
+        return put_carry(buf, at, advice.terminal, advice.edge);
+    }
+    let count = steps_held(advice.count);
+    let steps = advice.steps;
+    put_turn(buf, at, &steps[..count])
 }
