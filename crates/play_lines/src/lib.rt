@@ -421,7 +421,7 @@ fn way_letter(step: u8) -> u8
 }
 
 // Writes a step behind a comma, as `,7,D`, at a place of the buffer, and answers the place behind it.
-fn put_step(buf: &mut [u8], at: usize, step: u8) -> usize
+fn put_pair(buf: &mut [u8], at: usize, step: u8) -> usize
     requires { ⌜ at ≤ 131072 ⌝ }
     ensures { λ r. ⌜ r ≡ at + length (stepText (stepOf step)) ⌝ }
     ensures { λ r. ⌜ r ≤ at + 13 ⌝ }
@@ -437,7 +437,7 @@ fn put_step(buf: &mut [u8], at: usize, step: u8) -> usize
 }
 
 // Writes steps in their order.
-fn put_steps(buf: &mut [u8], at: usize, steps: &[u8]) -> usize
+fn put_pairs(buf: &mut [u8], at: usize, steps: &[u8]) -> usize
     requires { ⌜ (at ≤ 65537) × (length (now steps) ≤ maxEdges) ⌝ }
     ensures { λ r. ⌜ r ≡ at + length (stepsText (stepsOf (now (steps .entry)))) ⌝ }
     ensures { λ r. ⌜ r ≤ at + 13 * length (now (steps .entry)) ⌝ }
@@ -448,7 +448,7 @@ fn put_steps(buf: &mut [u8], at: usize, steps: &[u8]) -> usize
     let mut left = count;
     while 0 < left {
         let i = count - left;
-        to = put_step(buf, to, steps[i]);
+        to = put_pair(buf, to, steps[i]);
         left -= 1;
     }
     to
@@ -463,7 +463,7 @@ fn put_turn(buf: &mut [u8], at: usize, steps: &[u8]) -> usize
         sets (now (buf .entry)) at (moveLine (augment (stepsOf (now (steps .entry))))) ⌝ }
 {
     lists::put_byte(buf, at, b'T');
-    let end = put_steps(buf, at + 1, steps);
+    let end = put_pairs(buf, at + 1, steps);
     lists::put_byte(buf, end, b'\n');
     end + 1
 }

@@ -3,17 +3,20 @@ use mathlib.Core.Path.{_≡_, sym, ap, _∙_}
 use mathlib.Core.Bool.{true, false}
 use mathlib.Core.List.{List, []}
 use Prim.Native.Nat.{ℕ, _+_, _<_, _≤_}
+use lib.Dec.{eqb}
 use lib.ListN.{length, take}
 use borrow.Author.Tests.{lt-ltb, le-ltb, eq-eqb, ne-eqb}
 use Rattle.lists.specs.Lists.{indexOf}
+use Rattle.lists.specs.Choice.{pick}
 use Rattle.lists.proofs.Laws.{pick-yes, pick-no}
 use Rattle.board.specs.declared.Played.{Played}
 use Rattle.load.specs.declared.Loaded.{Loaded}
 use Rattle.load.specs.Load.{loadText}
 use Rattle.play_lines.specs.declared.Form.{Form}
-use Rattle.play_lines.specs.Scans.{scanned}
+use Rattle.solve_next.specs.Hints.{hintRefusal, hintCall}
+use Rattle.play_lines.specs.Scans.{hintForm, scanned}
 use Rattle.play_session.specs.declared.Session.{Session}
-use Rattle.play_session.specs.Machine.{formReplied, formText, grown, textSoFar, linesLeft, ready, expecting, boardLine, loadTold, boardTold, lineEnded, lineTold, hasLine, takenOf, fedSession, fedTold}
+use Rattle.play_session.specs.Machine.{formReplied, suggestionText, playedText, formText, grown, textSoFar, linesLeft, ready, expecting, boardLine, loadTold, boardTold, lineEnded, lineTold, hasLine, takenOf, fedSession, fedTold}
 
 -- ---- a line of the board
 
@@ -48,8 +51,20 @@ pub line-replied : (s : Session) (f : Form) (p : Played) → f ≡ scanned (s .s
     → p ≡ formReplied (s .board) (scanned (s .scan))
 line-replied s f p e q = q ∙ ap (formReplied (s .board)) e
 
-pub line-text : (f g : Form) (p q : Played) → f ≡ g → p ≡ q → formText f p ≡ formText g q
-line-text f g p q e d = rw (e, d)
+pub line-text : (s : Session) (f : Form) (p : Played) → f ≡ scanned (s .scan) → p ≡ formReplied (s .board) f → eqb (f .kind) hintForm ≡ false
+    → playedText f p ≡ formText (s .board) (scanned (s .scan))
+unfolding formText
+line-text s f p e q n = rw (q, ← e) (sym (pick-no _ _ _ n))
+
+pub hint-text : (s : Session) (f : Form) → f ≡ scanned (s .scan) → eqb (f .kind) hintForm ≡ true
+    → suggestionText (hintCall (s .board)) ≡ formText (s .board) (scanned (s .scan))
+unfolding formText
+hint-text s f e t = rw (← e) (sym (pick-yes _ _ _ t))
+
+pub hint-reply : (s : Session) (f : Form) → f ≡ scanned (s .scan) → f .kind ≡ hintForm
+    → record { answer = hintRefusal (s .board); board = s .board } ≡ formReplied (s .board) (scanned (s .scan))
+unfolding formReplied pick
+hint-reply s f e k = rw (← e, k)
 
 -- ---- a piece
 

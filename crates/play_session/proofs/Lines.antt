@@ -1,9 +1,9 @@
 -- A line as the machine keeps it is answered as the order that it stands for. Only a turn needs a reason: where not all of its steps were kept, there are more
 -- of them than edges, so that one comes twice and they are no cycle, or the greatest edge is none of the board's; and these are the tests that come first.
 use mathlib.Core.Path.{_≡_, refl, ap, sym, _∙_}
-use mathlib.Core.Bool.{true, false}
+use mathlib.Core.Bool.{Bool, true, false}
 use mathlib.Core.Logic.{_⊎_, inl, inr}
-use mathlib.Core.List.{List, [], _∷_}
+use mathlib.Core.List.{List, [], _∷_, append-nil}
 use Prim.Native.Nat.{ℕ, suc, _≤_, _<_}
 use native.Mathlib.Omega.{arith}
 use lib.Dec.{leb, ltb, eqb}
@@ -24,13 +24,15 @@ use Rattle.move_cycle.specs.Steps.{stepsOf, every, isCycle}
 use Rattle.move_cycle.proofs.Cycled.{cycle-closed}
 use Rattle.move_turn.specs.declared.StepRule.the-variants.{OnBoard}
 use Rattle.move_turn.specs.Turns.{meets, turnRefusal, turned, turnCall}
+use Rattle.solve_next.specs.Hints.{hintCall}
 use Rattle.move_list.specs.Calls.{carry, turn, undo, hint}
 use Rattle.play_lines.specs.declared.Form.{Form}
 use Rattle.play_lines.specs.Orders.{Order, call, finish, other}
-use Rattle.play_lines.specs.Scans.{finishForm, carryWhole, turnForm}
+use Rattle.play_lines.specs.Scans.{hintForm, finishForm, carryWhole, turnForm}
 use Rattle.play_lines.specs.Inner.{greatestEdge, KeepsSteps, StandsFor}
-use Rattle.play_session.specs.Replies.{replied, isFinish, replyText}
-use Rattle.play_session.specs.Machine.{unkept, turnReplied, formReplied, formText}
+use Rattle.sheet_output.specs.Outputs.{numberLine}
+use Rattle.play_session.specs.Replies.{replied, behindZero, replyText}
+use Rattle.play_session.specs.Machine.{unkept, turnReplied, formReplied, suggestionText, playedText, formText}
 
 -- the greatest edge is that of a step
 greatest-both : (s : Step) (w : List Step) → (edgeOf s ≤ greatestEdge (s ∷ w)) × (greatestEdge w ≤ greatestEdge (s ∷ w))
@@ -168,14 +170,38 @@ form-replied b (call hint) f s = rw s
 form-replied b finish f s = rw s
 form-replied b other f s = rw (s .no-carry, s .no-turn, s .no-hint, s .no-undo, s .no-finish)
 
-pub form-text : (b : Board) (o : Order) (f : Form) → StandsFor o f → formText f (formReplied b f) ≡ replyText b o
-unfolding formText replyText
-form-text b o f s = rw (form-replied b o f s, is-finish o s)
-  where
-    is-finish : (o : Order) → StandsFor o f → eqb (f .kind) finishForm ≡ isFinish o
-    is-finish (call (carry i e)) s = rw (s .0)
-    is-finish (call (turn w)) s = rw (s .kind)
-    is-finish (call undo) s = rw s
-    is-finish (call hint) s = rw s
-    is-finish finish s = rw s
-    is-finish other s = s .no-finish
+-- what is printed: the number alone, but for a finish and a hint
+no-more : (t : Bool) → pick {A = List ℕ} t [] [] ≡ []
+unfolding pick
+no-more true = refl
+no-more false = refl
+
+reply-alone : (b : Board) (o : Order) → behindZero b o ≡ [] → replyText b o ≡ numberLine (replied b o .answer)
+unfolding replyText
+reply-alone b o e = rw (e, no-more (eqb (replied b o .answer) 0)) (append-nil _)
+
+module _ (b : Board) (f : Form) where
+  form-alone : eqb (f .kind) hintForm ≡ false → eqb (f .kind) finishForm ≡ false → formText b f ≡ numberLine (formReplied b f .answer)
+  unfolding formText playedText both pick
+  form-alone h n = rw (h, n) (append-nil _)
+
+  -- so the line of such an order is printed as the order is
+  alone-text : (o : Order) → StandsFor o f → eqb (f .kind) hintForm ≡ false → eqb (f .kind) finishForm ≡ false → behindZero b o ≡ []
+      → formText b f ≡ replyText b o
+  alone-text o s h n e = form-alone h n ∙ ap (λ (p : Played). numberLine (p .answer)) (form-replied b o f s) ∙ sym (reply-alone b o e)
+
+  finish-text : StandsFor finish f → formText b f ≡ replyText b finish
+  unfolding formText playedText replyText replied both pick
+  finish-text s = rw (form-replied b finish f s, s)
+
+  hint-text : StandsFor (call hint) f → formText b f ≡ replyText b (call hint)
+  unfolding formText suggestionText replyText replied hintCall pick
+  hint-text s = rw s
+
+pub form-text : (b : Board) (o : Order) (f : Form) → StandsFor o f → formText b f ≡ replyText b o
+form-text b (call (carry i e)) f s = alone-text b f (call (carry i e)) s (rw (s .0)) (rw (s .0)) refl
+form-text b (call (turn w)) f s = alone-text b f (call (turn w)) s (rw (s .kind)) (rw (s .kind)) refl
+form-text b (call undo) f s = alone-text b f (call undo) s (rw s) (rw s) refl
+form-text b (call hint) f s = hint-text b f s
+form-text b finish f s = finish-text b f s
+form-text b other f s = alone-text b f other s (s .no-hint) (s .no-finish) refl

@@ -1,5 +1,5 @@
 -- A line's answer, by the tests that the code makes: the kind of the line picks the call, and a turn whose steps were not all kept has its number. What is
--- printed is the number, and behind it the report after an accepted finish.
+-- printed is the number, and behind it the report after an accepted finish or the move of an accepted hint.
 use mathlib.Core.Path.{_≡_, refl, sym, ap, _∙_}
 use mathlib.Core.Bool.{Bool, true, false}
 use mathlib.Core.List.{List, [], _++_, append-nil}
@@ -8,6 +8,7 @@ use native.Mathlib.Omega.{arith}
 use lib.Dec.{leb, ltb, eqb}
 use lib.ListN.{length, take, length-append}
 use lib.Seq.{sets}
+use borrow.Author.Tests.{eq-eqb, ne-eqb}
 use Rattle.lists.specs.Choice.{both}
 use Rattle.lists.proofs.Laws.{pick-yes, pick-no}
 use Rattle.board.specs.Limits.{maxEdges}
@@ -16,10 +17,12 @@ use Rattle.board.specs.declared.Played.{Played}
 use Rattle.move_cycle.specs.Steps.{stepsOf}
 use Rattle.move_turn.specs.Turns.{turnCall}
 use Rattle.play_lines.specs.declared.Form.{Form}
+use Rattle.solve_next.specs.declared.Suggestion.{Suggestion}
+use Rattle.play_lines.specs.MoveLines.{hintLine}
 use Rattle.play_lines.specs.Scans.{finishForm}
 use Rattle.text_writer.proofs.Writing.{sets-append}
 use Rattle.sheet_output.specs.Outputs.{numberLine, reportOf}
-use Rattle.play_session.specs.Machine.{unkept, turnReplied, formText}
+use Rattle.play_session.specs.Machine.{unkept, turnReplied, suggestionText, playedText}
 
 -- ---- a turn
 
@@ -51,10 +54,20 @@ put-joined out b1 b2 x y n r p e q g =
     (omega (arith, length-append x y), g ∙ rw (e, ← z) (sym (sets-append x out y 0)))
 
 module _ (f : Form) (p : Played) (t : Bool) (e : t ≡ both (eqb (f .kind) finishForm) (eqb (p .answer) 0)) where
-  pub text-alone : t ≡ false → numberLine (p .answer) ≡ formText f p
-  unfolding formText
+  pub text-alone : t ≡ false → numberLine (p .answer) ≡ playedText f p
+  unfolding playedText
   text-alone h = sym (ap (λ (l : List ℕ). numberLine (p .answer) ++ l) (pick-no _ _ _ (sym e ∙ h)) ∙ append-nil _)
 
-  pub text-reported : t ≡ true → numberLine (p .answer) ++ reportOf (p .board) ≡ formText f p
-  unfolding formText
+  pub text-reported : t ≡ true → numberLine (p .answer) ++ reportOf (p .board) ≡ playedText f p
+  unfolding playedText
   text-reported h = sym (ap (λ (l : List ℕ). numberLine (p .answer) ++ l) (pick-yes _ _ _ (sym e ∙ h)))
+
+-- a hint: its number alone, or its move behind it
+module _ (h : Suggestion) where
+  pub hint-alone : (h .answer ≡ 0 → ⊥) → numberLine (h .answer) ≡ suggestionText h
+  unfolding suggestionText
+  hint-alone n = sym (ap (λ (l : List ℕ). numberLine (h .answer) ++ l) (pick-no _ _ _ (ne-eqb _ 0 n)) ∙ append-nil _)
+
+  pub hint-lined : h .answer ≡ 0 → numberLine (h .answer) ++ hintLine (h .advice) ≡ suggestionText h
+  unfolding suggestionText
+  hint-lined e = sym (ap (λ (l : List ℕ). numberLine (h .answer) ++ l) (pick-yes _ _ _ (eq-eqb _ 0 e)))

@@ -44,7 +44,7 @@ module _ (s : Session) where
   told-reading e = pick-yes _ _ _ e
 
   pub told-playing : eqb (s .stage) readingStage ≡ false → eqb (s .stage) playingStage ≡ true
-      → lineTold s ≡ formText (scanned (s .scan)) (formReplied (s .board) (scanned (s .scan)))
+      → lineTold s ≡ formText (s .board) (scanned (s .scan))
   unfolding lineTold
   told-playing e f = pick-no _ _ _ e ∙ pick-yes _ _ _ f
 

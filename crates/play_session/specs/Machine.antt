@@ -16,11 +16,13 @@ use Rattle.move_carry.specs.Carries.{carryCall}
 use Rattle.move_cycle.specs.Steps.{stepsOf}
 use Rattle.move_turn.specs.Turns.{turnCall}
 use Rattle.move_undo.specs.Undone.{undoCall}
-use Rattle.solve_next.specs.Hints.{hintRefusal}
+use Rattle.solve_next.specs.declared.Suggestion.{Suggestion}
+use Rattle.solve_next.specs.Hints.{hintRefusal, hintCall}
 use Rattle.solve_finish.specs.Finishes.{finishCall}
 use Rattle.load.specs.declared.Loaded.{Loaded}
 use Rattle.load.specs.Load.{loadText}
 use Rattle.play_lines.specs.declared.Form.{Form}
+use Rattle.play_lines.specs.MoveLines.{hintLine}
 use Rattle.play_lines.specs.Scans.{hintForm, undoForm, finishForm, carryWhole, turnForm, noScan, scanAll, scanned, isBlank}
 use Rattle.sheet_output.specs.Outputs.{numberLine, reportOf}
 use Rattle.sheet_output.specs.Inputs.{textSpace, linesWanted}
@@ -47,9 +49,16 @@ formReplied b f =
     (pick (eqb (f .kind) finishForm) (record { answer = finishCall b .answer; board = finishCall b .board })
     (record { answer = 1; board = b })))))
 
-unfoldable pub formText : Form → Played → List ℕ
-formText f p =
+-- what is printed for a hint, for another line, and for a line
+unfoldable pub suggestionText : Suggestion → List ℕ
+suggestionText h = numberLine (h .answer) ++ pick (eqb (h .answer) 0) (hintLine (h .advice)) []
+
+unfoldable pub playedText : Form → Played → List ℕ
+playedText f p =
     numberLine (p .answer) ++ pick (both (eqb (f .kind) finishForm) (eqb (p .answer) 0)) (reportOf (p .board)) []
+
+unfoldable pub formText : Board → Form → List ℕ
+formText b f = pick (eqb (f .kind) hintForm) (suggestionText (hintCall b)) (playedText f (formReplied b f))
 
 -- ---- a session: the board is read, lines are played, or the board was refused
 
@@ -127,7 +136,7 @@ lineEnded s =
 unfoldable pub lineTold : Session → List ℕ
 lineTold s =
     pick (eqb (s .stage) readingStage) (boardTold (textGrown s (10 ∷ [])))
-    (pick (eqb (s .stage) playingStage) (formText (scanned (s .scan)) (formReplied (s .board) (scanned (s .scan)))) [])
+    (pick (eqb (s .stage) playingStage) (formText (s .board) (scanned (s .scan))) [])
 
 -- what is printed at the end of the input
 unfoldable pub endTold : Session → List ℕ

@@ -1,16 +1,18 @@
--- What the program `play` prints: document 01, "Route sheet".
-use mathlib.Core.Bool.{Bool, true, false}
+-- What the program `play` prints: document 01, "Route sheet"; document 02, E3.
+use mathlib.Core.Bool.{true, false}
 use mathlib.Core.List.{List, [], _∷_, _++_}
 use Prim.Native.Nat.{ℕ}
 use lib.Dec.{eqb}
 use lib.ListN.{length}
-use Rattle.lists.specs.Choice.{pick, both}
+use Rattle.lists.specs.Choice.{pick}
 use Rattle.board.specs.declared.Board.{Board}
 use Rattle.board.specs.declared.Played.{Played}
-use Rattle.move_list.specs.Calls.{made}
+use Rattle.solve_next.specs.Hints.{hintCall}
+use Rattle.move_list.specs.Calls.{made, carry, turn, undo, hint}
 use Rattle.solve_finish.specs.Finishes.{finishCall}
 use Rattle.load.specs.Load.{loadText}
 use Rattle.play_lines.specs.Orders.{Order, call, finish, other, orderOf}
+use Rattle.play_lines.specs.MoveLines.{hintLine}
 use Rattle.sheet_output.specs.Outputs.{numberLine, reportOf}
 use Rattle.sheet_output.specs.Inputs.{boardPart, movesPart}
 
@@ -20,15 +22,17 @@ replied b (call c) = made b c
 replied b finish = record { answer = finishCall b .answer; board = finishCall b .board }
 replied b other = record { answer = 1; board = b }
 
-abbrev pub isFinish : Order → Bool
-isFinish (call c) = false
-isFinish finish = true
-isFinish other = false
+-- what follows a 0: "the sheet after an accepted `F`"; after an accepted `H` the move "as a line it would read, or `N` where no move is left"
+abbrev pub behindZero : Board → Order → List ℕ
+behindZero b (call (carry i e)) = []
+behindZero b (call (turn w)) = []
+behindZero b (call undo) = []
+behindZero b (call hint) = hintLine (hintCall b .advice)
+behindZero b finish = reportOf (finishCall b .board)
+behindZero b other = []
 
--- the number, "and the sheet after an accepted `F`"
 unfoldable pub replyText : Board → Order → List ℕ
-replyText b o =
-    numberLine (replied b o .answer) ++ pick (both (isFinish o) (eqb (replied b o .answer) 0)) (reportOf (replied b o .board)) []
+replyText b o = numberLine (replied b o .answer) ++ pick (eqb (replied b o .answer) 0) (behindZero b o) []
 
 -- what is printed for the lines s, where the bytes l of the first of them were read before; a last line without its line feed is of another form
 unfoldable pub repliesFrom : Board → List ℕ → List ℕ → List ℕ

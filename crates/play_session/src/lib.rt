@@ -4,16 +4,18 @@ use board::Played;
 use load::Loaded;
 use play_lines::Form;
 use play_lines::Scan;
+use solve_next::Suggestion;
 ghost use mathlib.Core.Path.{_≡_};
+ghost use mathlib.Core.Bool.{false};
 ghost use Prim.Native.Nat.{min, _+_, _≤_};
 ghost use lib.Dec.{leb, eqb};
 ghost use lib.ListN.{length};
 ghost use lib.Seq.{sets};
 ghost use Rattle.lists.specs.Choice.{pick};
-ghost use Rattle.solve_next.specs.Hints.{hintRefusal};
+ghost use Rattle.solve_next.specs.Hints.{hintRefusal, hintCall};
 ghost use Rattle.solve_finish.specs.Finishes.{finishCall};
 ghost use Rattle.load.specs.Load.{loadText};
-ghost use Rattle.play_lines.specs.Scans.{scanned};
+ghost use Rattle.play_lines.specs.Scans.{hintForm, scanned};
 ghost use Rattle.sheet_output.specs.Inputs.{textSpace};
 ghost use Rattle.play_session.specs.Machine.{
   playingStage,
@@ -21,6 +23,8 @@ ghost use Rattle.play_session.specs.Machine.{
   unkept,
   turnReplied,
   formReplied,
+  suggestionText,
+  playedText,
   formText,
   newSession,
   textGrown,
@@ -126,18 +130,6 @@ fn turn_replied(board: Board, form: Form) -> Played
     move_turn::turn(board, &steps[..form.count as usize])
 }
 
-// A hint: its number, and the board as it was.
-fn hint_replied(board: Board) -> Played
-    ensures { λ r. ⌜ r .answer ≡ hintRefusal board ⌝ }
-    ensures { λ r. ⌜ r .board ≡ board ⌝ }
-{
-    let given = solve_next::hint(board);
-    Played {
-        answer: given.answer,
-        board: board,
-    }
-}
-
 // A finish: its number, and the board after it.
 fn finish_replied(board: Board) -> Played
     ensures { λ r. ⌜ r .answer ≡ finishCall board .answer ⌝ }
@@ -151,8 +143,9 @@ fn finish_replied(board: Board) -> Played
     }
 }
 
-// What a line is answered with, and the board after it.
+// What a line that asks for no hint is answered with, and the board after it.
 fn form_replied(board: Board, form: Form) -> Played
+    requires { ⌜ eqb (form .kind) hintForm ≡ false ⌝ }
     ensures { λ r. ⌜ r ≡ formReplied board form ⌝ }
 {
     if form.kind == Form::CARRY_WHOLE {
@@ -160,9 +153,6 @@ fn form_replied(board: Board, form: Form) -> Played
     }
     if form.kind == Form::TURN {
         return turn_replied(board, form);
-    }
-    if form.kind == Form::HINT {
-        return hint_replied(board);
     }
     if form.kind == Form::UNDO {
         return move_undo::undo(board);
@@ -176,11 +166,25 @@ fn form_replied(board: Board, form: Form) -> Played
     }
 }
 
+// Writes the number of a hint, and after an accepted one its move as a line; answers how many bytes.
+fn put_hint(out: &mut [u8], given: Suggestion) -> usize
+    ensures { λ r. ⌜ r ≡ length (suggestionText given) ⌝ }
+    ensures { λ r. ⌜ r ≤ 8291 ⌝ }
+    ensures { λ _. ⌜ now (out .exit) ≡ sets (now (out .entry)) 0 (suggestionText given) ⌝ }
+{
+    let number = sheet_output::put_number(out, 0, given.answer);
+    if given.answer != 0 {
+        return number;
+    }
+    let advice = given.advice;
+    play_lines::put_move(out, number, advice)
+}
+
 // Writes the number of an answer, and the report after an accepted finish; answers how many bytes.
 fn put_reply(out: &mut [u8], form: Form, played: Played) -> usize
-    ensures { λ r. ⌜ r ≡ length (formText form played) ⌝ }
+    ensures { λ r. ⌜ r ≡ length (playedText form played) ⌝ }
     ensures { λ r. ⌜ r ≤ 8291 ⌝ }
-    ensures { λ _. ⌜ now (out .exit) ≡ sets (now (out .entry)) 0 (formText form played) ⌝ }
+    ensures { λ _. ⌜ now (out .exit) ≡ sets (now (out .entry)) 0 (playedText form played) ⌝ }
 {
     let number = sheet_output::put_number(out, 0, played.answer);
     let finished = form.kind == Form::FINISH;
@@ -355,18 +359,41 @@ fn board_line(session: Session, out: &mut [u8]) -> AfterLine
     }
 }
 
+// A line that asks for a hint has ended: the hint is worked out once, and the board stays.
+fn hint_line(session: Session, out: &mut [u8]) -> AfterLine
+    ensures { λ r. ⌜ r .session ≡ playedLine (record {
+      answer = hintRefusal (session .board);
+      board = session .board;
+    }) session ⌝ }
+    ensures { λ r. ⌜ r .used ≡ length (suggestionText (hintCall (session .board))) ⌝ }
+    ensures { λ r. ⌜ r .used ≤ 8291 ⌝ }
+    ensures { λ _. ⌜ now (out .exit) ≡ sets (now (out .entry)) 0 (suggestionText (hintCall (session .board))) ⌝ }
+{
+    let board = session.board;
+    let given = solve_next::hint(board);
+    let used = put_hint(out, given);
+    let none = Scan::none();
+    let mut next = session;
+    next.scan = none;
+    AfterLine {
+        session: next,
+        used: used,
+    }
+}
+
 // A line of the play has ended: it is answered.
 fn played_line(session: Session, out: &mut [u8]) -> AfterLine
     ensures { λ r. ⌜ r .session ≡ playedLine (formReplied (session .board) (scanned (session .scan))) session ⌝ }
-    ensures { λ r. ⌜ r .used ≡
-        length (formText (scanned (session .scan)) (formReplied (session .board) (scanned (session .scan)))) ⌝ }
+    ensures { λ r. ⌜ r .used ≡ length (formText (session .board) (scanned (session .scan))) ⌝ }
     ensures { λ r. ⌜ r .used ≤ 8291 ⌝ }
     ensures { λ _. ⌜ now (out .exit) ≡
-        sets (now (out .entry)) 0
-        (formText (scanned (session .scan)) (formReplied (session .board) (scanned (session .scan)))) ⌝ }
+        sets (now (out .entry)) 0 (formText (session .board) (scanned (session .scan))) ⌝ }
 {
     let scan = session.scan;
     let form = play_lines::whole(scan);
+    if form.kind == Form::HINT {
+        return hint_line(session, out);
+    }
     let board = session.board;
     let played = form_replied(board, form);
     let used = put_reply(out, form, played);

@@ -9,11 +9,11 @@ use Rattle.play_lines.proofs.put_turn.Tie as tie
 put-byte-requires : tie.Need-put-byte-requires
 put-byte-requires c κs = search needs
 
-add-put-steps : tie.Need-add-put-steps
-add-put-steps c = search needs
+add-put-pairs : tie.Need-add-put-pairs
+add-put-pairs c = search needs
 
-put-steps-requires : tie.Need-put-steps-requires
-put-steps-requires c κs = search needs
+put-pairs-requires : tie.Need-put-pairs-requires
+put-pairs-requires c κs = search needs
 
 put-byte-requires-2 : tie.Need-put-byte-requires-2
 put-byte-requires-2 c κs = search needs
@@ -30,8 +30,8 @@ returns c =
     let at-letter = at-steps .before .before .before .before in
     let start = at-letter .before .before .before .before in
     let p =
-    turn-put (stepsOf (start .args .steps .now)) (start .args .buf .now) _ _ _ (start .args .at) _ (at-letter .put-byte .ensures) (at-steps .put-steps .ensures .0)
-    (at-steps .put-steps .ensures .1 .1) (c .before .before .put-byte2 .ensures) in
+    turn-put (stepsOf (start .args .steps .now)) (start .args .buf .now) _ _ _ (start .args .at) _ (at-letter .put-byte .ensures) (at-steps .put-pairs .ensures .0)
+    (at-steps .put-pairs .ensures .1 .1) (c .before .before .put-byte2 .ensures) in
     (p .0, (omega arith, p .1))
 
 pub put-turn-spec : {M : Type 1} → statement M
@@ -39,8 +39,8 @@ put-turn-spec =
     tie.close
     (tie.spec
     put-byte-requires
-    add-put-steps
-    put-steps-requires
+    add-put-pairs
+    put-pairs-requires
     put-byte-requires-2
     add-result
     same-length

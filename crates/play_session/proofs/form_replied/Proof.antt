@@ -2,7 +2,7 @@
 use mathlib.Core.Path.{sym, _∙_}
 use borrow.Author.Tests.{eq-eqb, ne-eqb}
 use Rattle.lists.proofs.Laws.{pick-yes, pick-no}
-use Rattle.play_lines.specs.Scans.{hintForm, undoForm, finishForm, carryWhole, turnForm}
+use Rattle.play_lines.specs.Scans.{undoForm, finishForm, carryWhole, turnForm}
 use Rattle.play_session.specs.Machine.{formReplied}
 use borrow.Author.Needs.{needs}
 use Rattle.play_session.proofs.form_replied.Statement.{statement}
@@ -24,50 +24,47 @@ returns-2 c =
     let n1 = ne-eqb _ carryWhole (c .before .before .before .if1 .left) in
     c .turn-replied .ensures ∙ sym (pick-no _ _ _ n1 ∙ pick-yes _ _ _ (eq-eqb _ turnForm (c .before .if2 .taken)))
 
-hint-replied-requires : tie.Need-hint-replied-requires
-hint-replied-requires c κs = search needs
+undo-requires : tie.Need-undo-requires
+undo-requires c κs = search needs
 
 returns-3 : tie.Need-returns-3
 unfolding formReplied
 returns-3 c =
-    let e = c .hint-replied .ensures in
-    let n2 = ne-eqb _ turnForm (c .before .before .before .if2 .left) in
-    let n1 = ne-eqb _ carryWhole (c .before .before .before .before .before .if1 .left) in
-    (λ i. record { answer = e .0 i; board = e .1 i }) ∙ sym (pick-no _ _ _ n1 ∙ pick-no _ _ _ n2 ∙ pick-yes _ _ _ (eq-eqb _ hintForm (c .before .if3 .taken)))
-
-undo-requires : tie.Need-undo-requires
-undo-requires c κs = search needs
-
-returns-4 : tie.Need-returns-4
-unfolding formReplied
-returns-4 c =
-    let n3 = ne-eqb _ hintForm (c .before .before .before .if3 .left) in
-    let n2 = ne-eqb _ turnForm (c .before .before .before .before .before .if2 .left) in
-    let n1 = ne-eqb _ carryWhole (c .before .before .before .before .before .before .before .if1 .left) in
-    c .undo .ensures ∙ sym (pick-no _ _ _ n1 ∙ pick-no _ _ _ n2 ∙ pick-no _ _ _ n3 ∙ pick-yes _ _ _ (eq-eqb _ undoForm (c .before .if4 .taken)))
+    let at-if2 = c .before .before .before in
+    let at-if1 = at-if2 .before .before in
+    let n1 = ne-eqb _ carryWhole (at-if1 .if1 .left) in
+    let n2 = ne-eqb _ turnForm (at-if2 .if2 .left) in
+    let n3 = at-if1 .before .before .pre in
+    c .undo .ensures ∙ sym (pick-no _ _ _ n1 ∙ pick-no _ _ _ n2 ∙ pick-no _ _ _ n3 ∙ pick-yes _ _ _ (eq-eqb _ undoForm (c .before .if3 .taken)))
 
 finish-replied-requires : tie.Need-finish-replied-requires
 finish-replied-requires c κs = search needs
 
+returns-4 : tie.Need-returns-4
+unfolding formReplied
+returns-4 c =
+    let e = c .finish-replied .ensures in
+    let at-if3 = c .before .before .before in
+    let at-if2 = at-if3 .before .before in
+    let at-if1 = at-if2 .before .before in
+    let n1 = ne-eqb _ carryWhole (at-if1 .if1 .left) in
+    let n2 = ne-eqb _ turnForm (at-if2 .if2 .left) in
+    let n3 = at-if1 .before .before .pre in
+    let n4 = ne-eqb _ undoForm (at-if3 .if3 .left) in
+    (λ i. record { answer = e .0 i; board = e .1 i })
+    ∙ sym (pick-no _ _ _ n1 ∙ pick-no _ _ _ n2 ∙ pick-no _ _ _ n3 ∙ pick-no _ _ _ n4 ∙ pick-yes _ _ _ (eq-eqb _ finishForm (c .before .if4 .taken)))
+
 returns-5 : tie.Need-returns-5
 unfolding formReplied
 returns-5 c =
-    let e = c .finish-replied .ensures in
-    let n4 = ne-eqb _ undoForm (c .before .before .before .if4 .left) in
-    let n3 = ne-eqb _ hintForm (c .before .before .before .before .before .if3 .left) in
-    let n2 = ne-eqb _ turnForm (c .before .before .before .before .before .before .before .if2 .left) in
-    let n1 = ne-eqb _ carryWhole (c .before .before .before .before .before .before .before .before .before .if1 .left) in
-    (λ i. record { answer = e .0 i; board = e .1 i })
-    ∙ sym (pick-no _ _ _ n1 ∙ pick-no _ _ _ n2 ∙ pick-no _ _ _ n3 ∙ pick-no _ _ _ n4 ∙ pick-yes _ _ _ (eq-eqb _ finishForm (c .before .if5 .taken)))
-
-returns-6 : tie.Need-returns-6
-unfolding formReplied
-returns-6 c =
-    let n5 = ne-eqb _ finishForm (c .if5 .left) in
-    let n4 = ne-eqb _ undoForm (c .before .before .if4 .left) in
-    let n3 = ne-eqb _ hintForm (c .before .before .before .before .if3 .left) in
-    let n2 = ne-eqb _ turnForm (c .before .before .before .before .before .before .if2 .left) in
-    let n1 = ne-eqb _ carryWhole (c .before .before .before .before .before .before .before .before .if1 .left) in
+    let at-if3 = c .before .before in
+    let at-if2 = at-if3 .before .before in
+    let at-if1 = at-if2 .before .before in
+    let n1 = ne-eqb _ carryWhole (at-if1 .if1 .left) in
+    let n2 = ne-eqb _ turnForm (at-if2 .if2 .left) in
+    let n3 = at-if1 .before .before .pre in
+    let n4 = ne-eqb _ undoForm (at-if3 .if3 .left) in
+    let n5 = ne-eqb _ finishForm (c .if4 .left) in
     sym (pick-no _ _ _ n1 ∙ pick-no _ _ _ n2 ∙ pick-no _ _ _ n3 ∙ pick-no _ _ _ n4 ∙ pick-no _ _ _ n5)
 
 pub form-replied-spec : {M : Type 1} → statement M
@@ -78,10 +75,8 @@ form-replied-spec =
     returns
     turn-replied-requires
     returns-2
-    hint-replied-requires
-    returns-3
     undo-requires
-    returns-4
+    returns-3
     finish-replied-requires
-    returns-5
-    returns-6)
+    returns-4
+    returns-5)

@@ -1,8 +1,11 @@
--- The line as it was read is answered, and the next one begins.
-use mathlib.Core.Path.{ap}
+-- The line as it was read is answered, a hint by its own function, and the next one begins.
+use mathlib.Core.Path.{ap, _∙_}
+use borrow.Author.Tests.{eq-eqb, ne-eqb}
 use Rattle.board.specs.declared.Played.{Played}
+use Rattle.play_lines.specs.Scans.{hintForm}
+use Rattle.play_session.specs.Machine.{playedLine}
 use Rattle.play_session.proofs.Replying.{printed}
-use Rattle.play_session.proofs.Feeding.{line-replied, line-text}
+use Rattle.play_session.proofs.Feeding.{line-replied, line-text, hint-text, hint-reply}
 use borrow.Author.Needs.{needs}
 use Rattle.play_session.proofs.played_line.Statement.{statement}
 use Rattle.play_session.proofs.played_line.Tie as tie
@@ -10,8 +13,26 @@ use Rattle.play_session.proofs.played_line.Tie as tie
 whole-requires : tie.Need-whole-requires
 whole-requires c κs = search needs
 
+hint-line-requires : tie.Need-hint-line-requires
+hint-line-requires c κs = search needs
+
+same-length : tie.Need-same-length
+same-length c = search needs
+
+returns : tie.Need-returns
+returns c =
+    let at-if1 = c .before .before .before .before in
+    let at-whole = at-if1 .before .before in
+    let s = at-whole .before .before .before .args .session in
+    let p = c .before .before .hint-line .ensures in
+    let asked = at-if1 .if1 .taken in
+    let q = hint-reply s (at-whole .whole .result) (at-whole .whole .ensures) asked in (
+      p .0 ∙ ap (λ (r : Played). playedLine r s) q,
+      printed _ _ _ _ _ (hint-text s (at-whole .whole .result) (at-whole .whole .ensures) (eq-eqb _ hintForm asked)) (p .1 .0) (p .1 .1 .0) (p .1 .1 .1),
+    )
+
 form-replied-requires : tie.Need-form-replied-requires
-form-replied-requires c κs = search needs
+form-replied-requires c κs = ne-eqb _ hintForm (c .before .if1 .left)
 
 put-reply-requires : tie.Need-put-reply-requires
 put-reply-requires c κs = search needs
@@ -19,20 +40,23 @@ put-reply-requires c κs = search needs
 none-requires : tie.Need-none-requires
 none-requires c κs = search needs
 
-same-length : tie.Need-same-length
-same-length c = search needs
+same-length-2 : tie.Need-same-length-2
+same-length-2 c = search needs
 
-returns : tie.Need-returns
-returns c =
+returns-2 : tie.Need-returns-2
+returns-2 c =
     let scan = c .before .none .ensures in
-    let p = c .before .before .before .before .put-reply .ensures in
-    let at-form-replied = c .before .before .before .before .before .before .form-replied in
-    let at-whole = c .before .before .before .before .before .before .before .before .whole in
-    let s = c .before .before .before .before .before .before .before .before .before .before .before .args .session in
-    let q = line-replied s (at-whole .result) (at-form-replied .result) (at-whole .ensures) (at-form-replied .ensures) in
-    let board = ap (λ (r : Played). r .board) q in (
+    let at-put-reply = c .before .before .before .before in
+    let at-form-replied = at-put-reply .before .before in
+    let at-if1 = at-form-replied .before .before in
+    let at-whole = at-if1 .before .before in
+    let p = at-put-reply .put-reply .ensures in
+    let s = at-whole .before .before .before .args .session in
+    let q = line-replied s (at-whole .whole .result) (at-form-replied .form-replied .result) (at-whole .whole .ensures) (at-form-replied .form-replied .ensures) in
+    let board = ap (λ (r : Played). r .board) q in
+    let other = ne-eqb _ hintForm (at-if1 .if1 .left) in (
       (λ i. record { stage = s .stage; left = s .left; used = s .used; text = s .text; scan = scan i; board = board i }),
-      printed _ _ _ _ _ (line-text _ _ _ _ (at-whole .ensures) q) (p .0) (p .1 .0) (p .1 .1),
+      printed _ _ _ _ _ (line-text s _ _ (at-whole .whole .ensures) (at-form-replied .form-replied .ensures) other) (p .0) (p .1 .0) (p .1 .1),
     )
 
 pub played-line-spec : {M : Type 1} → statement M
@@ -40,8 +64,11 @@ played-line-spec =
     tie.close
     (tie.spec
     whole-requires
+    hint-line-requires
+    same-length
+    returns
     form-replied-requires
     put-reply-requires
     none-requires
-    same-length
-    returns)
+    same-length-2
+    returns-2)

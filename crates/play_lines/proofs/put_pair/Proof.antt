@@ -3,8 +3,8 @@ use native.Mathlib.Omega.{arith}
 use Rattle.move_cycle.specs.Steps.{stepOf}
 use Rattle.play_lines.proofs.MovesWritten.{step-put}
 use borrow.Author.Needs.{needs}
-use Rattle.play_lines.proofs.put_step.Statement.{statement}
-use Rattle.play_lines.proofs.put_step.Tie as tie
+use Rattle.play_lines.proofs.put_pair.Statement.{statement}
+use Rattle.play_lines.proofs.put_pair.Tie as tie
 
 edge-of-requires : tie.Need-edge-of-requires
 edge-of-requires c κs = search needs
@@ -49,8 +49,8 @@ returns c =
     (c .before .before .put-byte3 .ensures) in
     (p .0, (omega arith, p .1))
 
-pub put-step-spec : {M : Type 1} → statement M
-put-step-spec =
+pub put-pair-spec : {M : Type 1} → statement M
+put-pair-spec =
     tie.close
     (tie.spec
     edge-of-requires

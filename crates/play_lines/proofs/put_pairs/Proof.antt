@@ -8,8 +8,8 @@ use Rattle.text_writer.proofs.Writing.{TextLeft}
 use Rattle.move_cycle.specs.Steps.{stepsOf}
 use Rattle.play_lines.specs.MoveLines.{stepsText}
 use Rattle.play_lines.proofs.MovesWritten.{steps-turned, steps-done}
-use Rattle.play_lines.proofs.put_steps.Statement.{statement}
-use Rattle.play_lines.proofs.put_steps.Tie as tie
+use Rattle.play_lines.proofs.put_pairs.Statement.{statement}
+use Rattle.play_lines.proofs.put_pairs.Tie as tie
 
 abbrev Inv-loop : tie.InvT-loop
 Inv-loop buf₀ at steps count to₀ left₀ buf to left =
@@ -27,11 +27,11 @@ loop-holds c =
 sub-i : tie.Need-sub-i Inv-loop μ-loop
 sub-i c = omega arith
 
-shared-slice-read-put-step : tie.Need-shared-slice-read-put-step Inv-loop μ-loop
-shared-slice-read-put-step c = omega arith
+shared-slice-read-put-pair : tie.Need-shared-slice-read-put-pair Inv-loop μ-loop
+shared-slice-read-put-pair c = omega arith
 
-put-step-requires : tie.Need-put-step-requires Inv-loop μ-loop
-put-step-requires c κs = omega arith
+put-pair-requires : tie.Need-put-pair-requires Inv-loop μ-loop
+put-pair-requires c κs = omega arith
 
 sub-left : tie.Need-sub-left Inv-loop μ-loop
 sub-left c = omega arith
@@ -41,14 +41,14 @@ loop-less c = omega arith
 
 loop-again : tie.Need-loop-again Inv-loop μ-loop
 loop-again c =
-    let at-put-step = c .before .before in
-    let at-test = at-put-step .before .before .before in
+    let at-put-pair = c .before .before in
+    let at-test = at-put-pair .before .before .before in
     let at-loop = at-test .before in
     let start = at-loop .before .before .before in (
       omega arith,
       omega arith,
       steps-turned (start .args .steps .now) _ (at-loop .loop .inv .2) (at-test .loop-test .taken) (at-loop .loop .inv .0) _ _
-          (at-put-step .put-step .ensures .1 .1) (at-put-step .put-step .ensures .0),
+          (at-put-pair .put-pair .ensures .1 .1) (at-put-pair .put-pair .ensures .0),
     )
 
 same-length : tie.Need-same-length Inv-loop μ-loop
@@ -59,16 +59,16 @@ returns c =
     let d = steps-done (c .before .before .before .before .args .steps .now) _ (c .before .loop .inv .2) (c .loop-test .left) in
     (d .0, (omega arith, d .1))
 
-pub put-steps-spec : {M : Type 1} → statement M
-put-steps-spec =
+pub put-pairs-spec : {M : Type 1} → statement M
+put-pairs-spec =
     tie.close
     (tie.spec
     Inv-loop
     μ-loop
     loop-holds
     sub-i
-    shared-slice-read-put-step
-    put-step-requires
+    shared-slice-read-put-pair
+    put-pair-requires
     sub-left
     loop-less
     loop-again
