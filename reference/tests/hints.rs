@@ -3,13 +3,13 @@
 
 use reference::boards::random_board;
 use reference::calls::random_calls;
-use reference::cases::{S, T};
+use reference::cases::{longest_cycle, DOWN_AGAIN, S, T, TAIL};
 use reference::catalog::BOARDS;
 use reference::player::{Call, Player};
 use reference::programs::{hint_line, play, sheet};
 use reference::properties::check_hint;
 use reference::random::Random;
-use reference::text::{write, Edge, Network, Terminal};
+use reference::text::write;
 
 /// A board is finished by these lines, each hinted and then given back; then no move is left. `N` is no line that `play` reads, the sheet is that of
 /// a finish alone, and once play is over there is no hint.
@@ -47,8 +47,7 @@ fn behind_other_moves() {
 /// edge, and they are not sorted.
 #[test]
 fn a_walk_with_a_tail() {
-    let board = "B,5,5,2,0 C,2,4,3 C,3,4,3 C,1,3,3 C,1,2,3 C,0,1,6 W,4,2 W,4,4 ";
-    finished_by(board, &["K,0,0", "K,0,3", "K,0,4", "T,2,D,1,D,0,U,3,U", "K,1,0", "K,1,3", "K,1,4"]);
+    finished_by(TAIL, &["K,0,0", "K,0,3", "K,0,4", "T,2,D,1,D,0,U,3,U", "K,1,0", "K,1,3", "K,1,4"]);
 }
 
 /// No carry is open on the loaded board: the one terminal needs 5, over flows of 3 and 2. The walk goes down 0 and 1, up 2 to vertex 3, which two edges
@@ -56,18 +55,7 @@ fn a_walk_with_a_tail() {
 /// vertex 3, and the walk climbs on by 4 to the source: here all of it is the cycle.
 #[test]
 fn a_walk_that_goes_down_again() {
-    let board = "B,4,5,1,0 C,0,1,2 C,1,2,3 C,3,2,2 C,3,1,1 C,0,3,3 W,2,5 ";
-    finished_by(board, &["T,1,D,2,U,3,D", "T,0,D,1,D,2,U,4,U", "K,0,2", "K,0,4"]);
-}
-
-/// Two ways of 16 edges each, of flow 1, from the source to one terminal, behind ten edges without flow.
-fn longest_cycle() -> Network {
-    let edge = |tail, head, flow| Edge { tail, head, flow };
-    let mut edges = vec![edge(0, 1, 0); 10];
-    edges.extend((0..16).map(|vertex| edge(vertex, vertex + 1, 1)));
-    edges.push(edge(0, 31, 1));
-    edges.extend((17..32).rev().map(|vertex| edge(vertex, vertex - 1, 1)));
-    Network { vertices: 32, edges, terminals: vec![Terminal { home: 16, demand: 2 }], source: 0 }
+    finished_by(DOWN_AGAIN, &["T,1,D,2,U,3,D", "T,0,D,1,D,2,U,4,U", "K,0,2", "K,0,4"]);
 }
 
 /// The walk stops at the first vertex seen before, so a hint's cycle has at most 32 steps, and its line at most 162 bytes. (A turn that a player gives
