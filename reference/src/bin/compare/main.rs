@@ -159,7 +159,7 @@ fn compare_made(seed: u64, tally: &mut Tally) -> Result<(), String> {
     compare_long_lines(T, tally)
 }
 
-/// The catalog and the boards whose hints were worked out by hand, finished by their hints.
+/// The catalog and boards made by hand, finished by their hints.
 fn compare_hinted_boards(tally: &mut Tally) -> Result<(), String> {
     let made = [S, T, MISFIT, TAIL, DOWN_AGAIN].map(|text| text.replace(' ', "\n").into_bytes());
     let catalog = CATALOG.iter().map(|text| text.as_bytes().to_vec());
