@@ -2,18 +2,10 @@
 
 use crate::moves::{is_singular, open_carries, Board, Move, Step};
 use crate::player::{Call, Player};
-use crate::programs::line;
+use crate::programs::{line, line_of};
 use crate::random::Random;
 use crate::solver::next_move;
 use crate::text::Network;
-
-/// The call that makes a move.
-pub fn call_of(made: &Move) -> Call {
-    match made {
-        Move::Carry { terminal, edge } => Call::Carry { terminal: *terminal as u64, edge: *edge as u64 },
-        Move::Turn(steps) => Call::Turn(steps.clone()),
-    }
-}
 
 /// A random closed trail of steps that may be taken, with no edge twice; vertices may come twice. None where a few tries found none.
 pub fn closed_trail(rng: &mut Random, network: &Network, may_take: &dyn Fn(Step) -> bool) -> Option<Vec<Step>> {
@@ -153,7 +145,7 @@ pub fn random_call(rng: &mut Random, habits: Habits, player: &Player) -> Call {
     let kind = rng.below(100);
     if kind < habits.moves && !player.is_over() {
         if let Some(made) = good_move(rng, network, &board) {
-            return call_of(&made);
+            return Call::of_move(&made);
         }
     }
     if kind < habits.moves + habits.undos {
@@ -180,22 +172,6 @@ pub fn random_calls(rng: &mut Random, text: &[u8], count: usize) -> Vec<Call> {
         calls.push(call);
     }
     calls
-}
-
-/// The line of `play` that makes a call, with its line feed.
-pub fn line_of(call: &Call) -> Vec<u8> {
-    let mut text = match call {
-        Call::Carry { terminal, edge } => format!("K,{terminal},{edge}"),
-        Call::Turn(steps) => {
-            let pairs = steps.iter().map(|step| format!(",{},{}", step.edge, if step.is_up { "U" } else { "D" }));
-            format!("T{}", pairs.collect::<String>())
-        }
-        Call::Hint => "H".to_string(),
-        Call::Undo => "U".to_string(),
-        Call::Finish => "F".to_string(),
-    };
-    text.push('\n');
-    text.into_bytes()
 }
 
 /// Lines that are nearly calls, parted by bars.

@@ -13,6 +13,10 @@ pub const T: &str = "B,4,4,2,0\nC,0,1,3\nC,0,2,3\nC,1,3,3\nC,2,3,3\nW,3,2\nW,3,4
 /// The board with a misfit: a terminal that needs less than a marked edge into its vertex has.
 pub const MISFIT: &str = "B,4,6,2,2 C,2,0,4 C,1,0,1 C,2,1,7 C,2,0,0 C,1,3,8 C,2,1,2 W,0,5 W,3,8 ";
 
+/// Boards whose walk goes some way before it meets the cycle: behind three carries, and as loaded.
+pub const TAIL: &str = "B,5,5,2,0 C,2,4,3 C,3,4,3 C,1,3,3 C,1,2,3 C,0,1,6 W,4,2 W,4,4 ";
+pub const DOWN_AGAIN: &str = "B,4,5,1,0 C,0,1,2 C,1,2,3 C,3,2,2 C,3,1,1 C,0,3,3 W,2,5 ";
+
 /// The longest text that can be accepted, and the longest that the program takes.
 pub const LONGEST: usize = 1_246;
 pub const GREATEST: usize = 65_535;
@@ -113,6 +117,16 @@ const BY_HAND: [&str; 79] = [
     "C,0,1,5 W,1,5 B,2,1,1,0 ",
     "B,2,1,1,0 W,1,5 C,0,1,5 ",
 ];
+
+/// A cycle through every vertex, whose edges have two digits: two ways of 16 edges each, of flow 1, from the source to one terminal, behind ten edges without flow.
+pub fn longest_cycle() -> Network {
+    let edge = |tail, head, flow| Edge { tail, head, flow };
+    let mut edges = vec![edge(0, 1, 0); 10];
+    edges.extend((0..16).map(|vertex| edge(vertex, vertex + 1, 1)));
+    edges.push(edge(0, 31, 1));
+    edges.extend((17..32).rev().map(|vertex| edge(vertex, vertex - 1, 1)));
+    Network { vertices: 32, edges, terminals: vec![Terminal { home: 16, demand: 2 }], source: 0 }
+}
 
 /// A board as long as a text can be: each of 16 terminals with four edges of its own in a row, every number with the most digits.
 pub fn longest_board() -> Network {

@@ -84,7 +84,7 @@ pub fn call_by_reference(player: &mut Player, call: &EngineCall) -> u32 {
 
 /// The call for the engine; none for a finish, which is made behind the list. A step whose edge is past what a byte holds becomes one that no
 /// board has.
-fn engine_call(call: &Call) -> Option<EngineCall> {
+pub fn engine_call(call: &Call) -> Option<EngineCall> {
     let byte = |step: &Step| step.edge.min(127) as u8 + if step.is_up { 128 } else { 0 };
     match call {
         Call::Carry { terminal, edge } => Some(EngineCall::Carry(number(*terminal), number(*edge))),

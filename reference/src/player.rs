@@ -27,6 +27,16 @@ pub enum Call {
     Finish,
 }
 
+impl Call {
+    /// The call that makes a move.
+    pub fn of_move(made: &Move) -> Call {
+        match made {
+            Move::Carry { terminal, edge } => Call::Carry { terminal: *terminal as u64, edge: *edge as u64 },
+            Move::Turn(steps) => Call::Turn(steps.clone()),
+        }
+    }
+}
+
 /// What the text says, and its drained first flows, which the text alone decides.
 #[derive(Clone, Debug, PartialEq, Eq)]
 struct Loaded {
@@ -187,8 +197,7 @@ impl Player {
         }
     }
 
-    /// "Hint gives some move that would be accepted. It gives none only if every mill is at the spring." Here it gives the move that finish
-    /// would make.
+    /// Document 02, E3: "The hint shall give the move that finish would make next on this board." None "where no move is left".
     pub fn hint(&self) -> Result<Option<Move>, Refusal> {
         let (network, board) = self.in_play_board()?;
         Ok(next_move(network, &board))

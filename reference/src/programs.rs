@@ -1,6 +1,6 @@
-//! What the programs `sheet` and `play` print for an input: document 01, "Route sheet".
+//! What the programs `sheet` and `play` print for an input: document 01, "Route sheet", and document 02, E3.
 
-use crate::moves::Step;
+use crate::moves::{Move, Step};
 use crate::player::{Call, Player};
 use crate::text::{line_count, number};
 
@@ -37,15 +37,38 @@ fn step(pair: &[&[u8]]) -> Option<Step> {
     }
 }
 
-/// "It prints 0 or the refusal number for each, 1 for a line of another form, and the sheet after an accepted `F`."
+/// The line that is read as a call, with its line feed.
+pub fn line_of(call: &Call) -> Vec<u8> {
+    let mut text = match call {
+        Call::Carry { terminal, edge } => format!("K,{terminal},{edge}"),
+        Call::Turn(steps) => {
+            let pairs = steps.iter().map(|step| format!(",{},{}", step.edge, if step.is_up { "U" } else { "D" }));
+            format!("T{}", pairs.collect::<String>())
+        }
+        Call::Hint => "H".to_string(),
+        Call::Undo => "U".to_string(),
+        Call::Finish => "F".to_string(),
+    };
+    text.push('\n');
+    text.into_bytes()
+}
+
+/// The move of a hint. Document 02, E3: "`play` prints it after its 0, as a line it would read, or `N` where no move is left."
+pub fn hint_line(hint: Option<&Move>) -> Vec<u8> {
+    hint.map_or(b"N\n".to_vec(), |made| line_of(&Call::of_move(made)))
+}
+
+/// "It prints 0 or the refusal number for each, 1 for a line of another form, and the sheet after an accepted `F`." By E3 the move of a hint, too.
 fn answer(player: &mut Player, call: Option<Call>) -> Vec<u8> {
     let Some(call) = call else {
         return b"1\n".to_vec();
     };
     let refusal = player.call(&call);
     let mut output = format!("{refusal}\n").into_bytes();
-    if call == Call::Finish && refusal == 0 {
-        output.extend(player.sheet_text().expect("a finished board has a sheet"));
+    match call {
+        Call::Hint if refusal == 0 => output.extend(hint_line(player.hint().expect("a hint that was answered 0").as_ref())),
+        Call::Finish if refusal == 0 => output.extend(player.sheet_text().expect("a finished board has a sheet")),
+        _ => (),
     }
     output
 }

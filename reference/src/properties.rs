@@ -1,14 +1,14 @@
-//! What document 01 claims of every board, tried on random ones: the reference is checked by itself.
+//! What document 01 and the requests of document 02 that were met claim of every board, tried on random ones: the reference is checked by itself.
 
 use crate::boards::random_board;
-use crate::calls::{call_of, habits, line_of, random_call, random_input};
+use crate::calls::{habits, random_call, random_input};
 use crate::cancelling::{acyclic_flows, is_on_cycle};
 use crate::moves::{amount, open_carries, Board, Move};
 use crate::player::{Call, Player};
-use crate::programs::{play, sheet};
+use crate::programs::{hint_line, line, line_of, play, sheet};
 use crate::random::Random;
 use crate::report::load;
-use crate::solver::{bound_of_moves, finishing_moves};
+use crate::solver::{bound_of_moves, finished};
 use crate::text::{balances, flows, homes, read, write, Network};
 use std::collections::{BTreeMap, BTreeSet};
 
@@ -97,8 +97,7 @@ fn is_simple(network: &Network, route: &[usize], home: usize) -> bool {
 
 /// "Finish completes a board", with the strict bound: "load less its largest" is below the acyclic flow on every edge in use.
 fn check_finish(network: &Network, acyclic: &[u64], board: &Board, standing: usize, tally: &mut Tally) -> Checked {
-    let moves = finishing_moves(network, board);
-    let end = moves.iter().fold(board.clone(), |board, made| board.after(network, made));
+    let (moves, end) = finished(network, board);
     check(end.is_home(network), "finish leaves a terminal away")?;
     for (route, terminal) in end.routes.iter().zip(&network.terminals) {
         check(is_simple(network, route, terminal.home), "a route is not simple")?;
@@ -158,16 +157,34 @@ fn check_move(network: &Network, before: &Board, after: &Board, made: &Move, tal
     check(taken_back(network, after, made, amount, &marked) == *before, "undo gives another board")
 }
 
-/// "Hint gives some move that would be accepted. It gives none only if every mill is at the spring."
-fn check_hint(player: &Player, network: &Network, board: &Board) -> Checked {
-    match player.hint() {
-        Ok(Some(hinted)) => {
-            let mut other = player.clone();
-            check(other.call(&call_of(&hinted)) == 0, "a hint's move is refused")
-        }
-        Ok(None) => check(board.is_home(network), "no hint while a terminal is away"),
-        Err(_) => Err("a hint is refused in play".to_string()),
-    }
+/// The line of a hint's move is read as that very move. A cycle that was walked passes no vertex twice, so it has at most as many steps as there are
+/// vertices, and a step takes at most five bytes.
+fn check_hint_line(network: &Network, hinted: &Move) -> Checked {
+    let text = hint_line(Some(hinted));
+    let is_read = text.strip_suffix(b"\n").and_then(line) == Some(Call::of_move(hinted));
+    check(is_read, "a hint's line is not read as its move")?;
+    check(text.len() <= 2 + 5 * network.vertices, "a hint's line is too long")
+}
+
+/// Document 02, E3: "The hint shall give the move that finish would make next on this board": with that move made, finish makes the others and ends
+/// in the same board. So document 01's rule holds: "Hint gives some move that would be accepted. It gives none only if every mill is at the spring."
+pub fn check_hint(player: &Player) -> Checked {
+    let (Some(network), Some(board)) = (player.network(), player.board()) else {
+        return Err("no board was loaded".to_string());
+    };
+    let (moves, end) = finished(network, &board);
+    let hint = player.hint().map_err(|refusal| format!("a hint is refused {refusal} in play"))?;
+    let Some(hinted) = hint else {
+        check(board.is_home(network), "no hint while a terminal is away")?;
+        return check(moves.is_empty(), "no hint while finish makes a move");
+    };
+    check_hint_line(network, &hinted)?;
+    let mut after = player.clone();
+    check(after.call(&Call::of_move(&hinted)) == 0, "a hint's move is refused")?;
+    let (rest, same_end) = finished(network, &after.board().expect("a board was loaded"));
+    check(rest.len() + 1 == moves.len(), "finish after the hint's move does not count one less")?;
+    check([player.standing(), &moves].concat() == [after.standing(), &rest].concat(), "finish after the hint's move makes other moves")?;
+    check(end == same_end, "finish after the hint's move ends in another board")
 }
 
 /// Plays a list of calls, and checks every board that it reaches.
@@ -179,6 +196,7 @@ fn check_play(rng: &mut Random, network: &Network, calls: &mut Vec<Call>, tally:
     let habits = habits(rng);
     let count = if rng.chance(1, 20) { 60 } else { rng.between(1, 10) };
     check_finish(network, &acyclic, &boards[0], 0, tally)?;
+    check_hint(&player)?;
     while calls.len() < count {
         let call = random_call(rng, habits, &player);
         calls.push(call.clone());
@@ -204,24 +222,27 @@ fn check_play(rng: &mut Random, network: &Network, calls: &mut Vec<Call>, tally:
         }
         let board = boards.last().unwrap();
         check(player.board().as_ref() == Some(board), "the board is not the one of the standing moves")?;
-        check_hint(&player, network, board)?;
         if refusal == 0 && call != Call::Hint {
             check_finish(network, &acyclic, board, player.standing().len(), tally)?;
+            check_hint(&player)?;
         }
     }
     Ok(())
 }
 
-/// "It prints 0 or the refusal number for each, 1 for a line of another form, and the sheet after an accepted `F`."
+/// "It prints 0 or the refusal number for each, 1 for a line of another form, and the sheet after an accepted `F`", and by E3 a line after the 0 of `H`.
 fn check_programs(rng: &mut Random, text: &[u8]) -> Checked {
     let count = rng.between(1, 12);
     let input = random_input(rng, text, count);
     let lines = |bytes: &[u8]| bytes.split_inclusive(|byte| *byte == b'\n').map(<[u8]>::to_vec).collect::<Vec<_>>();
     let calls = lines(&input[text.len()..]);
     let output = lines(&play(&input));
-    let (answers, sheets): (Vec<_>, Vec<_>) = output.iter().partition(|line| line[0].is_ascii_digit());
+    let (answers, printed): (Vec<_>, Vec<_>) = output.iter().partition(|line| line[0].is_ascii_digit());
+    let (hints, sheets): (Vec<_>, Vec<_>) = printed.into_iter().partition(|line| b"KTN".contains(&line[0]));
     check(answers.len() == calls.len(), "play does not answer each line once")?;
-    let is_finished = calls.iter().zip(&answers).any(|(call, answer)| call == b"F\n" && *answer == b"0\n");
+    let accepted = |wanted: &[u8]| calls.iter().zip(&answers).filter(|(call, answer)| *call == wanted && **answer == b"0\n").count();
+    check(hints.len() == accepted(b"H\n"), "play prints a move without a hint, or none after one")?;
+    let is_finished = accepted(b"F\n") > 0;
     let sheet_lines = lines(&sheet(text)).len();
     check(sheets.len() == if is_finished { sheet_lines } else { 0 }, "play prints a sheet without a finish, or none after one")
 }

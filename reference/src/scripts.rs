@@ -2,7 +2,7 @@
 
 use crate::boards::random_board;
 use crate::calls::random_input;
-use crate::cases::{greatest_board, longest_board, smallest_board, star, texts, MISFIT, S, T};
+use crate::cases::{greatest_board, longest_board, longest_cycle, smallest_board, star, texts, DOWN_AGAIN, MISFIT, S, T, TAIL};
 use crate::damage::damaged;
 use crate::player::Player;
 use crate::programs::{play, sheet};
@@ -38,8 +38,8 @@ const BOARDS: [&str; 12] = [
 ];
 
 /// Boards with lines, in the same way: each refusal of the lines, document 01's cases, lines of another form, lines after a finish, a last line without
-/// its line feed, and boards that are refused though lines follow.
-const PLAYS: [(&str, &str); 16] = [
+/// its line feed, boards that are refused though lines follow, and boards finished by their hints, with `N`, which is no line to read.
+const PLAYS: [(&str, &str); 19] = [
     (T, "K,0,0 K,1,2 K,2,0 K,0,4 U T F U"),
     (T, "K,0,2 K,0,0 K,0,1 T,0,D,2,D,3,U,1,U U H F K,0,0 T,200,D H U F "),
     (T, "T,0,D,2,D,3,U,1,U T,0,D T,0,D,0,U T,4,D T,128,D T,9999999,U,0,D K,256,0 K,0,256 K,9999999,9999999 "),
@@ -56,6 +56,9 @@ const PLAYS: [(&str, &str); 16] = [
     ("B,2,1,1,2 ", "C,0,1,5 "),
     ("B,4,4,2,0 C,0,1,3 ", "F "),
     ("B,2,1,1,0 C,0,1,5 W,1,5", ""),
+    (T, "H K,0,2 H K,0,0 H T,0,D,2,D,3,U,1,U H K,1,3 H K,1,1 H N F H N H"),
+    (TAIL, "H K,0,0 H K,0,3 H K,0,4 H T,2,D,1,D,0,U,3,U H U H T,0,U,3,U,2,D,1,D H K,1,0 K,1,3 K,1,4 H F H "),
+    (DOWN_AGAIN, "H T,1,D,2,U,3,D H T,0,D,1,D,2,U,4,U H K,0,2 H K,0,4 H U H F H "),
 ];
 
 fn lines(text: &str) -> Vec<u8> {
@@ -79,6 +82,7 @@ pub fn scripts() -> Vec<Script> {
     let mut scripts: Vec<Script> = boards.iter().map(|text| (Use::Sheet, text.clone())).collect();
     scripts.extend(boards.iter().map(|text| (Use::Calls, text.clone())).take(12));
     scripts.extend(PLAYS.iter().map(|(board, calls)| (Use::Play(200), [lines(board), lines(calls)].concat())));
+    scripts.push((Use::Play(200), [&write(&longest_cycle())[..], b"H\nF\nH\n"].concat()));
     scripts.extend([1, 2, 7].map(|piece| (Use::Play(piece), [lines(PLAYS[1].0), lines(PLAYS[1].1)].concat())));
     scripts.extend(long_inputs().into_iter().map(|input| (Use::Play(251), input)));
     for index in 0..120 {

@@ -67,8 +67,8 @@ pub fn cycle(network: &Network, flows: &[u64]) -> Vec<Step> {
     }
 }
 
-/// "Finish plays to the end": the moves that it makes.
-pub fn finishing_moves(network: &Network, board: &Board) -> Vec<Move> {
+/// "Finish plays to the end": the moves that it makes, and the board then.
+pub fn finished(network: &Network, board: &Board) -> (Vec<Move>, Board) {
     let mut board = board.clone();
     let mut moves = Vec::new();
     while let Some(next) = next_move(network, &board) {
@@ -76,5 +76,10 @@ pub fn finishing_moves(network: &Network, board: &Board) -> Vec<Move> {
         moves.push(next);
         assert!(moves.len() <= bound_of_moves(network), "finish exceeds the bound of moves");
     }
-    moves
+    (moves, board)
+}
+
+/// The moves alone.
+pub fn finishing_moves(network: &Network, board: &Board) -> Vec<Move> {
+    finished(network, board).0
 }

@@ -87,7 +87,7 @@ fn the_turn_of_t() {
 fn lines_of_play() {
     let calls = "K,0,2\nK,0,0\nT,0,D,2,D,3,U,1,U\nU\nH\nX\n\nT,\nT,0\nT,0,D,\nK,0\nT,128,D\nK,256,0\nT\nF\nT,200,D\nU";
     let output = play(&[T, calls].concat().into_bytes());
-    let wanted = ["0\n0\n0\n0\n0\n1\n1\n1\n1\n1\n1\n6\n6\n7\n0\n", &String::from_utf8(sheet(T.as_bytes())).unwrap(), "20\n1\n"];
+    let wanted = ["0\n0\n0\n0\n0\nT,0,D,2,D,3,U,1,U\n1\n1\n1\n1\n1\n1\n6\n6\n7\n0\n", &String::from_utf8(sheet(T.as_bytes())).unwrap(), "20\n1\n"];
     assert_eq!(String::from_utf8(output).unwrap(), wanted.concat());
 }
 

@@ -6,8 +6,8 @@ use reference::calls::random_input;
 use reference::cases::{texts, GREATEST, S, T};
 use reference::catalog::{definition_table, listing, source_table};
 use reference::encoded::{call_by_reference, codes_of, entries, random_list, EngineCall};
-use reference::player::Player;
-use reference::programs::{play, sheet};
+use reference::player::{Call, Player};
+use reference::programs::{hint_line, play, sheet};
 use reference::random::Random;
 use reference::scripts;
 use reference::text::write;
@@ -116,26 +116,35 @@ fn replay() -> (Vec<u8>, Vec<u8>) {
     (input, output)
 }
 
-/// The program `play`: a long run on a great board, lines of another form among the calls; a finish, lines after it, and one without its line feed.
+/// Each hint from the loaded board on with its move as the next line, until no move is left; a hint then, and what it prints, which is no line to
+/// read. The moves are undone again.
+fn hinted_lines(text: &[u8]) -> Vec<u8> {
+    let (_, mut player) = Player::load(text);
+    let mut lines = Vec::new();
+    while let Some(hinted) = player.hint().expect("a board in play has a hint") {
+        lines.extend([b"H\n", &hint_line(Some(&hinted))[..]].concat());
+        player.call(&Call::of_move(&hinted));
+    }
+    [&lines[..], b"H\n", &hint_line(None), &b"U\n".repeat(player.standing().len())].concat()
+}
+
+/// The program `play`: a long run on a great board: its hints up to the end and back, lines of another form among the calls; a finish, lines after it,
+/// and one without its line feed.
 fn long_run() -> Vec<u8> {
     let mut rng = Random::new(7);
     let mut network = random_board(&mut rng);
     while network.terminals.len() < 12 {
         network = random_board(&mut rng);
     }
-    let mut input = random_input(&mut rng, &write(&network), 400);
-    input.extend(b"\nF\nU\nF\nH");
-    input
+    let text = write(&network);
+    let lines = random_input(&mut rng, &text, 400).split_off(text.len());
+    [&text[..], &hinted_lines(&text), &lines, b"\nF\nH\nU\nF\nH"].concat()
 }
 
 fn main() -> std::io::Result<()> {
     let folder = std::env::args().nth(1).expect("usage: stored FOLDER");
     let run = long_run();
-    let programs = [
-        ("replay", replay()),
-        ("sheet", (T.into(), sheet(T.as_bytes()))),
-        ("play", (run.clone(), play(&run))),
-    ];
+    let programs = [("replay", replay()), ("sheet", (T.into(), sheet(T.as_bytes()))), ("play", (run.clone(), play(&run)))];
     let mut files =
         vec![("catalog/src/table.rt".into(), source_table().into_bytes()), ("catalog/specs/Table.antt".into(), definition_table().into_bytes())];
     for (name, (input, output)) in programs {

@@ -4,15 +4,18 @@
 
 mod boards;
 mod catalog;
+mod hinted;
 mod play;
 mod report;
 
 use boards::compare_boards;
 use catalog::compare_catalog;
+use hinted::compare_hinted;
 use play::compare_play;
 use reference::boards::random_board;
 use reference::cancelling::acyclic_flows;
-use reference::cases::{texts, T};
+use reference::cases::{longest_cycle, texts, DOWN_AGAIN, MISFIT, S, T, TAIL};
+use reference::catalog::BOARDS as CATALOG;
 use reference::damage::{at_every_field, damaged, every_start, surplus};
 use reference::encoded::{random_list, EngineCall};
 use reference::engine::{self, EDGES};
@@ -31,6 +34,9 @@ const INPUTS: u64 = 60_000;
 const PROGRAMS: u64 = 150;
 /// For each so many inputs, one board through the fast program, too.
 const BOARDS: u64 = 10;
+/// For each so many inputs, one board finished move by move by its hints.
+const HINTED: u64 = 600;
+
 /// A text loaded, and the board written into a buffer: what both answered, and the buffer then.
 #[derive(Debug, PartialEq, Eq)]
 struct Copied {
@@ -149,7 +155,15 @@ fn compare_made(seed: u64, tally: &mut Tally) -> Result<(), String> {
     lists.iter().try_for_each(|calls| compare_play(T.as_bytes(), calls, true, tally))?;
     compare_catalog(&mut rng, tally)?;
     compare_old_sheets(tally)?;
+    compare_hinted_boards(tally)?;
     compare_long_lines(T, tally)
+}
+
+/// The catalog and boards made by hand, finished by their hints.
+fn compare_hinted_boards(tally: &mut Tally) -> Result<(), String> {
+    let made = [S, T, MISFIT, TAIL, DOWN_AGAIN].map(|text| text.replace(' ', "\n").into_bytes());
+    let catalog = CATALOG.iter().map(|text| text.as_bytes().to_vec());
+    catalog.chain(made).chain([write(&longest_cycle())]).try_for_each(|text| compare_hinted(&text, tally))
 }
 
 fn compare_inputs(seed: u64, count: u64, tally: &mut Tally) -> Result<(), String> {
@@ -159,6 +173,9 @@ fn compare_inputs(seed: u64, count: u64, tally: &mut Tally) -> Result<(), String
         let mut compared = compare_random(&mut rng, tally);
         if index % PROGRAMS == 0 {
             compared = compared.and_then(|()| compare_programs(&mut rng, tally));
+        }
+        if index % HINTED == 0 {
+            compared = compared.and_then(|()| compare_hinted(&write(&random_board(&mut rng)), tally));
         }
         compared.map_err(|difference| format!("input {index} of seed {seed}: {difference}"))?;
     }

@@ -1,11 +1,12 @@
-//! Lists of carries, turns, undos and hints through engine and reference: the answers, the rule that each hint keeps, the whole board at the end,
-//! journal included, the board that a finish makes of it, and the texts of both boards.
+//! Lists of carries, turns, undos and hints through engine and reference: the answers, the move of each hint, the whole board at the end, journal
+//! included, the board that a finish makes of it, and the texts of both boards.
 
 use crate::report::compare_texts;
 use crate::{same, Tally};
-use reference::encoded::{call_by_reference, codes_of, entries, number, set_of, EngineCall, ENTRY};
+use reference::encoded::{call_by_reference, codes_of, engine_call, entries, number, set_of, EngineCall, ENTRY};
 use reference::engine::{self, End, EDGES, MOVES, TERMINALS};
-use reference::player::Player;
+use reference::moves::Move;
+use reference::player::{Call, Player};
 
 /// The move of a hint in numbers: its kind, 0 for none, 1 for a carry and 2 for a turn; terminal, edge, count of steps, and the steps. What a kind
 /// does not need is 0.
@@ -108,35 +109,25 @@ fn finished_by_reference(text: &[u8], calls: &[EngineCall]) -> Finished {
     finished_by_player(&mut player, given)
 }
 
-/// "Hint gives some move that would be accepted. It gives none only if every mill is at the spring": whether the engine's hint keeps that rule on
-/// the player's board, and is 0 where it says nothing.
-fn keeps_rule(player: &Player, advice: &Advice) -> bool {
-    let accepts = |call: EngineCall| call_by_reference(&mut player.clone(), &call) == 0;
-    let is_home = || player.network().zip(player.board()).is_some_and(|(network, board)| board.is_home(network));
-    let [kind, terminal, edge, count, steps @ ..] = advice;
-    match (player.hint(), kind) {
-        (Err(_), _) => *advice == NO_ADVICE,
-        (Ok(_), 0) => *advice == NO_ADVICE && is_home(),
-        (Ok(_), 1) => *advice == carry_advice(*terminal, *edge) && accepts(EngineCall::Carry(*terminal, *edge)),
-        (Ok(_), 2) => {
-            let steps: Vec<u8> = steps.iter().take(*count as usize).map(|step| *step as u8).collect();
-            *advice == turn_advice(&steps) && accepts(EngineCall::Turn(steps))
-        }
-        _ => false,
+/// The move of a hint in numbers; all are 0 where there is none.
+fn advice_of(hint: Option<&Move>) -> Advice {
+    match hint.and_then(|made| engine_call(&Call::of_move(made))) {
+        Some(EngineCall::Carry(terminal, edge)) => carry_advice(terminal, edge),
+        Some(EngineCall::Turn(steps)) => turn_advice(&steps),
+        _ => NO_ADVICE,
     }
 }
 
-/// The moves of the hints, one for each hint in order and nothing written past them.
-fn check_hints(text: &[u8], calls: &[EngineCall], hints: &[u32], tally: &mut Tally) -> Result<(), String> {
+/// The moves of the hints, one for each hint in order and nothing written past them. "The hint shall give the move that finish would make next on this
+/// board": each is the reference's, number by number.
+fn compare_hints(text: &[u8], calls: &[EngineCall], hints: &[u32], tally: &mut Tally) -> Result<(), String> {
     let (_, mut player) = Player::load(text);
     let mut places = hints.chunks_exact(ADVICE);
     for call in calls {
         if *call == EngineCall::Hint {
-            let advice: &Advice = places.next().and_then(|place| place.try_into().ok()).expect("a place for each call");
-            if !keeps_rule(&player, advice) {
-                let board = String::from_utf8_lossy(text);
-                return Err(format!("a hint breaks its rule: {advice:?}\nstanding: {:?}\nas text:\n{board}", player.standing()));
-            }
+            let by_engine: Advice = places.next().and_then(|place| place.try_into().ok()).expect("a place for each call");
+            let told = |difference| format!("another hint behind the standing moves {:?}\n{difference}", player.standing());
+            let advice = same(text, advice_of(player.hint().ok().flatten().as_ref()), by_engine).map_err(told)?;
             *tally.entry(format!("hint of kind {}", advice[0])).or_default() += 1;
         }
         call_by_reference(&mut player, call);
@@ -151,10 +142,29 @@ fn check_hints(text: &[u8], calls: &[EngineCall], hints: &[u32], tally: &mut Tal
 fn compare_finish(text: &[u8], calls: &[EngineCall], tally: &mut Tally) -> Result<(), String> {
     let (by_engine, hints) = finished_by_engine(text, calls);
     let finished = same(text, finished_by_reference(text, calls), by_engine)?;
-    check_hints(text, calls, &hints, tally)?;
+    compare_hints(text, calls, &hints, tally)?;
     *tally.entry(format!("finish {}", finished.answer)).or_default() += 1;
     *tally.entry("moves of finishes".into()).or_default() += u64::from(finished.count);
     compare_texts(text, calls, tally)
+}
+
+/// A board finished by the moves of its hints, as one list of calls, a hint before each move and behind the last; and a finish, which finds nothing
+/// left to do. The board is the one that a finish alone gives.
+pub fn compare_hinted_list(text: &[u8], moves: &[Move]) -> Result<(), String> {
+    let mut calls: Vec<EngineCall> = Vec::new();
+    for made in moves {
+        calls.push(EngineCall::Hint);
+        calls.extend(engine_call(&Call::of_move(made)));
+    }
+    calls.push(EngineCall::Hint);
+    let (by_engine, hints) = finished_by_engine(text, &calls);
+    let (_, mut player) = Player::load(text);
+    let alone = finished_by_player(&mut player, vec![0; calls.len()]);
+    same(text, Finished { count: 0, ..alone }, by_engine)?;
+    let advice = moves.iter().map(Some).chain([None]).map(advice_of).chain(vec![[UNWRITTEN; ADVICE]; moves.len()]);
+    advice.zip(hints.chunks_exact(ADVICE)).enumerate().try_for_each(|(at, (wanted, given))| {
+        same(text, &wanted[..], given).map(drop).map_err(|difference| format!("hint {at} of the board's own: {difference}"))
+    })
 }
 
 /// A text loaded, a list of calls made by both, and a finish after them; with `at_every_call`, a finish from every board on the way, too.
@@ -162,7 +172,7 @@ pub fn compare_play(text: &[u8], calls: &[EngineCall], at_every_call: bool, tall
     let (by_engine, hints) = played_by_engine(text, calls);
     let told = |difference: String| format!("calls: {calls:?}\n{difference}");
     let played = same(text, played_by_reference(text, calls), by_engine).map_err(told)?;
-    check_hints(text, calls, &hints, tally).map_err(told)?;
+    compare_hints(text, calls, &hints, tally).map_err(told)?;
     let first = if at_every_call { 0 } else { calls.len() };
     (first..=calls.len()).try_for_each(|count| compare_finish(text, &calls[..count], tally)).map_err(told)?;
     for (call, answer) in calls.iter().zip(&played.given) {

@@ -13,7 +13,7 @@ use reference::programs::{play, sheet};
 use reference::random::Random;
 use reference::text::write;
 use std::io::Write;
-use std::process::{Command, Stdio};
+use std::process::{Child, Command, Stdio};
 
 /// What a call that writes a text answered, the length of the text, and the buffer then.
 #[derive(Debug, PartialEq, Eq)]
@@ -112,11 +112,16 @@ fn stack(program: &str) -> usize {
     }
 }
 
-/// What a program prints for an input, in that stack.
-fn printed(program: &str, input: &[u8]) -> Result<Vec<u8>, String> {
+/// A program started in that stack, its input and its output being pipes.
+pub fn started(program: &str) -> Result<Child, String> {
     let command = format!("ulimit -s {}; exec target/bin/{program}", stack(program));
     let spawned = Command::new("sh").args(["-c", &command]).stdin(Stdio::piped()).stdout(Stdio::piped()).spawn();
-    let mut child = spawned.map_err(|error| format!("{program} does not start: {error}"))?;
+    spawned.map_err(|error| format!("{program} does not start: {error}"))
+}
+
+/// What a program prints for an input.
+fn printed(program: &str, input: &[u8]) -> Result<Vec<u8>, String> {
+    let mut child = started(program)?;
     let mut pipe = child.stdin.take().expect("the input is a pipe");
     let bytes = input.to_vec();
     // A program that has refused its board reads no further, and what is left has no reader.
@@ -129,7 +134,7 @@ fn printed(program: &str, input: &[u8]) -> Result<Vec<u8>, String> {
     }
 }
 
-fn compare_program(program: &str, input: &[u8], wanted: Vec<u8>, tally: &mut Tally) -> Result<(), String> {
+pub fn compare_program(program: &str, input: &[u8], wanted: Vec<u8>, tally: &mut Tally) -> Result<(), String> {
     let told = |text: Vec<u8>| String::from_utf8_lossy(&text).into_owned();
     same(input, told(wanted), told(printed(program, input)?)).map_err(|difference| format!("{program}: {difference}"))?;
     *tally.entry(format!("runs of {program}")).or_default() += 1;
