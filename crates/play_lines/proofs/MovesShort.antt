@@ -9,15 +9,15 @@ use Rattle.lists.specs.Choice.{pick}
 use Rattle.lists.specs.Inner.{Below}
 use Rattle.decimal.specs.Decimal.{decimal}
 use Rattle.decimal.proofs.Laws.{decimal-length}
-use Rattle.board.specs.Limits.{maxEdges}
+use Rattle.board.specs.Limits.{maxVertices}
 use Rattle.graph_flows.specs.Trails.{Step, edgeOf, edgesOf}
 use Rattle.solve_next.specs.Choosing.{Act, relocate, augment, noAdvice}
 use Rattle.play_lines.specs.MoveLines.{wayLetter, stepText, stepsText, moveLine, hintLine, longestHint}
 
--- a move of a board of play: its numbers are below 100, and it has no more steps than there may be edges
+-- a move of the solver: its numbers are below 100, and it has no more steps than there may be vertices
 abbrev pub SmallMove : Act → Type 0
 SmallMove (relocate i e) = (i < 100) × (e < 100)
-SmallMove (augment w) = (length w ≤ maxEdges) × Below 100 (edgesOf w)
+SmallMove (augment w) = (length w ≤ maxVertices) × Below 100 (edgesOf w)
 
 step-short : (s : Step) → edgeOf s < 100 → length (stepText s) ≤ 5
 step-short s h = omega (arith, length-append (decimal (edgeOf s)) (44 ∷ wayLetter s ∷ []), decimal-length 1 (edgeOf s) h)

@@ -4,7 +4,7 @@ use Prim.Native.Nat.{ℕ, _+_, _*_}
 use lib.Dec.{eqb}
 use Rattle.lists.specs.Choice.{pick}
 use Rattle.decimal.specs.Decimal.{decimal}
-use Rattle.board.specs.Limits.{maxEdges}
+use Rattle.board.specs.Limits.{maxVertices}
 use Rattle.graph_flows.specs.Trails.{Step, down, up, edgeOf}
 use Rattle.solve_next.specs.declared.Advice.{Advice}
 use Rattle.solve_next.specs.Choosing.{Act, relocate, augment, noKind, actOf}
@@ -39,6 +39,6 @@ abbrev pub callFor : Act → Call
 callFor (relocate i e) = carry i e
 callFor (augment w) = turn w
 
--- no hint of a board of play has a longer line: a letter, a comma, two digits, a comma and a letter for each edge, and a line feed
+-- no hint of a board of play has a longer line: `T`, a comma, two digits, a comma and a letter for each vertex that the walk passes, and a line feed
 abbrev pub longestHint : ℕ
-longestHint = 2 + 5 * maxEdges
+longestHint = 2 + 5 * maxVertices

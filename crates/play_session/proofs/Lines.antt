@@ -176,7 +176,7 @@ unfolding pick
 no-more true = refl
 no-more false = refl
 
-reply-alone : (b : Board) (o : Order) → behindZero b o ≡ [] → replyText b o ≡ numberLine (replied b o .answer)
+pub reply-alone : (b : Board) (o : Order) → behindZero b o ≡ [] → replyText b o ≡ numberLine (replied b o .answer)
 unfolding replyText
 reply-alone b o e = rw (e, no-more (eqb (replied b o .answer) 0)) (append-nil _)
 

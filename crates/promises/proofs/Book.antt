@@ -6,6 +6,7 @@ use Rattle.promises.specs.Cancelling.{AboutCancelling}
 use Rattle.promises.specs.Book.{Book}
 use Rattle.promises.proofs.Texts.{about-texts}
 use Rattle.promises.proofs.Moves.{about-moves}
+use Rattle.promises.proofs.Hints.{about-hints}
 use Rattle.promises.proofs.Sheets.{about-sheets}
 use Rattle.promises.proofs.Refusals.{about-refusals}
 
@@ -22,6 +23,7 @@ book = record {
   texts = about-texts;
   cancelling = about-cancelling;
   moves = about-moves;
+  hints = about-hints;
   every-list = every-list;
   sheets = about-sheets;
   refusals = about-refusals;

@@ -9,40 +9,51 @@ use native.Mathlib.Omega.{arith}
 use lib.Dec.{eqb}
 use lib.ListN.{length}
 use borrow.Author.Tests.{eq-eqb, ne-eqb}
-use Rattle.lists.specs.Choice.{pick, both}
+use Rattle.lists.specs.Choice.{pick}
 use Rattle.lists.proofs.Laws.{Known, was-true, was-false, known, pick-yes, pick-no}
 use Rattle.board.specs.declared.Board.{Board}
 use Rattle.board.specs.declared.Played.{Played}
 use Rattle.load.specs.Load.{loadText}
 use Rattle.move_guard.specs.Guard.{playing}
 use Rattle.move_list.specs.Calls.{Call, carry, turn, undo, hint, made}
+use Rattle.solve_next.specs.Hints.{hintRefusal}
 use Rattle.solve_finish.specs.declared.Finished.{Finished}
 use Rattle.solve_finish.specs.Finishes.{finishCall}
 use Rattle.report.specs.Reports.{reportText, unreported}
 use Rattle.sheet_output.specs.Inputs.{boardPart, movesPart}
 use Rattle.sheet_output.specs.Outputs.{numberLine, reportOf}
 use Rattle.play_lines.specs.Orders.{Order, call, finish, other, orderOf}
-use Rattle.play_session.specs.Replies.{replied, isFinish, replyText, repliesFrom, playOutput}
+use Rattle.play_session.specs.Replies.{replied, behindZero, replyText, repliesFrom, playOutput}
+use Rattle.play_session.proofs.Lines.{reply-alone}
 use Rattle.theorem_list.specs.Player.{listedAll, afresh, saysTo, standingAfter}
-use Rattle.theorem_list.proofs.Finish.{finish-completes}
+use Rattle.theorem_list.proofs.Finish.{finish-completes, hint-taken}
 use Rattle.theorem_list.proofs.Stands.{Stands, none, stands-follows}
 use Rattle.theorem_list.proofs.EveryList.{same}
 use Rattle.theorem_list.proofs.Reports.{finished-reported}
 use Rattle.promises.specs.Lines.{ordersFrom, saidOver, said}
 use Rattle.promises.proofs.Refusals.{no-carry, no-turn, no-undo, hint-number, no-finish, finished-off}
 
--- the reply to a line that is no finish, and to one that is refused: its number alone
-number-alone : (b : Board) (o : Order) → isFinish o ≡ false → replyText b o ≡ numberLine (replied b o .answer)
-unfolding replyText both pick
-number-alone b o h = rw h (append-nil _)
+-- the reply to a line that is refused: its number alone
+refused-alone : (b : Board) (o : Order) → replied b o .answer ≢ 0 → replyText b o ≡ numberLine (replied b o .answer)
+unfolding replyText
+refused-alone b o h = rw (pick-no (eqb (replied b o .answer) 0) (behindZero b o) [] (ne-eqb (replied b o .answer) 0 h)) (append-nil _)
 
-finish-refused : (b : Board) → finishCall b .answer ≢ 0 → replyText b finish ≡ numberLine (finishCall b .answer)
-unfolding replyText replied both pick
-finish-refused b h = rw (ne-eqb (finishCall b .answer) 0 h) (append-nil _)
+-- to a hint that is not refused: its 0, and the move
+hint-told : (b : Board) → hintRefusal b ≡ 0 → replyText b (call hint) ≡ numberLine (hintRefusal b) ++ behindZero b (call hint)
+unfolding replyText replied
+hint-told b h = ap (λ (l : List ℕ). numberLine (hintRefusal b) ++ l) (pick-yes (eqb (hintRefusal b) 0) _ _ (eq-eqb _ 0 h))
+
+-- to a call: its number, and behind the 0 of a hint the move
+call-told : (b : Board) (c : Call) → hintRefusal b ≡ 0 → replyText b (call c) ≡ numberLine (made b c .answer) ++ behindZero b (call c)
+unfolding replied
+call-told b (carry i e) h = reply-alone b (call (carry i e)) refl ∙ sym (append-nil _)
+call-told b (turn w) h = reply-alone b (call (turn w)) refl ∙ sym (append-nil _)
+call-told b undo h = reply-alone b (call undo) refl ∙ sym (append-nil _)
+call-told b hint h = hint-told b h
 
 -- a finish that is accepted and leaves a report
 finish-told : (b : Board) → finishCall b .answer ≡ 0 → unreported (finishCall b .board) ≡ 0 → replyText b finish ≡ numberLine 0 ++ reportText (finishCall b .board)
-unfolding replyText replied reportOf both pick
+unfolding replyText replied reportOf pick
 finish-told b h r = rw (h, r)
 
 -- ---- behind an accepted finish
@@ -56,13 +67,15 @@ module _ (b : Board) (off : playing b ≡ false) where
   line-over : (o : Order) (s : List ℕ) (os : List Order) → repliesFrom b [] s ≡ saidOver os
       → replyText b o ++ repliesFrom (replied b o .board) [] s ≡ saidOver (o ∷ os)
   unfolding saidOver replied
-  line-over (call c) s os ih = rw (number-alone b (call c) refl, call-over c, ih)
+  line-over (call c) s os ih =
+      let number : made b c .answer ≡ 20 = ap (λ (p : Played). p .answer) (call-over c) in
+      rw (refused-alone b (call c) (λ q. omega (arith, number, q)), call-over c, ih)
   line-over finish s os ih =
       let over = no-finish b off in
       let number : finishCall b .answer ≡ 20 = ap (λ (f : Finished). f .answer) over in
       let board : finishCall b .board ≡ b = ap (λ (f : Finished). f .board) over in
-      rw (finish-refused b (λ q. omega (arith, number, q)), number, board, ih)
-  line-over other s os ih = rw (number-alone b other refl, ih)
+      rw (refused-alone b finish (λ q. omega (arith, number, q)), number, board, ih)
+  line-over other s os ih = rw (refused-alone b other (λ q. omega (arith, q)), ih)
 
   lines-over : (l s : List ℕ) → repliesFrom b l s ≡ saidOver (ordersFrom l s)
   unfolding repliesFrom ordersFrom saidOver pick
@@ -86,14 +99,16 @@ module _ (text : List ℕ) (loads : loadText text .answer ≡ 0) where
   unfolding said replied
   line-said ms st (call c) s ih =
       let q = same text loads ms c st in
-      rw (number-alone (afresh text ms) (call c) refl, q .answer, q .board, ih (standingAfter text ms c) (q .stands))
+      let told = call-told (afresh text ms) c (hint-taken (afresh text ms) (stands-follows text loads ms st .standing)) in
+      rw (told, q .answer, q .board, ih (standingAfter text ms c) (q .stands))
+      (append-assoc (numberLine (saysTo text ms c)) (behindZero (afresh text ms) (call c)) (said text (standingAfter text ms c) (ordersFrom [] s)))
   line-said ms st finish s ih =
       let b = afresh text ms in
       let standing = stands-follows text loads ms st .standing in
       let told = finish-told b (finish-completes b standing .accepted) (finished-reported b standing) in
       rw (told, lines-over (finishCall b .board) (finished-off b standing) [] s)
       (append-assoc (numberLine 0) (reportText (finishCall b .board)) (saidOver (ordersFrom [] s)))
-  line-said ms st other s ih = rw (number-alone (afresh text ms) other refl, ih ms st)
+  line-said ms st other s ih = rw (refused-alone (afresh text ms) other (λ q. omega (arith, q)), ih ms st)
 
   lines-said : (l s : List ℕ) (ms : List Call) → Stands text ms → repliesFrom (afresh text ms) l s ≡ said text ms (ordersFrom l s)
   unfolding repliesFrom ordersFrom said replied pick
@@ -102,7 +117,7 @@ module _ (text : List ℕ) (loads : loadText text .answer ≡ 0) where
       go : Known (eqb (length l) 0) → repliesFrom (afresh text ms) l [] ≡ said text ms (ordersFrom l [])
       go (was-true t) = rw (t, repliesFrom, ordersFrom, said, pick) refl
       go (was-false t) =
-          rw (t, repliesFrom, ordersFrom, said, replied, pick) (number-alone (afresh text ms) other refl ∙ sym (append-nil _))
+          rw (t, repliesFrom, ordersFrom, said, replied, pick) (refused-alone (afresh text ms) other (λ q. omega (arith, q)) ∙ sym (append-nil _))
   lines-said l (c ∷ s) ms st = go (known (eqb c 10)) (λ more m. lines-said [] s more m) (lines-said (l ++ (c ∷ [])) s ms st)
     where
       go : Known (eqb c 10) → ((more : List Call) → Stands text more → repliesFrom (afresh text more) [] s ≡ said text more (ordersFrom [] s))

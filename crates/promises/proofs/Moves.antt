@@ -1,14 +1,12 @@
 -- Moves. What a board of play keeps, the invariant, gives what a mark means, the amount of a turn and the board that an undo gives back; the rules of a carry and of
 -- a turn hold on any board.
-use mathlib.Core.Path.{_≡_, refl, sym, ap, _∙_}
+use mathlib.Core.Path.{_≡_, refl, ap}
 use mathlib.Core.Bool.{true, false}
 use mathlib.Core.Logic.{_⊎_, _↔_}
 use mathlib.Core.List.{List}
 use Prim.Native.Nat.{ℕ, _+_, _<_, _≤_}
 use native.Mathlib.Omega.{arith}
-use lib.Dec.{eqb}
-use borrow.Author.Tests.{eq-eqb}
-use Rattle.lists.proofs.Laws.{Known, was-true, was-false, known, pick-yes}
+use Rattle.lists.proofs.Laws.{Known, was-true, was-false, known}
 use Rattle.sets.specs.Sets.{hasBit}
 use Rattle.board.specs.declared.Board.{Board}
 use Rattle.graph_flows.specs.Paths.{Unparted}
@@ -20,9 +18,7 @@ use Rattle.move_edges.specs.Marking.{singular, fresh}
 use Rattle.move_carry.specs.Carries.{carried}
 use Rattle.move_cycle.specs.Amounts.{amount}
 use Rattle.move_turn.specs.Turns.{turnRefusal}
-use Rattle.solve_next.specs.Choosing.{noKind, allHome}
-use Rattle.solve_next.specs.Hints.{offers, Hinted}
-use Rattle.solve_next.specs.declared.Suggestion.{Suggestion}
+use Rattle.solve_next.specs.Choosing.{allHome}
 use Rattle.theorem_keep.specs.Allowed.{Turnable, Attained}
 use Rattle.theorem_keep.specs.Invariant.{Invariant}
 use Rattle.theorem_keep.proofs.Kept.{joined}
@@ -34,11 +30,8 @@ use Rattle.theorem_keep.proofs.MarkedEdges.{turn-marks, marked-singular}
 use Rattle.theorem_keep.proofs.Amounted.{SomeDown, amount-down, amount-above, amount-up, amount-attained, some-down}
 use Rattle.theorem_keep.proofs.Potential.{level, level-rises}
 use Rattle.theorem_keep.proofs.Standing.{Standing, carry-undone, turn-undone}
-use Rattle.theorem_list.specs.Player.{Offered}
 use Rattle.theorem_list.proofs.Degrees.{starts}
-use Rattle.theorem_list.proofs.Ends.{home-facts}
 use Rattle.theorem_list.proofs.Stops.{none-positive}
-use Rattle.theorem_list.proofs.Finish.{hint-taken}
 use Rattle.theorem_list.proofs.Next.{next-accepted}
 use Rattle.promises.specs.Plays.{OfPlay}
 use Rattle.promises.specs.Moves.{AboutMoves}
@@ -74,15 +67,6 @@ module _ (b : Board) (w : List Step) (st : Standing b) (h : turnRefusal b w ≡ 
   one : (0 < amount b w) × Attained b w
   one = (amount-above b w (down-step .edge) (turns .above) (down-step .among), amount-attained b w (down-step .edge) (turns .above) (down-step .among))
 
--- a hint that is taken
-offered : (b : Board) (h : Suggestion) → Standing b → Hinted b h → Offered b h
-offered b h st k = let taken = k .number ∙ hint-taken b st in record { number = taken; move = k .move taken }
-
--- it gives no move only with every terminal at the source
-none-home : (b : Board) (h : Suggestion) → Offered b h → h .advice .kind ≡ noKind → allHome b ≡ true
-unfolding offers
-none-home b h o q = sym (pick-yes (eqb (h .advice .kind) noKind) (allHome b) _ (eq-eqb _ _ q)) ∙ o .move
-
 -- no positive edge leaves the source exactly where every terminal is there
 stops : (b : Board) → Invariant b → (allHome b ≡ true) ↔ ((e : ℕ) → 0 < flow b e → tail b e ≡ b .network .source → ⊥)
 stops b inv = (λ all e h q. omega (arith, h, none-positive b inv all e), λ none. by none (known (allHome b)))
@@ -106,9 +90,6 @@ about-moves = record {
   amount-one = λ text b w p h. one b w (play-standing text b p) h;
   carry-undone = λ text b i e p h. carry-undone b i e (play-standing text b p) h;
   turn-undone = λ text b w p h. turn-undone b w (play-standing text b p) h;
-  hint-offers = λ text b h p k. offered b h (play-standing text b p) k;
-  hint-none = λ text b h p k q.
-      let st = play-standing text b p in home-facts b (st .inv) (none-home b h (offered b h st k) q);
   stop-iff = λ text b p. stops b (play-standing text b p .inv);
   stop-zero = λ text b p all. none-positive b (play-standing text b p .inv) all;
   next-accepted = λ text b p away. next-accepted b (play-standing text b p) away;

@@ -29,7 +29,7 @@ use Rattle.move_turn.specs.Turns.{turnRefusal, turned, turnCall}
 use Rattle.move_undo.specs.Undone.{undoRefusal, undone, undoCall}
 use Rattle.move_list.specs.Calls.{Call, carry, turn, undo, hint, made}
 use Rattle.solve_next.specs.Choosing.{noAdvice}
-use Rattle.solve_next.specs.Hints.{hintRefusal, Hinted}
+use Rattle.solve_next.specs.Hints.{hintRefusal, hintCall}
 use Rattle.solve_next.specs.declared.Suggestion.{Suggestion}
 use Rattle.solve_finish.specs.declared.Finished.{Finished}
 use Rattle.solve_finish.specs.Finishes.{playedOut, ended, finishRefusal, finishCall}
@@ -66,11 +66,9 @@ module _ (b : Board) (shut : playing b ≡ false) where
   unfolding hintRefusal
   hint-number = pick-no (playing b) _ 20 shut
 
-  no-hint : (h : Suggestion) → Hinted b h → h ≡ record { answer = 20; advice = noAdvice }
-  no-hint h k =
-      let number : h .answer ≡ 20 = k .number ∙ hint-number in
-      let none = k .refused (omega (arith, number)) in
-      λ j. record { answer = number j; advice = none j }
+  no-hint : hintCall b ≡ record { answer = 20; advice = noAdvice }
+  unfolding hintCall pick
+  no-hint = rw hint-number
 
   finish-number : finishRefusal b ≡ 20
   unfolding finishRefusal

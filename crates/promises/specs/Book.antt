@@ -9,6 +9,7 @@ use Rattle.theorem_list.specs.Faithful.{Faithful}
 use Rattle.promises.specs.Texts.{AboutTexts}
 use Rattle.promises.specs.Cancelling.{AboutCancelling}
 use Rattle.promises.specs.Moves.{AboutMoves}
+use Rattle.promises.specs.Hints.{AboutHints}
 use Rattle.promises.specs.Sheets.{AboutSheets}
 use Rattle.promises.specs.Refusals.{AboutRefusals}
 
@@ -16,6 +17,7 @@ pub record Book : Type 0 where
   pub texts : AboutTexts
   pub cancelling : AboutCancelling
   pub moves : AboutMoves
+  pub hints : AboutHints
   -- "Demand 3 is one claim about a whole list of carries, turns, hints and undos, of any length, and not a claim for each call"
   pub every-list : (text : List ℕ) (cs : List Call) → loadText text .answer ≡ 0 → Faithful text cs (played (loadText text .board) cs)
   pub sheets : AboutSheets

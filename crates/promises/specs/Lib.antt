@@ -2,6 +2,7 @@ pub mod Plays
 pub mod Texts
 pub mod Cancelling
 pub mod Moves
+pub mod Hints
 pub mod Refusals
 pub mod Lines
 pub mod Sheets

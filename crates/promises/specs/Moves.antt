@@ -16,11 +16,8 @@ use Rattle.move_carry.specs.Carries.{carryRefusal, carried}
 use Rattle.move_cycle.specs.Amounts.{amount}
 use Rattle.move_turn.specs.Turns.{turnRefusal, turned}
 use Rattle.move_undo.specs.Undone.{undoCall}
-use Rattle.solve_next.specs.Choosing.{noKind, allHome, judge, nextAct}
-use Rattle.solve_next.specs.Hints.{Hinted}
-use Rattle.solve_next.specs.declared.Suggestion.{Suggestion}
+use Rattle.solve_next.specs.Choosing.{allHome, judge, nextAct}
 use Rattle.theorem_keep.specs.Allowed.{Carriable, Turnable, Attained}
-use Rattle.theorem_list.specs.Player.{Offered}
 use Rattle.promises.specs.Plays.{OfPlay}
 
 pub record AboutMoves : Type 0 where
@@ -49,10 +46,6 @@ pub record AboutMoves : Type 0 where
   -- "Undo takes back the last standing move: flows, marks, place and route": the very board of before, its journal included
   pub carry-undone : (text : List ℕ) (b : Board) (i e : ℕ) → OfPlay text b → carryRefusal b i e ≡ 0 → undoCall (carried b i e) ≡ record { answer = 0; board = b }
   pub turn-undone : (text : List ℕ) (b : Board) (w : List Step) → OfPlay text b → turnRefusal b w ≡ 0 → undoCall (turned b w) ≡ record { answer = 0; board = b }
-  -- "Hint gives some move that would be accepted. It gives none only if every mill is at the spring"
-  pub hint-offers : (text : List ℕ) (b : Board) (h : Suggestion) → OfPlay text b → Hinted b h → Offered b h
-  pub hint-none : (text : List ℕ) (b : Board) (h : Suggestion) → OfPlay text b → Hinted b h → h .advice .kind ≡ noKind
-      → (i : ℕ) → i < b .network .terminals → place b i ≡ b .network .source
   -- "While a carry is open: lowest mill that has one; .. Otherwise the ring found below is turned": the move is accepted while some terminal is away
   pub next-accepted : (text : List ℕ) (b : Board) → OfPlay text b → allHome b ≡ false → judge b (nextAct b) ≡ 0
   -- source document 000 stops "when the source s is isolated": that is where every terminal is at the source, and then no edge has a flow

@@ -17,8 +17,7 @@ use Rattle.move_turn.specs.Turns.{turnCall}
 use Rattle.move_undo.specs.Undone.{undoCall}
 use Rattle.move_list.specs.Calls.{Call, made}
 use Rattle.solve_next.specs.Choosing.{noAdvice}
-use Rattle.solve_next.specs.Hints.{hintRefusal, Hinted}
-use Rattle.solve_next.specs.declared.Suggestion.{Suggestion}
+use Rattle.solve_next.specs.Hints.{hintRefusal, hintCall}
 use Rattle.solve_finish.specs.Finishes.{finishRefusal, finishCall}
 use Rattle.report_routes.specs.Tables.{routesFit}
 use Rattle.report.specs.Reports.{reportText, sheetCall, sheeted}
@@ -30,7 +29,7 @@ pub record Refuses20 (b : Board) : Type 0 where
   pub carry : (i e : ℕ) → carryCall b i e ≡ record { answer = 20; board = b }
   pub turn : (w : List Step) → turnCall b w ≡ record { answer = 20; board = b }
   pub undo : undoCall b ≡ record { answer = 20; board = b }
-  pub hint : (h : Suggestion) → Hinted b h → h ≡ record { answer = 20; advice = noAdvice }
+  pub hint : hintCall b ≡ record { answer = 20; advice = noAdvice }
   pub finish : finishCall b ≡ record { answer = 20; count = 0; board = b }
 
 -- "29 nothing was loaded": into any buffer, which is kept

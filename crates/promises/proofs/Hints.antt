@@ -1,0 +1,152 @@
+-- The hint. On a board of play it is not refused, and its record says the solver's move, which is accepted; so the old rule holds of it. The numbers of an accepted move
+-- are those of terminals and edges, so its line is short and is read back; and the solver's cycle has no more steps than the board has vertices.
+use mathlib.Core.Path.{_≡_, refl, sym, ap, _∙_}
+use mathlib.Core.Bool.{true, false}
+use mathlib.Core.Logic.{inl, inr}
+use mathlib.Core.List.{List, [], _∷_, _++_}
+use Prim.Native.Nat.{ℕ, _<_, _≤_}
+use native.Mathlib.Omega.{arith}
+use lib.Dec.{eqb}
+use lib.ListN.{length}
+use borrow.Author.Tests.{eq-eqb}
+use Rattle.lists.specs.Choice.{pick, both}
+use Rattle.lists.specs.Inner.{Below}
+use Rattle.lists.proofs.Laws.{Known, was-true, was-false, known, pick-yes, pick-no}
+use Rattle.board.specs.Limits.{maxVertices}
+use Rattle.board.specs.declared.Board.{Board}
+use Rattle.graph_flows.specs.Trails.{Step, In, edgeOf, edgesOf}
+use Rattle.move_guard.proofs.Answers.{answered-yes}
+use Rattle.move_carry.specs.Opens.{openTerminal, someOpen}
+use Rattle.move_carry.specs.Carries.{carryCall}
+use Rattle.move_turn.specs.Turns.{turnCall}
+use Rattle.solve_walk.proofs.Packed.{cycle-short}
+use Rattle.solve_next.specs.declared.Advice.{Advice}
+use Rattle.solve_next.specs.Choosing.{Act, relocate, augment, noKind, allHome, chosenEdge, judge, acted, nextCycle, nextAct, noAdvice, adviceOf, actOf}
+use Rattle.solve_next.specs.Hints.{hintCall}
+use Rattle.solve_next.proofs.Advised.{next-carry, next-turn}
+use Rattle.move_list.specs.Calls.{made}
+use Rattle.play_lines.specs.Orders.{other, fieldsOf, isLetter, byFields, orderOf}
+use Rattle.play_lines.specs.MoveLines.{moveText, moveLine, hintLine, callFor, longestHint}
+use Rattle.play_lines.proofs.MovesRead.{ShortMove, move-read}
+use Rattle.play_lines.proofs.MovesShort.{SmallMove, move-line-short}
+use Rattle.theorem_keep.proofs.Carriable.{carry-facts}
+use Rattle.theorem_keep.proofs.Turnable.{turn-facts}
+use Rattle.theorem_keep.proofs.Standing.{Standing}
+use Rattle.theorem_list.proofs.Ends.{home-facts}
+use Rattle.theorem_list.proofs.Finish.{hint-taken}
+use Rattle.theorem_list.proofs.Next.{next-accepted}
+use Rattle.theorem_list.proofs.HintFirst.{hint-none, hint-advice, hint-act, hint-first}
+use Rattle.promises.specs.Hints.{offers, ReadBack, AboutHints}
+use Rattle.promises.proofs.Plays.{play-standing}
+
+-- a record of a move is of some kind
+some-kind : (x : Act) → eqb (adviceOf x .kind) noKind ≡ false
+some-kind (relocate i e) = refl
+some-kind (augment w) = refl
+
+-- an accepted move, called
+act-made : (b : Board) (a : Act) → judge b a ≡ 0 → made b (callFor a) ≡ record { answer = 0; board = acted b a }
+unfolding carryCall turnCall
+act-made b (relocate i e) h = answered-yes (judge b (relocate i e)) b (acted b (relocate i e)) h
+act-made b (augment w) h = answered-yes (judge b (augment w)) b (acted b (augment w)) h
+
+-- steps over edges below n
+below-all : (n : ℕ) (w : List Step) → ((s : Step) → In s w → edgeOf s < n) → Below n (edgesOf w)
+below-all n [] h = tt
+below-all n (s ∷ w) h = (h s (inl refl), below-all n w (λ t i. h t (inr i)))
+
+module _ (b : Board) (st : Standing b) where
+  -- the numbers of an accepted move
+  short-move : (a : Act) → judge b a ≡ 0 → ShortMove a
+  short-move (relocate i e) h =
+      let f = carry-facts b i e h .1 in
+      (omega (arith, f .terminal, st .inv .lawful .terminals), omega (arith, f .edge, st .inv .lawful .edges))
+  short-move (augment w) h = below-all 10000000 w (λ s i. omega (arith, turn-facts b w h .1 .inside s i, st .inv .lawful .edges))
+
+  -- those of the solver's move, and how many steps it has
+  small-carry : (i e : ℕ) → judge b (relocate i e) ≡ 0 → SmallMove (relocate i e)
+  small-carry i e h =
+      let f = carry-facts b i e h .1 in
+      (omega (arith, f .terminal, st .inv .lawful .terminals), omega (arith, f .edge, st .inv .lawful .edges))
+
+  few-steps : length (nextCycle b) ≤ maxVertices
+  unfolding nextCycle
+  few-steps =
+      let net = b .network in
+      omega (arith, st .inv .lawful .vertices, cycle-short (net .tails) (net .heads) (b .flows) (net .vertices) (net .source))
+
+  small-turn : judge b (augment (nextCycle b)) ≡ 0 → SmallMove (augment (nextCycle b))
+  small-turn h = (
+    few-steps,
+    below-all 100 (nextCycle b) (λ s i. omega (arith, turn-facts b (nextCycle b) h .1 .inside s i, st .inv .lawful .edges)),
+  )
+
+  small-next : allHome b ≡ false → SmallMove (nextAct b)
+  small-next away = go (known (someOpen b)) (next-accepted b st away)
+    where
+      go : Known (someOpen b) → judge b (nextAct b) ≡ 0 → SmallMove (nextAct b)
+      go (was-true t) h = rw (next-carry b t) (small-carry (openTerminal b) (chosenEdge b (openTerminal b)) (rw (next-carry b t) at h))
+      go (was-false t) h = rw (next-turn b t) (small-turn (rw (next-turn b t) at h))
+
+  -- the line of the hint
+  line-none : allHome b ≡ true → hintLine (hintCall b .advice) ≡ 78 ∷ 10 ∷ []
+  unfolding hintLine pick
+  line-none home = rw (hint-none b st home)
+
+  module _ (away : allHome b ≡ false) where
+    kind : eqb (hintCall b .advice .kind) noKind ≡ false
+    kind = rw (hint-advice b st away) (some-kind (nextAct b))
+
+    accepted : judge b (actOf (hintCall b .advice)) ≡ 0
+    accepted = rw (hint-act b st away) (next-accepted b st away)
+
+    line-move : hintLine (hintCall b .advice) ≡ moveLine (actOf (hintCall b .advice))
+    unfolding hintLine
+    line-move = pick-no _ _ _ kind
+
+    read-back : ReadBack b (actOf (hintCall b .advice))
+    unfolding moveLine
+    read-back = record {
+      line = line-move;
+      read = move-read (actOf (hintCall b .advice)) (short-move (actOf (hintCall b .advice)) accepted);
+      makes = act-made b (actOf (hintCall b .advice)) accepted;
+    }
+
+  -- the rule
+  rule : offers b (hintCall b .advice) ≡ true
+  unfolding offers pick
+  rule = go (known (allHome b))
+    where
+      go : Known (allHome b) → offers b (hintCall b .advice) ≡ true
+      go (was-true t) = rw (hint-none b st t) t
+      go (was-false t) = pick-no _ _ _ (kind t) ∙ eq-eqb _ 0 (accepted t)
+
+  none-home : hintCall b .advice .kind ≡ noKind → allHome b ≡ true
+  unfolding offers
+  none-home q = sym (pick-yes (eqb (hintCall b .advice .kind) noKind) (allHome b) _ (eq-eqb _ _ q)) ∙ rule
+
+  taken : hintCall b .answer ≡ 0
+  unfolding hintCall
+  taken = hint-taken b st
+
+  room : length (hintLine (hintCall b .advice)) ≤ longestHint
+  room = go (known (allHome b))
+    where
+      go : Known (allHome b) → length (hintLine (hintCall b .advice)) ≤ longestHint
+      go (was-true t) = rw (line-none t) (omega arith)
+      go (was-false t) = rw (line-move t, hint-act b st t) (move-line-short (nextAct b) (small-next t))
+
+unread : orderOf (78 ∷ []) ≡ other
+unfolding orderOf fieldsOf byFields isLetter pick both
+unread = refl
+
+pub about-hints : AboutHints
+about-hints = record {
+  hint-rule = λ text b p. let st = play-standing text b p in (taken b st, rule b st);
+  hint-none = λ text b p q. let st = play-standing text b p in home-facts b (st .inv) (none-home b st q);
+  hint-first = λ text b p away. hint-first b (play-standing text b p) away;
+  move-line-read = λ text b p away. read-back b (play-standing text b p) away;
+  none-line = λ text b p home. line-none b (play-standing text b p) home;
+  none-unread = unread;
+  hint-room = λ text b p. room b (play-standing text b p);
+}

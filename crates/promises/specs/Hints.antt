@@ -1,0 +1,43 @@
+-- Document 01, "Moves", of the hint; document 02, E3. Which move it gives is `nextAct`, in `hintCall`.
+use mathlib.Core.Path.{_≡_}
+use mathlib.Core.Bool.{Bool, true, false}
+use mathlib.Core.List.{List, [], _∷_, _++_}
+use Prim.Native.Nat.{ℕ, _<_, _≤_}
+use lib.Dec.{eqb}
+use lib.ListN.{length}
+use Rattle.lists.specs.Choice.{pick}
+use Rattle.board.specs.declared.Board.{Board}
+use Rattle.move_guard.specs.Parts.{place}
+use Rattle.solve_next.specs.declared.Advice.{Advice}
+use Rattle.solve_next.specs.Choosing.{Act, noKind, allHome, judge, acted, actOf}
+use Rattle.solve_next.specs.Hints.{hintCall}
+use Rattle.move_list.specs.Calls.{made}
+use Rattle.play_lines.specs.Orders.{call, other, orderOf}
+use Rattle.play_lines.specs.MoveLines.{moveText, hintLine, callFor, longestHint}
+use Rattle.theorem_list.specs.Complete.{OneFurther}
+use Rattle.promises.specs.Plays.{OfPlay}
+
+-- "some move that would be accepted. It gives none only if every mill is at the spring"
+unfoldable pub offers : Board → Advice → Bool
+offers b a = pick (eqb (a .kind) noKind) (allHome b) (eqb (judge b (actOf a)) 0)
+
+-- what `play` prints for the hint of b is the line of move a; without its line feed it is read as the order of that move, which is then made
+pub record ReadBack (b : Board) (a : Act) : Type 0 where
+  pub line : hintLine (hintCall b .advice) ≡ moveText a ++ (10 ∷ [])
+  pub read : orderOf (moveText a) ≡ call (callFor a)
+  pub makes : made b (callFor a) ≡ record { answer = 0; board = acted b a }
+
+pub record AboutHints : Type 0 where
+  -- "Hint gives some move that would be accepted. It gives none only if every mill is at the spring"
+  pub hint-rule : (text : List ℕ) (b : Board) → OfPlay text b → (hintCall b .answer ≡ 0) × (offers b (hintCall b .advice) ≡ true)
+  pub hint-none : (text : List ℕ) (b : Board) → OfPlay text b → hintCall b .advice .kind ≡ noKind
+      → (i : ℕ) → i < b .network .terminals → place b i ≡ b .network .source
+  -- "The hint shall give the move that finish would make next on this board": the board after it is finished to the same board, in one move less
+  pub hint-first : (text : List ℕ) (b : Board) → OfPlay text b → allHome b ≡ false → OneFurther b (acted b (actOf (hintCall b .advice)))
+  -- "`play` prints it after its 0, as a line it would read"
+  pub move-line-read : (text : List ℕ) (b : Board) → OfPlay text b → allHome b ≡ false → ReadBack b (actOf (hintCall b .advice))
+  -- "or `N` where no move is left", which is no line that it reads
+  pub none-line : (text : List ℕ) (b : Board) → OfPlay text b → allHome b ≡ true → hintLine (hintCall b .advice) ≡ 78 ∷ 10 ∷ []
+  pub none-unread : orderOf (78 ∷ []) ≡ other
+  -- the room that a hint's line needs
+  pub hint-room : (text : List ℕ) (b : Board) → OfPlay text b → length (hintLine (hintCall b .advice)) ≤ longestHint
