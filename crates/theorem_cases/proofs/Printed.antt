@@ -22,20 +22,21 @@ use Rattle.move_guard.specs.Moved.{answered}
 use Rattle.move_guard.specs.Guard.{intact, loaded, playing}
 use Rattle.move_carry.specs.Opens.{flowFits, enters, isOpen, openEdge, hasOpen, openTerminal, someOpen}
 use Rattle.move_carry.specs.Carries.{onBoard, carryRefusal, carried, carryCall}
-use Rattle.move_cycle.specs.Steps.{every, leadsBack, isCycle, gather}
+use Rattle.move_cycle.specs.Steps.{stepOf, stepsOf, every, leadsBack, isCycle, gather}
 use Rattle.move_edges.specs.Marking.{singular, isFresh, fresh}
 use Rattle.move_cycle.specs.Amounts.{smaller, isShort, raise, amountFrom, amount}
 use Rattle.move_cycle.specs.Shifts.{shiftedAt, shiftFrom, shifted}
 use Rattle.move_turn.specs.Turns.{turnRefusal, turned, turnCall}
 use Rattle.move_undo.specs.Undone.{undoRefusal, undone, undoCall}
 use Rattle.solve_walk.specs.Walk.{touches, another, parts, firstMet, downWalk, cycleOf}
-use Rattle.solve_next.specs.Choosing.{isHome, allHome, markedOpen, markedEdge, chosenEdge, nextCycle, nextAct}
+use Rattle.solve_next.specs.Choosing.{isHome, allHome, markedOpen, markedEdge, chosenEdge, nextCycle, nextAct, actOf}
 use Rattle.solve_finish.specs.Finishes.{stepped, steppedOn, playedOut, finishRefusal, finishCall}
 use Rattle.report_routes.specs.Routes.{routeBy, route, load}
-use Rattle.solve_next.specs.Hints.{hintRefusal}
+use Rattle.solve_next.specs.Hints.{hintRefusal, nextAdvice, hintCall}
 use Rattle.report_routes.specs.Tables.{routesFit}
 use Rattle.report.specs.Reports.{reportText, started, unreported}
 use Rattle.play_lines.specs.Orders.{fieldsOf, onto, isLetter, carryOf, turnOf, byFields, orderOf}
+use Rattle.play_lines.specs.MoveLines.{stepsText, moveLine, hintLine}
 use Rattle.sheet_output.specs.Outputs.{reportOf, finishOutput, sheetOutput}
 use Rattle.sheet_output.specs.Inputs.{firstLines, linesOf, linesWanted, boardPart, movesPart}
 use Rattle.play_session.specs.Replies.{replied, replyText, repliesFrom, playOutput}
@@ -48,22 +49,23 @@ sheetT = "R,2,4\nM,0,2,0,2\nM,1,2,1,3\nL,0,3,2\nL,1,3,4\nL,2,3,2\nL,3,3,4\n"
 sheetWithCycle : String
 sheetWithCycle = "R,1,3\nM,0,1,0\nL,0,4,4\nL,1,0,0\nL,2,0,0\n"
 
--- two carries, the turn, an undo and a hint; a channel too large for a step, a line of another form, the empty turn; a finish, a line after it, and one
+-- a hint, two carries, the turn, an undo and a hint; a channel too large for a step, lines of another form, the empty turn; a finish, two lines after it, and one
 -- without its line feed
 lines : String
-lines = "K,0,2\nK,0,0\nT,0,D,2,D,3,U,1,U\nU\nH\nT,128,D\nK,0\nT\nF\nU\nF"
+lines = "H\nK,0,2\nK,0,0\nT,0,D,2,D,3,U,1,U\nU\nH\nT,128,D\nK,0\nN\nT\nF\nU\nH\nF"
 
 answersT : String
-answersT = "0\n0\n0\n0\n0\n6\n1\n7\n0\n"
+answersT = "0\nK,0,2\n0\n0\n0\n0\n0\nT,0,D,2,D,3,U,1,U\n6\n1\n1\n7\n0\n"
 
 pub asShown : Bool
 asShown =
     both (same (sheetOutput (bytes boardT)) (bytes sheetT))
     (both (same (sheetOutput (bytes withCycle)) (bytes sheetWithCycle))
-    (same (playOutput (bytes boardT ++ bytes lines)) (bytes answersT ++ (bytes sheetT ++ bytes "20\n1\n"))))
+    (both (same (playOutput (bytes boardT ++ bytes lines)) (bytes answersT ++ (bytes sheetT ++ bytes "20\n20\n1\n")))
+    (same (playOutput (bytes withCycle ++ bytes "K,0,0\nH\n")) (bytes "0\n0\nN\n"))))
 
 pub printed : T asShown
-unfolding asShown lines answersT playOutput repliesFrom replyText replied hintRefusal boardPart movesPart firstLines linesWanted linesOf header line letter
+unfolding asShown lines answersT playOutput repliesFrom replyText replied hintRefusal nextAdvice hintCall actOf stepOf stepsOf stepsText moveLine hintLine boardPart movesPart firstLines linesWanted linesOf header line letter
     field numbers then fieldsOf onto isLetter carryOf turnOf byFields orderOf same bytes withCycle boardT sheetT sheetWithCycle sheetOutput finishOutput reportOf reportText
     started unreported routesFit route routeBy load decimal decimalFrom numbersText lineText linesText loadText readText both pick indexOf numberOf
     valueFrom ranged all lowest sumAt keyed closedBoard opens pass passes reached leads onward since follow smallest lowered lowerCycle onCycle
