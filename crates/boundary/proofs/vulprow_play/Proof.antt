@@ -29,18 +29,19 @@ same-length-3 c = search needs
 
 returns : tie.Need-returns
 returns c =
-    let at-run = c .before .before .before .before .before .before .before .before .before .before .before .run in
-    let at-load = c .before .before .before .before .before .before .before .before .before .before .before .before .before .before .before in
+    let at-moves = c .before .before .before .before .before .before in
+    let at-run = at-moves .before .before .before .before .before in
+    let at-load = at-run .before .before .before .before in
     let args = at-load .before .before .before .before .before .before .before .args in
     let loading = at-load .load .ensures in
     let board = ap (λ (l : Loaded). l .board) loading in
     let calls = callsOf (args .steps .now) (args .codes .now) in
-    let end = at-run .ensures .0 ∙ ap (λ (b : Board). played b calls) board in
+    let end = at-run .run .ensures .0 ∙ ap (λ (b : Board). played b calls) board in
     let journal = c .before .before .put-journal .ensures ∙ ap (λ (b : Board). journalCoded (args .journal .now) 0 (b .journal)) end in
-    let hints = at-run .ensures .1 .1 ∙ ap (λ (b : Board). noted (args .hints .now) 0 (hintsOf b calls)) board in (
+    let hints = at-run .run .ensures .1 .1 ∙ ap (λ (b : Board). noted (args .hints .now) 0 (hintsOf b calls)) board in (
       ap (λ (l : Loaded). l .answer) loading,
       (
-        at-run .ensures .1 .0 ∙ ap (λ (b : Board). sets (args .given .now) 0 (answers b calls)) board,
+        at-run .run .ensures .1 .0 ∙ ap (λ (b : Board). sets (args .given .now) 0 (answers b calls)) board,
         (
           hints,
           (

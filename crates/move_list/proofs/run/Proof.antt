@@ -1,7 +1,7 @@
 -- The calls that are left, from the board as it is now, end in the same board as all of them; their answers and hints fill the buffers in the same way.
 -- A carry or an undo is stored into the board in place; what is stored is the board that it gives.
 use mathlib.Core.Path.{_≡_, refl, sym, _∙_}
-use mathlib.Core.List.{[]}
+use mathlib.Core.List.{List, []}
 use mathlib.Core.Bool.{true}
 use mathlib.Core.Logic.{⊎-elim, inl, inr}
 use Prim.Native.Nat.{ℕ, _+_, _-_}
@@ -50,10 +50,16 @@ AfterTests = lts.After-and (or-reads.Asked, or-reads.Learnt, minus-reads.Asked, 
 -- what is known there
 module _ (c : AfterTests) where
   abbrev now-board : Board
-  now-board = c .before .before .before .before .before .before .before .before .before .before .before .before .before .before .before .loop .b
+  now-board =
+      let at-minus = c .before .before .before .before in
+      let at-or = at-minus .before .before .before .before .before .before in
+      at-or .before .before .before .before .before .loop .b
 
   now-sized : BoardSized now-board
-  now-sized = c .before .before .before .before .before .before .before .before .before .before .before .before .before .before .before .loop .inv .6
+  now-sized =
+      let at-minus = c .before .before .before .before in
+      let at-or = at-minus .before .before .before .before .before .before in
+      at-or .before .before .before .before .before .loop .inv .6
 
   last-one : c .before .before .if2 .last ≡ lastEntry now-board
   last-one =
@@ -66,20 +72,34 @@ module _ (c : AfterTests) where
   plays : c .and .result ≡ playing now-board
   plays = in-play now-board _ _ _ last-one (c .before .intact-in .ensures) (c .and .ensures)
 
+  -- the numbers of the call
+  abbrev numbers : List ℕ
+  numbers =
+      let at-minus = c .before .before .before .before in
+      let at-or = at-minus .before .before .before .before .before .before in
+      let at-loop = at-or .before .before .before .before .before in
+      at-loop .before .before .before .before .before .args .codes .now
+
   abbrev at : ℕ
-  at = length (c .before .before .before .before .before .before .before .before .before .before .before .before .before .before .before .before .before .before .before .before .args .codes .now) - c .before .before .before .before .before .before .before .before .before .before .before .before .before .before .before .loop .left
+  at =
+      let at-minus = c .before .before .before .before in
+      let at-or = at-minus .before .before .before .before .before .before in
+      length numbers - at-or .before .before .before .before .before .loop .left
 
   abbrev kind : ℕ
-  kind = getD (c .before .before .before .before .before .before .before .before .before .before .before .before .before .before .before .before .before .before .before .before .args .codes .now) at 0
+  kind = getD numbers at 0
 
   abbrev first : ℕ
-  first = getD (c .before .before .before .before .before .before .before .before .before .before .before .before .before .before .before .before .before .before .before .before .args .codes .now) (at + 1) 0
+  first = getD numbers (at + 1) 0
 
   abbrev second : ℕ
-  second = getD (c .before .before .before .before .before .before .before .before .before .before .before .before .before .before .before .before .before .before .before .before .args .codes .now) (at + 2) 0
+  second = getD numbers (at + 2) 0
 
   moving : either (eqb kind 0) (eqb kind 2) ≡ true
-  moving = sym (c .before .before .before .before .before .before .before .before .before .before .or .ensures) ∙ c .before .before .before .before .before .before .before .before .before .if1 .taken
+  moving =
+      let at-minus = c .before .before .before .before in
+      let at-if1 = at-minus .before .before .before .before .before in
+      sym (at-if1 .before .or .ensures) ∙ at-if1 .if1 .taken
 
 loop-holds : tie.Need-loop-holds Inv-loop μ-loop
 loop-holds c =

@@ -25,15 +25,15 @@ same-length-2 c = search needs
 
 returns : tie.Need-returns
 returns c =
-    let at-run = c .before .before .before .before .before .run in
-    let at-load = c .before .before .before .before .before .before .before .before .before in
+    let at-run = c .before .before .before .before .before in
+    let at-load = at-run .before .before .before .before in
     let args = at-load .before .before .before .before .before .before .args in
     let text = args .text .now in
     let calls = callsOf (args .steps .now) (args .codes .now) in
     let loads = at-load .load .ensures in
-    let whole = gathered text calls _ loads _ _ (at-run .ensures .0) (c .finish .ensures) in
-    let given = at-run .ensures .1 .0 ∙ from-load text calls _ loads (λ b. sets (args .given .now) 0 (answers b calls)) in
-    let hints = at-run .ensures .1 .1 ∙ from-load text calls _ loads (λ b. noted (args .hints .now) 0 (hintsOf b calls)) in
+    let whole = gathered text calls _ loads _ _ (at-run .run .ensures .0) (c .finish .ensures) in
+    let given = at-run .run .ensures .1 .0 ∙ from-load text calls _ loads (λ b. sets (args .given .now) 0 (answers b calls)) in
+    let hints = at-run .run .ensures .1 .1 ∙ from-load text calls _ loads (λ b. noted (args .hints .now) 0 (hintsOf b calls)) in
     (whole, (given, (hints, held text calls _ _ _ _ _ whole given hints)))
 
 pub play-through-spec : {M : Type 1} → statement M

@@ -1,4 +1,10 @@
 -- A vertex is first met among the steps or after them all, so `walk_from` gets the count that the search gives.
+use mathlib.Core.Path.{ap, _∙_}
+use Prim.Native.Nat.{ℕ}
+use native.Mathlib.Omega.{arith}
+use lib.ListN.{drop}
+use Rattle.solve_walk.specs.Walk.{packed}
+use Rattle.solve_walk.specs.Inner.{walked}
 use Rattle.solve_walk.proofs.Walks.{met-most}
 use borrow.Author.Needs.{needs}
 use Rattle.solve_walk.proofs.since_met.Statement.{statement}
@@ -11,10 +17,12 @@ walk-from-requires : tie.Need-walk-from-requires
 walk-from-requires c κs =
     let s = c .before .before .before in
     let most = met-most (s .args .tails .now) (s .args .heads .now) (s .args .walk) (s .args .v) (search needs) (s .pre) in
-    (rw (c .first-met .ensures) most, s .pre)
+    (omega (arith, most, c .first-met .ensures), s .pre)
 
 returns : tie.Need-returns
-returns c = rw (c .before .first-met .ensures) at (c .walk-from .ensures)
+returns c =
+    let walk = c .before .before .before .before .args .walk in
+    c .walk-from .ensures ∙ ap (λ (k : ℕ). packed (drop k (walked walk))) (c .before .first-met .ensures)
 
 pub since-met-spec : {M : Type 1} → statement M
 since-met-spec = tie.close (tie.spec first-met-requires walk-from-requires returns)
