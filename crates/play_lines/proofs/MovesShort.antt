@@ -1,18 +1,16 @@
 -- How long the line of a move is. An edge below 100 has two digits at most, so a step has five bytes at most: two commas, two digits and a letter. A turn is its
 -- letter, its steps and a line feed; a carry of two numbers below 100 is `K`, two commas, four digits and a line feed at most.
-use mathlib.Core.Path.{_≡_, refl}
 use mathlib.Core.List.{List, [], _∷_, _++_}
 use Prim.Native.Nat.{_+_, _*_, _<_, _≤_}
 use native.Mathlib.Omega.{arith}
 use lib.ListN.{length, length-append}
-use Rattle.lists.specs.Choice.{pick}
 use Rattle.lists.specs.Inner.{Below}
 use Rattle.decimal.specs.Decimal.{decimal}
 use Rattle.decimal.proofs.Laws.{decimal-length}
 use Rattle.board.specs.Limits.{maxVertices}
 use Rattle.graph_flows.specs.Trails.{Step, edgeOf, edgesOf}
-use Rattle.solve_next.specs.Choosing.{Act, relocate, augment, noAdvice}
-use Rattle.play_lines.specs.MoveLines.{wayLetter, stepText, stepsText, moveLine, hintLine, longestHint}
+use Rattle.solve_next.specs.Choosing.{Act, relocate, augment}
+use Rattle.play_lines.specs.MoveLines.{wayLetter, stepText, stepsText, moveLine, longestHint}
 
 -- a move of the solver: its numbers are below 100, and it has no more steps than there may be vertices
 abbrev pub SmallMove : Act → Type 0
@@ -38,7 +36,3 @@ move-line-short (relocate i e) h =
       decimal-length 1 e (h .1),
     )
 move-line-short (augment w) h = omega (arith, length-append (stepsText w) (10 ∷ []), steps-short w (h .1))
-
-pub none-line : length (hintLine noAdvice) ≡ 2
-unfolding hintLine pick
-none-line = refl

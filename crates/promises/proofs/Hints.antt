@@ -57,17 +57,16 @@ below-all n (s ∷ w) h = (h s (inl refl), below-all n w (λ t i. h t (inr i)))
 
 module _ (b : Board) (st : Standing b) where
   -- the numbers of an accepted move
-  short-move : (a : Act) → judge b a ≡ 0 → ShortMove a
-  short-move (relocate i e) h =
-      let f = carry-facts b i e h .1 in
-      (omega (arith, f .terminal, st .inv .lawful .terminals), omega (arith, f .edge, st .inv .lawful .edges))
-  short-move (augment w) h = below-all 10000000 w (λ s i. omega (arith, turn-facts b w h .1 .inside s i, st .inv .lawful .edges))
-
-  -- those of the solver's move, and how many steps it has
   small-carry : (i e : ℕ) → judge b (relocate i e) ≡ 0 → SmallMove (relocate i e)
   small-carry i e h =
       let f = carry-facts b i e h .1 in
       (omega (arith, f .terminal, st .inv .lawful .terminals), omega (arith, f .edge, st .inv .lawful .edges))
+
+  short-move : (a : Act) → judge b a ≡ 0 → ShortMove a
+  short-move (relocate i e) h = let s = small-carry i e h in (omega (arith, s .0), omega (arith, s .1))
+  short-move (augment w) h = below-all 10000000 w (λ s i. omega (arith, turn-facts b w h .1 .inside s i, st .inv .lawful .edges))
+
+  -- those of the solver's move, and how many steps it has
 
   few-steps : length (nextCycle b) ≤ maxVertices
   unfolding nextCycle
