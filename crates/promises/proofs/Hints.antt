@@ -4,7 +4,7 @@ use mathlib.Core.Path.{_≡_, refl, sym, ap, _∙_}
 use mathlib.Core.Bool.{true, false}
 use mathlib.Core.Logic.{inl, inr}
 use mathlib.Core.List.{List, [], _∷_, _++_}
-use Prim.Native.Nat.{ℕ, _<_, _≤_}
+use Prim.Native.Nat.{ℕ, zero, suc, _<_, _≤_}
 use native.Mathlib.Omega.{arith}
 use lib.Dec.{eqb}
 use lib.ListN.{length}
@@ -24,7 +24,10 @@ use Rattle.solve_next.specs.declared.Advice.{Advice}
 use Rattle.solve_next.specs.Choosing.{Act, relocate, augment, noKind, allHome, chosenEdge, judge, acted, nextCycle, nextAct, noAdvice, adviceOf, actOf}
 use Rattle.solve_next.specs.Hints.{hintCall}
 use Rattle.solve_next.proofs.Advised.{next-carry, next-turn}
+use Rattle.solve_finish.specs.Finishes.{ended, finishCall}
 use Rattle.move_list.specs.Calls.{made}
+use Rattle.report_routes.specs.Routes.{route, load}
+use Rattle.report.specs.Reports.{reportText}
 use Rattle.play_lines.specs.Orders.{other, fieldsOf, isLetter, byFields, orderOf}
 use Rattle.play_lines.specs.MoveLines.{moveText, moveLine, hintLine, callFor, longestHint}
 use Rattle.play_lines.proofs.MovesRead.{ShortMove, move-read}
@@ -32,11 +35,13 @@ use Rattle.play_lines.proofs.MovesShort.{SmallMove, move-line-short}
 use Rattle.theorem_keep.proofs.Carriable.{carry-facts}
 use Rattle.theorem_keep.proofs.Turnable.{turn-facts}
 use Rattle.theorem_keep.proofs.Standing.{Standing}
+use Rattle.theorem_list.specs.Complete.{SolvedBy}
+use Rattle.theorem_list.proofs.Acts.{act-standing}
 use Rattle.theorem_list.proofs.Ends.{home-facts}
-use Rattle.theorem_list.proofs.Finish.{hint-taken}
+use Rattle.theorem_list.proofs.Finish.{finish-completes, hint-taken}
 use Rattle.theorem_list.proofs.Next.{next-accepted}
-use Rattle.theorem_list.proofs.HintFirst.{hint-none, hint-advice, hint-act, hint-first}
-use Rattle.promises.specs.Hints.{offers, ReadBack, AboutHints}
+use Rattle.theorem_list.proofs.HintFirst.{solved-once, solved-end, hint-none, hint-advice, hint-act, hint-first}
+use Rattle.promises.specs.Hints.{offers, ReadBack, FedBack, HintedOut, AboutHints}
 use Rattle.promises.proofs.Plays.{play-standing}
 
 -- a record of a move is of some kind
@@ -135,6 +140,35 @@ module _ (b : Board) (st : Standing b) where
       go (was-true t) = rw (line-none t) (omega arith)
       go (was-false t) = rw (line-move t, hint-act b st t) (move-line-short (nextAct b) (small-next t))
 
+-- the solver's moves are the hints', one by one
+fed-back : (k : ℕ) (b c : Board) → Standing b → SolvedBy k b c → FedBack k b c
+fed-back zero b c st s = (hint-none b st (s .0), s .1)
+fed-back (suc k) b c st s = (
+  read-back b st (s .0),
+  rw (hint-act b st (s .0)) (fed-back k (acted b (nextAct b)) c (act-standing b (nextAct b) st (s .1)) (s .2)),
+)
+
+-- the sheet does not say where the finish began
+same-report : (m n : ℕ) (b : Board) → reportText (ended m b) ≡ reportText (ended n b)
+unfolding reportText route load
+same-report m n b = refl
+
+hinted-out : (b : Board) → Standing b → HintedOut b
+hinted-out b st =
+    let whole = finish-completes b st in
+    let c = whole .last in
+    let reached = solved-end (finishCall b .count) b c st (whole .solved) in
+    let rest = finish-completes c (reached .1) in
+    let same = solved-once (finishCall c .count) 0 c (rest .last) c (rest .solved) (reached .0, refl) in
+    record {
+      last = c;
+      fed = fed-back (finishCall b .count) b c st (whole .solved);
+      accepted = rest .accepted;
+      none-made = same .0;
+      same-sheet =
+          ap reportText (rest .over ∙ ap (ended (c .moves)) (same .1)) ∙ same-report (c .moves) (b .moves) c ∙ ap reportText (sym (whole .over));
+    }
+
 unread : orderOf (78 ∷ []) ≡ other
 unfolding orderOf fieldsOf byFields isLetter pick both
 unread = refl
@@ -147,5 +181,6 @@ about-hints = record {
   move-line-read = λ text b p away. read-back b (play-standing text b p) away;
   none-line = λ text b p home. line-none b (play-standing text b p) home;
   none-unread = unread;
+  hinted-out = λ text b p. hinted-out b (play-standing text b p);
   hint-room = λ text b p. room b (play-standing text b p);
 }

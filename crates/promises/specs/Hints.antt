@@ -2,16 +2,18 @@
 use mathlib.Core.Path.{_≡_}
 use mathlib.Core.Bool.{Bool, true, false}
 use mathlib.Core.List.{List, [], _∷_, _++_}
-use Prim.Native.Nat.{ℕ, _<_, _≤_}
+use Prim.Native.Nat.{ℕ, zero, suc, _<_, _≤_}
 use lib.Dec.{eqb}
 use lib.ListN.{length}
 use Rattle.lists.specs.Choice.{pick}
 use Rattle.board.specs.declared.Board.{Board}
 use Rattle.move_guard.specs.Parts.{place}
 use Rattle.solve_next.specs.declared.Advice.{Advice}
-use Rattle.solve_next.specs.Choosing.{Act, noKind, allHome, judge, acted, actOf}
+use Rattle.solve_next.specs.Choosing.{Act, noKind, allHome, judge, acted, noAdvice, actOf}
 use Rattle.solve_next.specs.Hints.{hintCall}
+use Rattle.solve_finish.specs.Finishes.{finishCall}
 use Rattle.move_list.specs.Calls.{made}
+use Rattle.report.specs.Reports.{reportText}
 use Rattle.play_lines.specs.Orders.{call, other, orderOf}
 use Rattle.play_lines.specs.MoveLines.{moveText, hintLine, callFor, longestHint}
 use Rattle.theorem_list.specs.Complete.{OneFurther}
@@ -27,6 +29,19 @@ pub record ReadBack (b : Board) (a : Act) : Type 0 where
   pub read : orderOf (moveText a) ≡ call (callFor a)
   pub makes : made b (callFor a) ≡ record { answer = 0; board = acted b a }
 
+-- k hints, each given back as a line, lead from b to c, where no move is left
+abbrev pub FedBack : ℕ → Board → Board → Type 0
+FedBack zero b c = (hintCall b .advice ≡ noAdvice) × (b ≡ c)
+FedBack (suc k) b c = ReadBack b (actOf (hintCall b .advice)) × FedBack k (acted b (actOf (hintCall b .advice))) c
+
+-- as many hints as a finish would make moves; a finish then makes none, and the sheet is that of a finish alone
+pub record HintedOut (b : Board) : Type 0 where
+  pub last : Board
+  pub fed : FedBack (finishCall b .count) b last
+  pub accepted : finishCall last .answer ≡ 0
+  pub none-made : finishCall last .count ≡ 0
+  pub same-sheet : reportText (finishCall last .board) ≡ reportText (finishCall b .board)
+
 pub record AboutHints : Type 0 where
   -- "Hint gives some move that would be accepted. It gives none only if every mill is at the spring"
   pub hint-rule : (text : List ℕ) (b : Board) → OfPlay text b → (hintCall b .answer ≡ 0) × (offers b (hintCall b .advice) ≡ true)
@@ -39,5 +54,7 @@ pub record AboutHints : Type 0 where
   -- "or `N` where no move is left", which is no line that it reads
   pub none-line : (text : List ℕ) (b : Board) → OfPlay text b → allHome b ≡ true → hintLine (hintCall b .advice) ≡ 78 ∷ 10 ∷ []
   pub none-unread : orderOf (78 ∷ []) ≡ other
+  -- so a board can be finished move by move, by giving every hint back until there is none
+  pub hinted-out : (text : List ℕ) (b : Board) → OfPlay text b → HintedOut b
   -- the room that a hint's line needs
   pub hint-room : (text : List ℕ) (b : Board) → OfPlay text b → length (hintLine (hintCall b .advice)) ≤ longestHint

@@ -20,11 +20,16 @@ use Rattle.theorem_list.proofs.Next.{next-accepted}
 use Rattle.theorem_list.proofs.Finish.{next, finish-completes, hint-taken}
 
 -- the solver's moves lead to one end, in one number of moves
-solved-once : (j k : ℕ) (b c d : Board) → SolvedBy j b c → SolvedBy k b d → (j ≡ k) × (c ≡ d)
+pub solved-once : (j k : ℕ) (b c d : Board) → SolvedBy j b c → SolvedBy k b d → (j ≡ k) × (c ≡ d)
 solved-once zero zero b c d s t = (refl, sym (s .1) ∙ t .1)
 solved-once zero (suc k) b c d s t = absurd (true≢false (sym (s .0) ∙ t .0))
 solved-once (suc j) zero b c d s t = absurd (true≢false (sym (t .0) ∙ s .0))
 solved-once (suc j) (suc k) b c d s t = let r = solved-once j k (next b) c d (s .2) (t .2) in (ap suc (r .0), r .1)
+
+-- every terminal is at the source there, and it is a board of play
+pub solved-end : (k : ℕ) (b c : Board) → Standing b → SolvedBy k b c → (allHome c ≡ true) × Standing c
+solved-end zero b c st s = rw (← s .1) (s .0, st)
+solved-end (suc k) b c st s = solved-end k (next b) c (act-standing b (nextAct b) st (s .1)) (s .2)
 
 -- with a terminal away there is a first move
 first-off : (k : ℕ) (b c : Board) → allHome b ≡ false → SolvedBy k b c → (j : ℕ) × (k ≡ suc j) × SolvedBy j (next b) c
