@@ -23,9 +23,10 @@ use Rattle.move_carry.specs.Carries.{carryRefusal, carried, carryCall}
 use Rattle.graph_flows.specs.Trails.{Step}
 use Rattle.move_turn.specs.Turns.{turnRefusal, turned, turnCall}
 use Rattle.move_undo.specs.Undone.{undoRefusal, undone, undoCall}
+use Rattle.solve_next.specs.declared.Suggestion.{Suggestion}
 use Rattle.solve_next.specs.Hints.{hintRefusal}
 use Rattle.theorem_keep.proofs.Standing.{Standing, standing-playing}
-use Rattle.move_list.specs.Calls.{Call, carry, turn, undo, hint, made, played, answers, hintsOf}
+use Rattle.move_list.specs.Calls.{Call, carry, turn, undo, hint, made, played, answers, hintedBy, hintsOf}
 use Rattle.theorem_list.specs.Player.{listedAll, afresh, saysTo, standingAfter, standingMoves, says, suggests}
 use Rattle.theorem_list.specs.Faithful.{Faithful}
 use Rattle.theorem_list.proofs.Finish.{finish-completes, hint-taken}
@@ -175,7 +176,11 @@ module _ (text : List ℕ) (loads : loadText text .answer ≡ 0) where
   same-hints : (ms cs : List Call) → Stands text ms → hintsOf (afresh text ms) cs ≡ suggests text ms cs
   unfolding hintsOf suggests
   same-hints ms [] s = refl
-  same-hints ms (c ∷ cs) s = let q = same ms c s in rw (q .board, same-hints (standingAfter text ms c) cs (q .stands))
+  same-hints ms (c ∷ cs) s =
+      let q = same ms c s in
+      let rest : hintsOf (made (afresh text ms) c .board) cs ≡ suggests text (standingAfter text ms c) cs =
+      ap (λ (b : Board). hintsOf b cs) (q .board) ∙ same-hints (standingAfter text ms c) cs (q .stands) in
+      ap (λ (hs : List Suggestion). hintedBy (afresh text ms) c ++ hs) rest
 
   -- the player's board, after every list of calls
   faithful : (cs : List Call) → Faithful text cs (afresh text (standingMoves text [] cs))
