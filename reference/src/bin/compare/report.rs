@@ -112,9 +112,9 @@ fn stack(program: &str) -> usize {
     }
 }
 
-/// A program started in that stack, its input and its output being pipes.
+/// A program started in that stack, its input and its output being pipes. It gets no environment, which would lie on the stack, too.
 pub fn started(program: &str) -> Result<Child, String> {
-    let command = format!("ulimit -s {}; exec target/bin/{program}", stack(program));
+    let command = format!("ulimit -s {}; exec env -i target/bin/{program}", stack(program));
     let spawned = Command::new("sh").args(["-c", &command]).stdin(Stdio::piped()).stdout(Stdio::piped()).spawn();
     spawned.map_err(|error| format!("{program} does not start: {error}"))
 }
