@@ -2,3 +2,4 @@ pub mod Answers
 pub mod Stores
 pub mod Facts
 pub mod Parts
+pub mod Lent

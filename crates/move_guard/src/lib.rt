@@ -4,9 +4,12 @@ use board::EdgeSet;
 use board::Entry;
 use board::Move;
 use board::Network;
+use journal::Table;
+use journal::WORDS;
 ghost use mathlib.Core.Path.{_≡_};
 ghost use lib.ListN.{getD, set};
 ghost use Rattle.board.specs.Record.{blank};
+ghost use Rattle.journal.specs.Words.{wholeOf};
 ghost use Rattle.move_guard.specs.Moved.{lastEntry};
 ghost use lib.Dec.{leb, ltb, eqb};
 ghost use Rattle.lists.specs.Choice.{pick};
@@ -225,5 +228,19 @@ pub fn playing(board: Board) -> bool
     ensures { λ r. ⌜ r ≡ playing board ⌝ }
 {
     let fits = intact(board);
+    lists::and(board.stage == Board::PLAY, fits)
+}
+
+// The same of a board whose journal is lent.
+pub fn playing_lent(board: Table, journal: &[[u64; WORDS]; Board::JOURNAL]) -> bool
+    ensures { λ r. ⌜ r ≡ playing (wholeOf board (now (journal .entry))) ⌝ }
+{
+    let net = board.network;
+    let acyclic = board.acyclic;
+    let flows = board.flows;
+    let places = board.places;
+    let last = journal::last_entry(journal, board.moves);
+    let step = last.step;
+    let fits = intact_in(net, acyclic, flows, places, board.moves, step);
     lists::and(board.stage == Board::PLAY, fits)
 }

@@ -1,0 +1,39 @@
+-- The branch says which move it is.
+use mathlib.Core.Path.{sym, ap, _∙_}
+use Rattle.board.specs.declared.Move.{Move}
+use Rattle.board.specs.declared.Move.the-variants.{Carry, Turn}
+use Rattle.journal.proofs.Laws.{unpacked-packed}
+use Rattle.journal.specs.Words.{moveWords}
+use borrow.Author.Needs.{needs}
+use Rattle.journal.proofs.pack.Statement.{statement}
+use Rattle.journal.proofs.pack.Tie as tie
+
+enum-known-step : tie.Need-enum-known-step
+enum-known-step c = search needs
+
+cast-t6 : tie.Need-cast-t6
+cast-t6 c = search needs
+
+cast-t7 : tie.Need-cast-t7
+cast-t7 c = search needs
+
+enum-known-step-2 : tie.Need-enum-known-step-2
+enum-known-step-2 c = search needs
+
+cast-t8 : tie.Need-cast-t8
+cast-t8 c = search needs
+
+returns : tie.Need-returns
+returns c =
+    let is = c .before .before .before .step .given .1 in
+    (sym (ap moveWords is), unpacked-packed (Carry (c .before .before .before .step .given .0 .0)) (search needs, search needs) ∙ ap (λ (m : Move). record { step = m }) (sym is))
+
+returns-2 : tie.Need-returns-2
+returns-2 c =
+    let is = c .before .before .step2 .given .1 in
+    (sym (ap moveWords is), unpacked-packed (Turn (c .before .before .step2 .given .0 .0)) (search needs) ∙ ap (λ (m : Move). record { step = m }) (sym is))
+
+pub pack-spec : {M : Type 1} → statement M
+pack-spec =
+    tie.close
+    (tie.spec enum-known-step cast-t6 cast-t7 enum-known-step-2 cast-t8 returns returns-2)
