@@ -1,2 +1,3 @@
 pub mod Coded
 pub mod Moving
+pub mod Worded

@@ -1,3 +1,4 @@
 pub mod Calls
 pub mod Codes
 pub mod Inner
+pub mod Words
