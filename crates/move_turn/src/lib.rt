@@ -278,6 +278,26 @@ pub fn turn_refusal(board: Board, steps: &[u8]) -> u32
     refusal(play, any_open, net, flows, &leaving, positive, steps)
 }
 
+// The same of the parts of a board; `in_play` says whether the board is in play.
+pub fn turn_refusal_in<'a>(
+    in_play: bool,
+    net: Network,
+    flows: [u32; Board::MAX_EDGES],
+    marks: EdgeSet,
+    places: &'a [u32],
+    steps: &'a [u8],
+) -> u32
+    requires { ⌜ («in_play» ≡ true → Sound net flows) ⌝ }
+    ensures { λ r. ⌜ r ≡ turnRefusalIn «in_play» (both «in_play» (someOpenIn net flows marks (now (places .entry))))
+        net flows (stepsOf (now (steps .entry))) ⌝ }
+{
+    let any_open = open_in_play(in_play, net, &flows, marks, places);
+    let tails = net.tails;
+    let leaving = move_edges::at_vertices(tails);
+    let positive = move_edges::positive(flows);
+    refusal(in_play, any_open, net, flows, &leaving, positive, steps)
+}
+
 // What an accepted turn changes.
 fn turned<'a>(
     net: Network,
