@@ -21,7 +21,12 @@ use Rattle.move_turn.specs.Turns.{turnChange}
 use Rattle.solve_walk.specs.Walk.{cycleOf}
 use Rattle.solve_carry.specs.Search.{hasOpenAt, chosenEdgeIn}
 use Rattle.solve_next.specs.Choosing.{allHomeIn}
+use Rattle.move_edges.specs.Incidence.{Incident}
+use Rattle.move_turn.specs.declared.Frame.{Frame}
+use Rattle.move_turn.specs.Lent.{netOf, bareOf}
+use Rattle.board.specs.Record.{blank}
 use Rattle.solve_finish.specs.declared.Made.{Made}
+use Rattle.solve_finish.specs.declared.Progress.{Progress}
 
 -- no flow is above what the terminals need together at most
 unfoldable pub allSmall : List ℕ → Bool
@@ -81,3 +86,24 @@ pub record Makes (change : Change) (made : Made) : Type 0 where
 -- the moves that are left of a run where the board is in play after one of them, else none
 unfoldable pub leftAfter : ℕ → ℕ → Bool → ℕ
 leftAfter left moves small = pick (both (leb moves maxMoves) small) (left - 1) 0
+
+-- a move on lists that are lent, with the flows and places after it
+abbrev pub madeOf : Progress → List ℕ → List ℕ → Made
+madeOf r flows places = record {
+  change = record { answer = r .answer; flows = flows; marks = r .marks; places = places; entry = r .entry };
+  positive = r .positive;
+  small = r .small;
+}
+
+-- no move
+abbrev pub haltedWith : ℕ → Frame → Progress
+haltedWith answer frame = record { answer = answer; entry = blank; marks = frame .marks; positive = frame .positive; small = true }
+
+-- the lists are those of a board in play, and the sets those of its network
+pub record Going (frame : Frame) (tails heads demands leaving entering flows places : List ℕ) : Type 0 where
+  pub net : Network
+  pub bare : bareOf net ≡ netOf frame tails heads demands
+  pub in-play : InPlay net flows (frame .marks) places
+  pub leave : Incident (net .tails) leaving
+  pub enter : Incident (net .heads) entering
+  pub is-positive : PositiveSet flows (frame .positive)
