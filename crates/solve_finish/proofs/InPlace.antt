@@ -5,8 +5,8 @@ use mathlib.Core.Bool.{Bool, true, false}
 use mathlib.Core.List.{List, []}
 use mathlib.Core.Logic.{_⊎_, inl, inr, _≢_}
 use Prim.Native.Nat.{ℕ, _<_, _≤_}
-use lib.Dec.{eqb, ltb}
-use lib.ListN.{length, getD, take}
+use lib.Dec.{ltb}
+use lib.ListN.{length, take, length-set}
 use Rattle.lists.specs.Choice.{pick}
 use Rattle.lists.proofs.Laws.{eq-or-ne}
 use Rattle.board.specs.Limits.{maxVertices, maxEdges}
@@ -15,20 +15,18 @@ use Rattle.board.specs.declared.Network.{Network}
 use Rattle.graph_flows.specs.Trails.{Step}
 use Rattle.move_guard.specs.Moved.{unchanged}
 use Rattle.move_guard.specs.declared.Change.{Change}
-use Rattle.move_carry.specs.Carries.{carriedIn}
 use Rattle.move_cycle.specs.Steps.{stepsOf}
 use Rattle.move_edges.specs.Incidence.{PositiveSet}
 use Rattle.move_turn.specs.declared.Frame.{Frame}
 use Rattle.move_turn.specs.Turns.{turnRefusalIn, turnedIn, turnChange}
 use Rattle.move_turn.specs.Lent.{frameOf, netOf, bareOf, Turnable}
-use Rattle.move_turn.proofs.Changes.{change-accepted, change-refused}
+use Rattle.move_turn.proofs.Changes.{change-accepted, change-refused, change-places}
 use Rattle.move_turn.proofs.Lent.{sound-turnable, turn-of-bare}
 use Rattle.solve_walk.specs.Walk.{cycleOf, packed}
 use Rattle.solve_walk.specs.Chart.{Charted}
 use Rattle.solve_walk.specs.declared.Walk.{Walk}
 use Rattle.solve_carry.specs.Search.{chosenEdgeIn, Searched}
 use Rattle.solve_next.specs.Choosing.{allHomeIn}
-use Rattle.solve_finish.specs.declared.Made.{Made}
 use Rattle.solve_finish.specs.declared.Progress.{Progress}
 use Rattle.solve_finish.specs.Run.{allSmall, openTerminalIn, carryStep, turnStep, stepChange, InPlay, Makes, madeOf, haltedWith, Going}
 use Rattle.solve_finish.proofs.Parting.{stop-made}
@@ -116,7 +114,7 @@ module _ (frame : Frame) (tails heads demands leaving entering flows places : Li
       (g .bare) turns-bare
 
 -- a change whose number is not 0 keeps flows, marks and places
-abbrev Keeps : List ℕ → ℕ → List ℕ → Change → Type 0
+abbrev pub Keeps : List ℕ → ℕ → List ℕ → Change → Type 0
 Keeps flows marks places c = c .answer ≢ 0 → (c .flows ≡ flows) × (c .marks ≡ marks) × (c .places ≡ places)
 
 module _ (net : Network) (flows : List ℕ) (marks : ℕ) (places : List ℕ) where
@@ -144,3 +142,17 @@ module _ (net : Network) (flows : List ℕ) (marks : ℕ) (places : List ℕ) wh
   pub step-keeps : Keeps flows marks places (stepChange net flows marks places)
   unfolding stepChange
   step-keeps = keeps-pick _ _ _ (keeps-carry _ _) keeps-turn
+
+  -- every change keeps the length of the places
+  abbrev Long : Change → Type 0
+  Long c = length (c .places) ≡ length places
+
+  long-pick : (t : Bool) (x y : Change) → Long x → Long y → Long (pick t x y)
+  unfolding pick
+  long-pick true x y hx hy = hx
+  long-pick false x y hx hy = hy
+
+  pub step-long : length (stepChange net flows marks places .places) ≡ length places
+  unfolding stepChange carryStep turnStep
+  step-long =
+      long-pick _ _ _ (long-pick _ _ _ refl (length-set places _ _)) (long-pick _ _ _ refl (ap length (change-places true false net flows marks places _)))

@@ -33,6 +33,7 @@ ghost use Rattle.solve_finish.specs.Run.{
   madeOf,
   haltedWith,
   Going,
+  RanOut,
 };
 
 // What a finish gives: 0, how many moves it made, and the board at the end; or the number that it is refused with, and
@@ -538,8 +539,75 @@ fn advance_lent<'a>(
     )
 }
 
-// Plays to the end, and answers how many moves that took. A move is stored into a blank place alone. Where a place is
-// not blank, or the run ends with a terminal away, the places that were filled are blanked again.
+// Plays on as long as a move is accepted and the place of the journal for it is blank.
+fn play_out(
+    board: Table,
+    journal: &mut [[u64; WORDS]; Board::JOURNAL],
+    flows: &mut [u32; Board::MAX_EDGES],
+    places: &mut [u32; Board::MAX_TERMINALS],
+) -> Ran
+    requires { ⌜ playing (wholeOf board (now journal)) ≡ true ⌝ }
+    requires { ⌜ (now flows ≡ board .flows) × (now places ≡ board .places) ⌝ }
+    ensures { λ r. ⌜ RanOut board (now (journal .entry)) (now (journal .exit)) (now (flows .exit))
+        (now (places .exit)) r ⌝ }
+{
+    let net = board.network;
+    let tails = net.tails;
+    let heads = net.heads;
+    let demands = net.demands;
+    let leaving = move_edges::at_vertices(tails);
+    let entering = move_edges::at_vertices(heads);
+    let mut marks = board.marks;
+    let mut positive = move_edges::positive_lent(flows);
+    let mut moves = board.moves;
+    let mut left = Board::JOURNAL as u32;
+    while left != 0 {
+        let frame = Frame {
+            vertices: board.network.vertices,
+            edges: board.network.edges,
+            terminals: board.network.terminals,
+            source: board.network.source,
+            marks: marks,
+            positive: positive,
+        };
+        let made = advance_lent(
+            frame,
+            &tails,
+            &heads,
+            &demands,
+            &leaving,
+            &entering,
+            flows,
+            places,
+        );
+        if made.answer != 0 {
+            left = 0;
+            continue;
+        }
+        let m = moves as usize;
+        if !journal::is_blank(journal, m) {
+            return Ran {
+                blank: false,
+                marks: marks,
+                moves: moves,
+            };
+        }
+        let entry = made.entry;
+        journal::put_entry(journal, m, entry);
+        marks = made.marks;
+        positive = made.positive;
+        moves += 1;
+        left = left_after(left, moves, made.small);
+    }
+    Ran {
+        blank: true,
+        marks: marks,
+        moves: moves,
+    }
+}
+
+// Plays to the end, and answers how many moves that took. Where a place of the journal is not blank, or the run ends
+// with a terminal away, the places that were filled are blanked again.
 pub fn finish_lent(board: Table, journal: &mut [[u64; WORDS]; Board::JOURNAL]) -> Ended
     ensures { λ r. ⌜ endedOf r (now (journal .exit)) ≡ finishOn board (now (journal .entry)) ⌝ }
     ensures { λ _. ⌜ now (journal .exit) ≡
@@ -553,47 +621,13 @@ pub fn finish_lent(board: Table, journal: &mut [[u64; WORDS]; Board::JOURNAL]) -
         };
     }
     let net = board.network;
-    let mut flows = board.flows;
-    let mut marks = board.marks;
-    let mut places = board.places;
     let from = board.moves;
-    let tails = net.tails;
-    let heads = net.heads;
-    let leaving = move_edges::at_vertices(tails);
-    let entering = move_edges::at_vertices(heads);
-    let mut moves = from;
-    let mut positive = move_edges::positive(flows);
-    let mut left = Board::JOURNAL as u32;
-    while left != 0 {
-        let made = advance(net, &leaving, &entering, flows, marks, places, positive);
-        let change = made.change;
-        if change.answer != 0 {
-            left = 0;
-            continue;
-        }
-        let m = moves as usize;
-        if !journal::is_blank(journal, m) {
-            let count = lists::minus(moves, from);
-            journal::wipe(journal, from as usize, count as usize);
-            return Ended {
-                answer: 20,
-                count: 0,
-                board: board,
-            };
-        }
-        let entry = change.entry;
-        journal::put_entry(journal, m, entry);
-        let new_flows = change.flows;
-        let new_places = change.places;
-        flows = new_flows;
-        marks = change.marks;
-        places = new_places;
-        positive = made.positive;
-        moves += 1;
-        left = left_after(left, moves, made.small);
-    }
-    let count = lists::minus(moves, from);
-    if !solve_next::all_home(&places, net.terminals, net.source) {
+    let mut flows = board.flows;
+    let mut places = board.places;
+    let ran = play_out(board, journal, &mut flows, &mut places);
+    let home = solve_next::all_home(&places, net.terminals, net.source);
+    let count = lists::minus(ran.moves, from);
+    if !lists::and(ran.blank, home) {
         journal::wipe(journal, from as usize, count as usize);
         return Ended {
             answer: 20,
@@ -603,9 +637,9 @@ pub fn finish_lent(board: Table, journal: &mut [[u64; WORDS]; Board::JOURNAL]) -
     }
     let mut last = board;
     last.flows = flows;
-    last.marks = marks;
+    last.marks = ran.marks;
     last.places = places;
-    last.moves = moves;
+    last.moves = ran.moves;
     last.stage = Board::FINISHED;
     last.finish_from = from;
     Ended {

@@ -2,30 +2,22 @@
 use Rattle.solve_carry.proofs.Finds.{found-terminal, found-edge}
 use Rattle.solve_finish.specs.Run.{openTerminalIn, carryStep}
 use Rattle.solve_finish.proofs.Ready.{step-carries, step-turns}
-use Rattle.solve_finish.proofs.InPlace.{carry-no-heads, going-small, going-searched}
+use Rattle.solve_finish.proofs.InPlace.{going-small, going-searched}
 use borrow.Author.Needs.{needs}
 use Rattle.solve_finish.proofs.advance_lent.Statement.{statement}
 use Rattle.solve_finish.proofs.advance_lent.Tie as tie
-use Rattle.solve_finish.proofs.advance_lent.Reads as reads
-use Rattle.solve_finish.proofs.advance_lent.Lts as lts
-use Rattle.solve_carry.proofs.open_carry.Reads as open-carry-reads
-use Rattle.solve_finish.proofs.carry_on.Reads as carry-on-reads
-use Rattle.solve_finish.proofs.turn_on.Reads as turn-on-reads
 
--- src/lib.rt:507:9
 open-carry-requires : tie.Need-open-carry-requires
 open-carry-requires c κs =
     let g = c .before .before .before .before .before .before .before .before .pre in
     going-searched _ _ _ _ _ _ _ _ g
 
--- src/lib.rt:519:9
 carry-on-requires : tie.Need-carry-on-requires
 carry-on-requires c κs =
     let found = c .before .before .before .before .before in
     let g = found .before .before .before .before .before .before .before .before .before .pre in
     (g .is-positive, (going-small _ _ _ _ _ _ _ _ g, g .in-play .long))
 
--- src/lib.rt:519:9
 returns : tie.Need-returns
 unfolding openTerminalIn carryStep
 returns c =
@@ -34,11 +26,9 @@ returns c =
     step-carries _ _ _ _ _ (found-terminal _ _ _ _ _ _ _ (found .result) (found .ensures)) _ _ (at-if1 .if1 .taken)
     (found-edge _ _ _ _ _ _ _ (found .result) (found .ensures) (at-if1 .if1 .taken)) (c .carry-on .ensures)
 
--- src/lib.rt:529:5
 turn-on-requires : tie.Need-turn-on-requires
 turn-on-requires c κs = search needs
 
--- src/lib.rt:490:1
 returns-2 : tie.Need-returns-2
 unfolding openTerminalIn
 returns-2 c =

@@ -5,23 +5,13 @@ use Rattle.solve_finish.proofs.InPlace.{halts}
 use borrow.Author.Needs.{needs}
 use Rattle.solve_finish.proofs.carry_on.Statement.{statement}
 use Rattle.solve_finish.proofs.carry_on.Tie as tie
-use Rattle.solve_finish.proofs.carry_on.Reads as reads
-use Rattle.solve_finish.proofs.carry_on.Lts as lts
-use Rattle.lists.proofs.minus.Reads as minus-reads
-use Rattle.lists.proofs.put_word.Reads as put-word-reads
-use Rattle.lists.proofs.word_at.Reads as word-at-reads
-use Rattle.solve_finish.proofs.halted.Reads as halted-reads
-use Rattle.solve_finish.proofs.positive_after.Reads as positive-after-reads
 
--- src/lib.rt:408:9
 word-at-requires : tie.Need-word-at-requires
 word-at-requires c κs = search needs
 
--- src/lib.rt:410:9
 halted-requires : tie.Need-halted-requires
 halted-requires c κs = search needs
 
--- src/lib.rt:410:9
 returns : tie.Need-returns
 returns c =
     let at-place = c .before .before .before in
@@ -29,35 +19,27 @@ returns c =
     carry-stopped _ _ _ _ (start .args .frame .positive) _ _ _ (at-place .word-at .ensures) _ (c .before .if1 .taken)
     (halts _ (start .args .frame) _ _ _ (start .pre .0) (start .pre .1 .0) (c .halted .ensures))
 
--- src/lib.rt:412:9
 word-at-requires-2 : tie.Need-word-at-requires-2
 word-at-requires-2 c κs = search needs
 
--- src/lib.rt:413:9
 word-at-requires-3 : tie.Need-word-at-requires-3
 word-at-requires-3 c κs = search needs
 
--- src/lib.rt:414:9
 word-at-requires-4 : tie.Need-word-at-requires-4
 word-at-requires-4 c κs = search needs
 
--- src/lib.rt:415:9
 minus-requires : tie.Need-minus-requires
 minus-requires c κs = search needs
 
--- src/lib.rt:416:5
 put-word-requires : tie.Need-put-word-requires
 put-word-requires c κs = search needs
 
--- src/lib.rt:417:5
 put-word-requires-2 : tie.Need-put-word-requires-2
 put-word-requires-2 c κs = search needs
 
--- src/lib.rt:418:9
 positive-after-requires : tie.Need-positive-after-requires
 positive-after-requires c κs = search needs
 
--- src/lib.rt:392:1
 returns-2 : tie.Need-returns-2
 returns-2 c =
     let at-put = c .before .before .before in

@@ -7,24 +7,13 @@ use Rattle.solve_finish.proofs.InPlace.{halts, going-small, going-turns
 use borrow.Author.Needs.{needs}
 use Rattle.solve_finish.proofs.turn_on.Statement.{statement}
 use Rattle.solve_finish.proofs.turn_on.Tie as tie
-use Rattle.solve_finish.proofs.turn_on.Reads as reads
-use Rattle.solve_finish.proofs.turn_on.Lts as lts
-use Rattle.move_edges.proofs.positive_lent.Reads as positive-lent-reads
-use Rattle.move_turn.proofs.change_lent.Reads as change-lent-reads
-use Rattle.solve_finish.proofs.all_small_lent.Reads as all-small-lent-reads
-use Rattle.solve_finish.proofs.halted.Reads as halted-reads
-use Rattle.solve_next.proofs.all_home.Reads as all-home-reads
-use Rattle.solve_walk.proofs.cycle.Reads as cycle-reads
 
--- src/lib.rt:451:8
 all-home-requires : tie.Need-all-home-requires
 all-home-requires c κs = search needs
 
--- src/lib.rt:452:9
 halted-requires : tie.Need-halted-requires
 halted-requires c κs = search needs
 
--- src/lib.rt:452:9
 returns : tie.Need-returns
 returns c =
     let at-home = c .before .before in
@@ -33,46 +22,38 @@ returns c =
     turn-stopped _ _ _ _ _ _ (at-home .all-home .ensures) (c .before .if1 .taken)
     (halts _ (start .args .frame) _ _ _ (g .is-positive) (going-small _ _ _ _ _ _ _ _ g) (c .halted .ensures))
 
--- src/lib.rt:454:9
 cycle-requires : tie.Need-cycle-requires
 cycle-requires c κs =
     let g = c .before .before .before .before .before .before .before .before .before .pre in
     (going-vertices _ _ _ _ _ _ _ _ g, (going-charted _ _ _ _ _ _ _ _ g, going-source _ _ _ _ _ _ _ _ g))
 
--- src/lib.rt:465:17
 cast-count : tie.Need-cast-count
 cast-count c = search needs
 
--- src/lib.rt:474:9
 array-share-prefix-steps : tie.Need-array-share-prefix-steps
 array-share-prefix-steps c =
     let at-cycle = c .before .before in
     let g = at-cycle .before .before .before .before .before .before .before .before .before .before .pre in
     going-fits _ _ _ _ _ _ _ _ g _ (at-cycle .cycle .ensures)
 
--- src/lib.rt:474:9
 slice-aggregate-change-lent : tie.Need-slice-aggregate-change-lent
 slice-aggregate-change-lent c =
     let at-cycle = c .before .before .before in
     let g = at-cycle .before .before .before .before .before .before .before .before .before .before .pre in
     sym (length-take-le _ _ (going-fits _ _ _ _ _ _ _ _ g _ (at-cycle .cycle .ensures)))
 
--- src/lib.rt:466:9
 change-lent-requires : tie.Need-change-lent-requires
 change-lent-requires c κs =
     let at-cycle = c .before .before .before .before in
     let g = at-cycle .before .before .before .before .before .before .before .before .before .before .pre in
     going-turns _ _ _ _ _ _ _ _ g
 
--- src/lib.rt:478:9
 positive-lent-requires : tie.Need-positive-lent-requires
 positive-lent-requires c κs = search needs
 
--- src/lib.rt:479:9
 all-small-lent-requires : tie.Need-all-small-lent-requires
 all-small-lent-requires c κs = search needs
 
--- src/lib.rt:434:1
 returns-2 : tie.Need-returns-2
 returns-2 c =
     let at-positive = c .before .before in
