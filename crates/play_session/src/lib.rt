@@ -1,17 +1,23 @@
 // The program `play` over pieces of its input.
 use board::Board;
 use board::Played;
+use journal::Done;
+use journal::Table;
+use journal::WORDS;
 use load::Loaded;
 use play_lines::Form;
 use play_lines::Scan;
 use solve_next::Suggestion;
 ghost use mathlib.Core.Path.{_≡_};
-ghost use mathlib.Core.Bool.{false};
-ghost use Prim.Native.Nat.{min, _+_, _≤_};
+ghost use mathlib.Core.Bool.{true, false};
+ghost use mathlib.Core.List.{List, []};
+ghost use Prim.Native.Nat.{ℕ, min, _+_, _-_, _≤_};
 ghost use lib.Dec.{leb, eqb};
 ghost use lib.ListN.{length};
 ghost use lib.Seq.{sets};
 ghost use Rattle.lists.specs.Choice.{pick};
+ghost use Rattle.board.specs.Limits.{maxMoves};
+ghost use Rattle.journal.specs.Words.{wholeOf, givenOf, noWords, blankFrom, packedOn};
 ghost use Rattle.solve_next.specs.Hints.{hintRefusal, hintCall};
 ghost use Rattle.solve_finish.specs.Finishes.{finishCall};
 ghost use Rattle.load.specs.Load.{loadText};
@@ -44,6 +50,7 @@ ghost use Rattle.play_session.specs.Machine.{
   fedSession,
   fedTold,
 };
+ghost use Rattle.play_session.specs.Lent.{sessionOf};
 
 // The board is read, lines are played, or the board was refused; how many lines of the board are still to come, 0
 // before the first has ended; the text of the board as far as it is kept; the line as far as it was read; and the
@@ -57,6 +64,16 @@ pub struct Session {
     pub board: Board,
 }
 
+// The same with the journal lent: the board is without it.
+pub struct Sitting {
+    pub stage: u32,
+    pub left: u32,
+    pub used: usize,
+    pub text: [u8; Sitting::TEXT],
+    pub scan: Scan,
+    pub board: Table,
+}
+
 // The session behind a line feed, and how many bytes were printed.
 pub struct AfterLine {
     pub session: Session,
@@ -66,6 +83,18 @@ pub struct AfterLine {
 // The session behind a piece of the input, how many bytes of the piece were taken, and how many were printed.
 pub struct Fed {
     pub session: Session,
+    pub taken: usize,
+    pub used: usize,
+}
+
+// The same of a session whose journal is lent.
+pub struct SittingAfter {
+    pub session: Sitting,
+    pub used: usize,
+}
+
+pub struct SittingFed {
+    pub session: Sitting,
     pub taken: usize,
     pub used: usize,
 }
@@ -101,11 +130,53 @@ impl Session {
     }
 }
 
+impl Sitting {
+    // No board text is longer.
+    pub const TEXT: usize = 2048;
+
+    // The most that a line's answer takes: a number, and the longest report.
+    pub const OUTPUT: usize = 8291;
+
+    // The stages.
+    pub const READING: u32 = 0;
+
+    pub const PLAYING: u32 = 1;
+
+    pub const OVER: u32 = 2;
+
+    // Nothing was read yet, and the journal is empty.
+    pub fn start() -> Sitting
+        ensures { λ r. ⌜ sessionOf r noWords ≡ newSession ⌝ }
+    {
+        let scan = Scan::none();
+        let board = Table::closed();
+        Sitting {
+            stage: Sitting::READING,
+            left: 0,
+            used: 0,
+            text: [0; Sitting::TEXT],
+            scan: scan,
+            board: board,
+        }
+    }
+}
+
 // The number for a turn whose steps were not all kept.
 fn unkept(board: Board, form: Form) -> u32
     ensures { λ r. ⌜ r ≡ unkept board form ⌝ }
 {
     if !move_guard::playing(board) {
+        return 20;
+    }
+    let net = board.network;
+    if form.greatest < net.edges { 7 } else { 6 }
+}
+
+// The same of a board whose journal is lent.
+fn unkept_lent(board: Table, journal: &[[u64; WORDS]; Board::JOURNAL], form: Form) -> u32
+    ensures { λ r. ⌜ r ≡ unkept (wholeOf board (now (journal .entry))) form ⌝ }
+{
+    if !move_guard::playing_lent(board, journal) {
         return 20;
     }
     let net = board.network;
@@ -141,6 +212,26 @@ fn finish_replied(board: Board) -> Played
         answer: finished.answer,
         board: last,
     }
+}
+
+// Where the places behind so many moves begin.
+fn behind(moves: u32) -> usize
+    ensures { λ r. ⌜ r ≡ min moves maxMoves ⌝ }
+{
+    if moves < Board::JOURNAL as u32 {
+        moves as usize
+    } else {
+        Board::JOURNAL
+    }
+}
+
+// Blanks the places behind so many moves.
+fn wipe_behind(moves: u32, journal: &mut [[u64; WORDS]; Board::JOURNAL])
+    ensures { λ _. ⌜ now (journal .exit) ≡ packedOn (maxMoves - moves) moves [] (now (journal .entry)) ⌝ }
+    ensures { λ _. ⌜ ((k : ℕ) → blankFrom k moves (now (journal .exit)) ≡ true) ⌝ }
+{
+    let from = behind(moves);
+    journal::wipe(journal, from, Board::JOURNAL - from);
 }
 
 // What a line that asks for no hint is answered with, and the board after it.
@@ -239,9 +330,33 @@ fn text_grown(session: Session, bytes: &[u8]) -> Session
     next
 }
 
+// The same, whatever words are lent.
+fn text_grown_lent(session: Sitting, bytes: &[u8]) -> Sitting
+    ensures { λ r. ⌜ ((w : List (List ℕ)) → sessionOf r w ≡ textGrown (sessionOf session w) (now (bytes .entry))) ⌝ }
+{
+    let text = session.text;
+    let kept = put_bytes(text, session.used, bytes);
+    let used = used_after(session.used, bytes.len());
+    let mut next = session;
+    next.used = used;
+    next.text = kept;
+    next
+}
+
 // Bytes of a line of the play.
 fn scan_grown(session: Session, bytes: &[u8]) -> Session
     ensures { λ r. ⌜ r ≡ scanGrown session (now (bytes .entry)) ⌝ }
+{
+    let scan = session.scan;
+    let read = play_lines::read_on(scan, bytes);
+    let mut next = session;
+    next.scan = read;
+    next
+}
+
+// The same, whatever words are lent.
+fn scan_grown_lent(session: Sitting, bytes: &[u8]) -> Sitting
+    ensures { λ r. ⌜ ((w : List (List ℕ)) → sessionOf r w ≡ scanGrown (sessionOf session w) (now (bytes .entry))) ⌝ }
 {
     let scan = session.scan;
     let read = play_lines::read_on(scan, bytes);
@@ -263,6 +378,19 @@ fn grown(session: Session, bytes: &[u8]) -> Session
     session
 }
 
+// The same, whatever words are lent.
+fn grown_lent(session: Sitting, bytes: &[u8]) -> Sitting
+    ensures { λ r. ⌜ ((w : List (List ℕ)) → sessionOf r w ≡ grown (sessionOf session w) (now (bytes .entry))) ⌝ }
+{
+    if session.stage == Sitting::READING {
+        return text_grown_lent(session, bytes);
+    }
+    if session.stage == Sitting::PLAYING {
+        return scan_grown_lent(session, bytes);
+    }
+    session
+}
+
 // How many bytes of the text are kept.
 fn kept(used: usize) -> usize
     ensures { λ r. ⌜ r ≡ min used textSpace ⌝ }
@@ -277,6 +405,19 @@ fn kept(used: usize) -> usize
 // How many lines of the board are still to come behind one that has ended. The first one says how many there are.
 fn lines_left(session: Session) -> u32
     ensures { λ r. ⌜ r ≡ linesLeft session ⌝ }
+{
+    if session.left != 0 {
+        return session.left - 1;
+    }
+    let text = session.text;
+    let used = kept(session.used);
+    let wanted = sheet_output::lines_wanted(&text[..used]);
+    lists::minus(wanted, 1)
+}
+
+// The same, whatever words are lent.
+fn lines_left_lent(session: Sitting) -> u32
+    ensures { λ r. ⌜ ((w : List (List ℕ)) → r ≡ linesLeft (sessionOf session w)) ⌝ }
 {
     if session.left != 0 {
         return session.left - 1;
