@@ -47,7 +47,7 @@ module _ (steps codes : List ℕ) (i : ℕ) where
       let three : i + 3 ≡ suc (suc (suc i)) = omega arith in
       rw (one, two, three, drop-cons codes i 0 (omega arith), drop-cons codes (suc i) 0 (omega arith), drop-cons codes (suc (suc i)) 0 (omega arith))
 
-  calls-turn : i + 3 ≤ length codes
+  pub calls-turn : i + 3 ≤ length codes
       → callsOf steps (drop i codes) ≡ callOf steps (getD codes i 0) (getD codes (i + 1) 0) (getD codes (i + 2) 0) ∷ callsOf steps (drop (i + 3) codes)
   unfolding callsOf
   calls-turn h = rw (three-left h)
@@ -78,7 +78,7 @@ module _ (steps codes : List ℕ) (left : ℕ) where
   abbrev pub calls : List Call
   calls = callsOf steps (drop (length codes - left) codes)
 
-  calls-none : left < 3 → calls ≡ []
+  pub calls-none : left < 3 → calls ≡ []
   calls-none h = calls-few steps (drop at codes) (rw (length-drop at codes) (omega arith))
 
   module _ (b : Board) where

@@ -17,7 +17,7 @@ use Rattle.board.specs.declared.Played.{Played}
 use Rattle.graph_flows.specs.Trails.{Step}
 use Rattle.text_rules.specs.Rules.{lawful}
 use Rattle.text_rules.proofs.Meaning.{lawful-tested}
-use Rattle.text.specs.Results.{writable, writeText, written}
+use Rattle.text.specs.Results.{writable, writeText, written, writeTextIn, writtenIn}
 use Rattle.text.specs.declared.Written.{Written}
 use Rattle.load.proofs.Loads.{load-refused}
 use Rattle.move_guard.specs.Guard.{intact, loaded, playing}
@@ -106,7 +106,7 @@ unfolding closedBoard unreported started loaded both pick
 not-reported = refl
 
 closed-writer : (buf : List ℕ) → (writeText closedBoard (length buf) ≡ record { answer = 29; used = 0 }) × (written closedBoard buf ≡ buf)
-unfolding writeText written pick
+unfolding writeTextIn writtenIn pick
 closed-writer buf = (rw not-writable, rw not-writable)
 
 closed-sheet : (buf : List ℕ) → (sheetCall closedBoard (length buf) ≡ record { answer = 29; used = 0 }) × (sheeted closedBoard buf ≡ buf)
@@ -175,7 +175,7 @@ finish-same b h = go (known (eqb (finishRefusal b) 0))
         same ∙ (λ j. record { answer = ap (λ (f : Finished). f .answer) (sym same) j; count = 0; board = b })
 
 writer-same : (b : Board) (buf : List ℕ) → writeText b (length buf) .answer ≢ 0 → written b buf ≡ buf
-unfolding written
+unfolding writtenIn
 writer-same b buf h = pick-no _ _ _ (ne-eqb _ 0 h)
 
 catalog-same : (k : ℕ) (buf : List ℕ) → catalogCall k (length buf) .answer ≢ 0 → catalogued k buf ≡ buf

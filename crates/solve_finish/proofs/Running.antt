@@ -58,13 +58,13 @@ pub record Run (whole : Board) (net : Network) (last : Board) (flows : List ℕ)
   pub long : length flows ≡ maxEdges
   pub short : length places ≡ maxTerminals
   pub sized : PartsSized net
-  pub room : length (last .journal) ≡ maxMoves
+  pub room : length (last .journal) ≡ length (whole .journal)
 
 pub run-starts : (b : Board) → playing b ≡ true → length (b .flows) ≡ maxEdges → length (b .places) ≡ maxTerminals → PartsSized (b .network)
-    → length (b .journal) ≡ maxMoves → Run b (b .network) b (b .flows) (b .marks) (b .places) (b .moves) maxMoves
+    → Run b (b .network) b (b .flows) (b .marks) (b .places) (b .moves) maxMoves
 unfolding playedOut
-run-starts b play long short sized room =
-    record { run = refl; play = λ n. play; network = refl; long = long; short = short; sized = sized; room = room }
+run-starts b play long short sized =
+    record { run = refl; play = λ n. play; network = refl; long = long; short = short; sized = sized; room = refl }
 
 -- the next move of the run, where one is left
 pub record Next (net : Network) (flows : List ℕ) (marks : ℕ) (places : List ℕ) (left : ℕ) (made : Made) : Type 0 where
@@ -92,6 +92,12 @@ module _ (whole : Board) (net : Network) (last : Board) (flows : List ℕ) (mark
       room = r .room;
     }
 
+    -- an accepted move leaves the rest of the run
+    pub run-rest : made .change .answer ≡ 0
+        → let c = made .change in
+        steppedOn (left - 1) (moved (standing last flows marks places moves) (c .flows) (c .marks) (c .places) (c .entry)) ≡ playedOut whole
+    run-rest z = sym (on-goes left (standing last flows marks places moves) _ (omega (arith, n)) (fol .made z)) ∙ r .run
+
     pub run-made : (new : Board) (left' : ℕ) → made .change .answer ≡ 0 → length (made .change .places) ≡ maxTerminals
         → new ≡ journaled last (set (last .journal) moves (made .change .entry))
         → left' ≡ leftAfter left (moves + 1) (made .small)
@@ -109,12 +115,12 @@ module _ (whole : Board) (net : Network) (last : Board) (flows : List ℕ) (mark
         goes-on = fol .stays z ∙ rw (a .smalls) refl
 
         rest : steppedOn (left - 1) next ≡ playedOut whole
-        rest = sym (on-goes left (standing last flows marks places moves) next (omega (arith, n)) (fol .made z)) ∙ r .run
+        rest = run-rest z
 
         long : length (c .flows) ≡ maxEdges
         long = fol .size ∙ r .long
 
-        room : length (set (last .journal) moves (c .entry)) ≡ maxMoves
+        room : length (set (last .journal) moves (c .entry)) ≡ length (whole .journal)
         room = length-set (last .journal) moves (c .entry) ∙ r .room
 
         go : Known (both (leb (moves + 1) maxMoves) (made .small))
@@ -137,7 +143,7 @@ module _ (whole : Board) (net : Network) (last : Board) (flows : List ℕ) (mark
 module _ (whole : Board) (net : Network) (last : Board) (flows : List ℕ) (marks : ℕ) (places : List ℕ) (moves left : ℕ)
     (r : Run whole net last flows marks places moves left) (z : left ≡ 0) (play : playing whole ≡ true) (home : Bool)
     (h : home ≡ allHomeIn (net .terminals) (net .source) places) where
-  over : standing last flows marks places moves ≡ playedOut whole
+  pub over : standing last flows marks places moves ≡ playedOut whole
   unfolding steppedOn
   over = rw z at (r .run)
 

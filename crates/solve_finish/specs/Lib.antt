@@ -1,2 +1,3 @@
 pub mod Finishes
+pub mod Lent
 pub mod Run

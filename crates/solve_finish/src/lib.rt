@@ -5,12 +5,16 @@ use board::Entry;
 use board::Move;
 use board::Network;
 use board::Relocation;
+use journal::Table;
+use journal::WORDS;
 use move_guard::Change;
 ghost use mathlib.Core.Path.{_≡_};
 ghost use mathlib.Core.Bool.{true};
 ghost use Rattle.move_edges.specs.Incidence.{Incident, PositiveSet};
 ghost use Rattle.move_guard.specs.Moved.{unchanged};
+ghost use Rattle.journal.specs.Words.{wordsAfter};
 ghost use Rattle.solve_finish.specs.Finishes.{finishCall};
+ghost use Rattle.solve_finish.specs.Lent.{endedOf, finishOn};
 ghost use Rattle.solve_finish.specs.Run.{
   allSmall,
   positiveAfter,
@@ -28,6 +32,13 @@ pub struct Finished {
     pub answer: u32,
     pub count: u32,
     pub board: Board,
+}
+
+// The same of a board whose journal is lent.
+pub struct Ended {
+    pub answer: u32,
+    pub count: u32,
+    pub board: Table,
 }
 
 // A move of the solver: what it changes, the positive edges after it, and whether the flows are small then.
@@ -317,6 +328,83 @@ pub fn finish(board: Board) -> Finished
     last.stage = Board::FINISHED;
     last.finish_from = from;
     Finished {
+        answer: 0,
+        count: count,
+        board: last,
+    }
+}
+
+// Plays to the end, and answers how many moves that took. A move is stored into a blank place alone. Where a place is
+// not blank, or the run ends with a terminal away, the places that were filled are blanked again.
+pub fn finish_lent(board: Table, journal: &mut [[u64; WORDS]; Board::JOURNAL]) -> Ended
+    ensures { λ r. ⌜ endedOf r (now (journal .exit)) ≡ finishOn board (now (journal .entry)) ⌝ }
+    ensures { λ _. ⌜ now (journal .exit) ≡
+        wordsAfter (board .moves) (finishOn board (now (journal .entry)) .board) (now (journal .entry)) ⌝ }
+{
+    if !move_guard::playing_lent(board, journal) {
+        return Ended {
+            answer: 20,
+            count: 0,
+            board: board,
+        };
+    }
+    let net = board.network;
+    let mut flows = board.flows;
+    let mut marks = board.marks;
+    let mut places = board.places;
+    let from = board.moves;
+    let tails = net.tails;
+    let heads = net.heads;
+    let leaving = move_edges::at_vertices(tails);
+    let entering = move_edges::at_vertices(heads);
+    let mut moves = from;
+    let mut positive = move_edges::positive(flows);
+    let mut left = Board::JOURNAL as u32;
+    while left != 0 {
+        let made = advance(net, &leaving, &entering, flows, marks, places, positive);
+        let change = made.change;
+        if change.answer != 0 {
+            left = 0;
+            continue;
+        }
+        let m = moves as usize;
+        if !journal::is_blank(journal, m) {
+            let count = lists::minus(moves, from);
+            journal::wipe(journal, from as usize, count as usize);
+            return Ended {
+                answer: 20,
+                count: 0,
+                board: board,
+            };
+        }
+        let entry = change.entry;
+        journal::put_entry(journal, m, entry);
+        let new_flows = change.flows;
+        let new_places = change.places;
+        flows = new_flows;
+        marks = change.marks;
+        places = new_places;
+        positive = made.positive;
+        moves += 1;
+        left = left_after(left, moves, made.small);
+    }
+    let count = lists::minus(moves, from);
+    if !solve_next::all_home(&places, net.terminals, net.source) {
+        journal::wipe(journal, from as usize, count as usize);
+        return Ended {
+            answer: 20,
+            count: 0,
+            board: board,
+        };
+    }
+    let mut last = board;
+    last.flows = flows;
+    last.marks = marks;
+    last.places = places;
+    last.moves = moves;
+    last.stage = Board::FINISHED;
+    last.finish_from = from;
+    Ended {
         answer: 0,
         count: count,
         board: last,

@@ -39,16 +39,21 @@ writable stage net = both (both (leb playStage stage) (leb stage finishedStage))
 abbrev pub unwritten : ℕ → Written
 unwritten n = record { answer = n; used = 0 }
 
--- writing into a buffer of n bytes: 29 where no board was loaded, then 8, else 0 and the length of the text
-unfoldable pub writeText : Board → ℕ → Written
-writeText b n =
-    pick (writable (b .stage) (b .network))
-    (pick (leb (length (textOf (b .network))) n)
-    (record { answer = 0; used = length (textOf (b .network)) })
-    (unwritten 8))
+-- writing into a buffer of n bytes: 29 where no board was loaded, then 8, else 0 and the length of the text; by the stage and the network
+unfoldable pub writeTextIn : ℕ → Network → ℕ → Written
+writeTextIn stage net n =
+    pick (writable stage net)
+    (pick (leb (length (textOf net)) n) (record { answer = 0; used = length (textOf net) }) (unwritten 8))
     (unwritten 29)
 
 -- the buffer then: the text with the bytes past it kept, or as it was
-unfoldable pub written : Board → List ℕ → List ℕ
-written b buf =
-    pick (eqb (writeText b (length buf) .answer) 0) (textOf (b .network) ++ drop (length (textOf (b .network))) buf) buf
+unfoldable pub writtenIn : ℕ → Network → List ℕ → List ℕ
+writtenIn stage net buf =
+    pick (eqb (writeTextIn stage net (length buf) .answer) 0) (textOf net ++ drop (length (textOf net)) buf) buf
+
+-- the same of a board
+abbrev pub writeText : Board → ℕ → Written
+writeText b n = writeTextIn (b .stage) (b .network) n
+
+abbrev pub written : Board → List ℕ → List ℕ
+written b buf = writtenIn (b .stage) (b .network) buf

@@ -14,7 +14,7 @@ use Rattle.board.specs.declared.Board.{Board}
 use Rattle.text_rules.specs.Rules.{lawful}
 use Rattle.text_rules.proofs.Meaning.{lawful-tested}
 use Rattle.text.specs.Text.{textOf}
-use Rattle.text.specs.Results.{readText, writable, writeText, written}
+use Rattle.text.specs.Results.{readText, writable, writeText, written, writeTextIn, writtenIn}
 use Rattle.text.proofs.Accepted.{acceptedAs, accepted-text}
 
 writable-stage : (stage : ℕ) (net : Network) → (playStage ≤ stage) × (stage ≤ finishedStage) → lawful net ≡ true → writable stage net ≡ true
@@ -23,7 +23,7 @@ writable-stage stage net h l = both-true _ _ (both-true _ _ (le-leb _ _ (h .0)) 
 
 writes : (b : Board) (buf : List ℕ) → writable (b .stage) (b .network) ≡ true → length (textOf (b .network)) ≤ length buf
     → (writeText b (length buf) ≡ record { answer = 0; used = length (textOf (b .network)) }) × (written b buf ≡ textOf (b .network) ++ drop (length (textOf (b .network))) buf)
-unfolding writeText written pick
+unfolding writeTextIn writtenIn pick
 writes b buf l fits = let e = le-leb (length (textOf (b .network))) (length buf) fits in (rw (l, e), rw (l, e))
 
 -- at every stage of play, into any buffer that is long enough, the text that was loaded, with the bytes past it kept
@@ -37,7 +37,7 @@ writes-loaded s b buf h stage fits =
 -- a buffer that is too short for the text is refused, and nothing is written
 refuses-short : (b : Board) (buf : List ℕ) → writable (b .stage) (b .network) ≡ true → length buf < length (textOf (b .network))
     → (writeText b (length buf) ≡ record { answer = 8; used = 0 }) × (written b buf ≡ buf)
-unfolding writeText written pick
+unfolding writeTextIn writtenIn pick
 refuses-short b buf l short = let e = lt-leb (length (textOf (b .network))) (length buf) short in (rw (l, e), rw (l, e))
 
 pub short-refused : (s : List ℕ) (b : Board) (buf : List ℕ) → readText s ≡ acceptedAs (b .network) → (playStage ≤ b .stage) × (b .stage ≤ finishedStage)

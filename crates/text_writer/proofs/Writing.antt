@@ -15,11 +15,10 @@ use Rattle.decimal.specs.Decimal.{decimal}
 use Rattle.text.specs.Text.{numbersText, lineText, linesText, headRow, edgeRow, terminalRow, textOf}
 use borrow.Author.Tests.{leb-true, le-leb, lt-leb}
 use Rattle.lists.proofs.Laws.{both-left, both-right}
-use Rattle.board.specs.declared.Board.{Board}
 use Rattle.board.specs.declared.Network.{Network}
 use Rattle.board.specs.Limits.{maxEdges, maxTerminals}
 use Rattle.text_rules.specs.Rules.{lawful}
-use Rattle.text.specs.Results.{writable, writeText, written}
+use Rattle.text.specs.Results.{writable, writeTextIn, writtenIn}
 use Rattle.text.proofs.Ends.{end-after}
 
 pub sets-append : (xs l ys : List ℕ) (i : ℕ) → sets l i (xs ++ ys) ≡ sets (sets l i xs) (i + length xs) ys
@@ -116,23 +115,20 @@ writable-counts stage net h =
     (leb-true _ _ (both-right _ _ (both-left _ _ rest)), leb-true _ _ (both-right _ _ (both-left _ _ (both-right _ _ rest))))
 
 -- the writer's three answers
-module _ (b : Board) (buf : List ℕ) where
-  abbrev the-text : List ℕ
-  the-text = textOf (b .network)
-
-  pub write-closed : writable (b .stage) (b .network) ≡ false → (record { answer = 29; used = 0 } ≡ writeText b (length buf)) × (buf ≡ written b buf)
-  unfolding writeText written pick
+module _ (stage : ℕ) (net : Network) (buf : List ℕ) where
+  pub write-closed : writable stage net ≡ false → (record { answer = 29; used = 0 } ≡ writeTextIn stage net (length buf)) × (buf ≡ writtenIn stage net buf)
+  unfolding writeTextIn writtenIn pick
   write-closed h = (rw h, rw h)
 
-  module _ (h : writable (b .stage) (b .network) ≡ true) where
-    pub write-short : length buf < length the-text → (record { answer = 8; used = 0 } ≡ writeText b (length buf)) × (buf ≡ written b buf)
-    unfolding writeText written pick
-    write-short less = let e = lt-leb (length the-text) (length buf) less in (rw (h, e), rw (h, e))
+  module _ (h : writable stage net ≡ true) where
+    pub write-short : length buf < length (textOf net) → (record { answer = 8; used = 0 } ≡ writeTextIn stage net (length buf)) × (buf ≡ writtenIn stage net buf)
+    unfolding writeTextIn writtenIn pick
+    write-short less = let e = lt-leb (length (textOf net)) (length buf) less in (rw (h, e), rw (h, e))
 
-    pub write-done : (n : ℕ) (out : List ℕ) → length the-text ≤ length buf → n ≡ length the-text → out ≡ sets buf 0 the-text
-        → (record { answer = 0; used = n } ≡ writeText b (length buf)) × (out ≡ written b buf)
-    unfolding writeText written pick
+    pub write-done : (n : ℕ) (out : List ℕ) → length (textOf net) ≤ length buf → n ≡ length (textOf net) → out ≡ sets buf 0 (textOf net)
+        → (record { answer = 0; used = n } ≡ writeTextIn stage net (length buf)) × (out ≡ writtenIn stage net buf)
+    unfolding writeTextIn writtenIn pick
     write-done n out fits p q =
-        let e = le-leb (length the-text) (length buf) fits in
-        let all = sets-eq the-text buf 0 (rw zero-add fits) in
+        let e = le-leb (length (textOf net)) (length buf) fits in
+        let all = sets-eq (textOf net) buf 0 (rw zero-add fits) in
         (rw (h, e, p), rw (h, e) (q ∙ (rw zero-add at all)))

@@ -1,6 +1,7 @@
 // Writing a board text: a network's lines into a buffer, and the call `write`.
 use board::Board;
 use board::Network;
+use journal::Table;
 use text::Written;
 ghost use mathlib.Core.Path.{_≡_};
 ghost use Prim.Native.Nat.{_+_, _*_, _≤_};
@@ -8,7 +9,7 @@ ghost use lib.ListN.{length};
 ghost use lib.Seq.{sets};
 ghost use Rattle.board.specs.Limits.{maxEdges, maxTerminals};
 ghost use Rattle.text.specs.Text.{lineText, linesText, edgeRow, terminalRow, textOf};
-ghost use Rattle.text.specs.Results.{writable, writeText, written};
+ghost use Rattle.text.specs.Results.{writable, writeText, written, writeTextIn, writtenIn};
 
 // ---- The text of a network, written into a buffer. A byte past the end of the buffer is dropped, so writing into a
 // short buffer measures the text.
@@ -118,6 +119,27 @@ pub fn write(b: Board, buf: &mut [u8]) -> Written
 {
     let net = b.network;
     if !writable(b.stage, net) {
+        return Written::refused(29);
+    }
+    let mut none = [0u8; 1];
+    let length = put_text(&mut none, net);
+    if buf.len() < length {
+        return Written::refused(8);
+    }
+    let used = put_text(buf, net);
+    Written {
+        answer: 0,
+        used: used,
+    }
+}
+
+// The same of a board without its journal.
+pub fn write_lent(board: Table, buf: &mut [u8]) -> Written
+    ensures { λ r. ⌜ r ≡ writeTextIn (board .stage) (board .network) (length (now (buf .entry))) ⌝ }
+    ensures { λ _. ⌜ now (buf .exit) ≡ writtenIn (board .stage) (board .network) (now (buf .entry)) ⌝ }
+{
+    let net = board.network;
+    if !writable(board.stage, net) {
         return Written::refused(29);
     }
     let mut none = [0u8; 1];

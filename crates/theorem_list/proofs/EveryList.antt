@@ -27,9 +27,12 @@ use Rattle.solve_next.specs.declared.Suggestion.{Suggestion}
 use Rattle.solve_next.specs.Hints.{hintRefusal}
 use Rattle.theorem_keep.proofs.Standing.{Standing, standing-playing}
 use Rattle.move_list.specs.Calls.{Call, carry, turn, undo, hint, made, played, answers, hintedBy, hintsOf}
+use Rattle.journal.specs.Words.{noWords, packedAll}
+use Rattle.move_list.specs.Words.{wordsPlayed}
 use Rattle.theorem_list.specs.Player.{listedAll, afresh, saysTo, standingAfter, standingMoves, says, suggests}
 use Rattle.theorem_list.specs.Faithful.{Faithful}
 use Rattle.theorem_list.proofs.Finish.{finish-completes, hint-taken}
+use Rattle.theorem_list.proofs.Words.{calls-kept, blank-words}
 use Rattle.theorem_list.proofs.Stands.{
   AcceptedMove,
   carry-move-accepted,
@@ -182,6 +185,14 @@ module _ (text : List ℕ) (loads : loadText text .answer ≡ 0) where
       ap (λ (b : Board). hintsOf b cs) (q .board) ∙ same-hints (standingAfter text ms c) cs (q .stands) in
       ap (λ (hs : List Suggestion). hintedBy (afresh text ms) c ++ hs) rest
 
+  -- the board that the text gave is the player's before any call
+  start : played (loadText text .board) ≡ played (afresh text [])
+  unfolding afresh listedAll
+  start = refl
+
+  words : (cs : List Call) → wordsPlayed (loadText text .board) cs noWords ≡ packedAll (afresh text (standingMoves text [] cs) .journal)
+  words cs = calls-kept text cs ∙ rw (start, same-board [] cs none)
+
   -- the player's board, after every list of calls
   faithful : (cs : List Call) → Faithful text cs (afresh text (standingMoves text [] cs))
   unfolding afresh listedAll
@@ -195,7 +206,9 @@ module _ (text : List ℕ) (loads : loadText text .answer ≡ 0) where
         again = sym (f .again);
         moves = f .moves;
         places = f .standing .inv .journal-size;
+        words = words cs;
         blanks = f .standing .inv .blanks;
+        blank-words = blank-words (afresh text (standingMoves text [] cs)) (wordsPlayed (loadText text .board) cs noWords) (words cs) (f .standing .inv .blanks);
         accepted-again = f .accepted;
         in-play = standing-playing (afresh text (standingMoves text [] cs)) (f .standing);
         none-over = rw (same-answers [] cs none) (none-over [] cs none);
@@ -203,11 +216,6 @@ module _ (text : List ℕ) (loads : loadText text .answer ≡ 0) where
         same-hints = same-hints [] cs none;
         finish = finish-completes (afresh text (standingMoves text [] cs)) (f .standing);
       }
-
-  -- the board that the text gave is the player's before any call
-  start : played (loadText text .board) ≡ played (afresh text [])
-  unfolding afresh listedAll
-  start = refl
 
 pub every-list : (text : List ℕ) (cs : List Call) → loadText text .answer ≡ 0 → Faithful text cs (played (loadText text .board) cs)
 every-list text cs loads = rw (start text loads, same-board text loads [] cs none) (faithful text loads cs)

@@ -9,6 +9,7 @@ pub mod Acts
 pub mod Finish
 pub mod HintFirst
 pub mod Stands
+pub mod Words
 pub mod EveryList
 pub mod Rooms
 pub mod Reports

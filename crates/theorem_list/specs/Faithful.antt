@@ -8,11 +8,13 @@ use Rattle.lists.specs.Members.{has}
 use Rattle.board.specs.Limits.{maxMoves}
 use Rattle.board.specs.Record.{blank}
 use Rattle.board.specs.declared.Board.{Board}
+use Rattle.journal.specs.Words.{blankWords, noWords, packedAll}
 use Rattle.load.specs.Load.{loadText}
 use Rattle.move_guard.specs.Guard.{playing}
 use Rattle.solve_finish.specs.Finishes.{finishCall}
 use Rattle.report_routes.specs.Routes.{route}
 use Rattle.move_list.specs.Calls.{Call, played, answers, hintsOf}
+use Rattle.move_list.specs.Words.{wordsPlayed}
 use Rattle.theorem_list.specs.Player.{afresh, standingMoves, says, suggests, routeOf}
 use Rattle.theorem_list.specs.Complete.{Complete}
 
@@ -27,9 +29,12 @@ pub record Faithful (text : List ℕ) (cs : List Call) (b : Board) : Type 0 wher
   -- "equals the one that a fresh load of the same text gives once the standing moves alone are called in order"
   pub again : b ≡ played (loadText text .board) (standingMoves text [] cs)
   pub moves : b .moves ≡ length (standingMoves text [] cs)
-  -- "The journal has 1,056 places"; "places beyond the standing moves all hold the same fixed blank"
+  -- "The journal has 1,056 places": in the words that were lent to the load and the calls each is packed of the journal's entry
   pub places : length (b .journal) ≡ maxMoves
+  pub words : wordsPlayed (loadText text .board) cs noWords ≡ packedAll (b .journal)
+  -- "places beyond the standing moves all hold the same fixed blank": of the entries, and of the words
   pub blanks : (i : ℕ) → b .moves ≤ i → getD (b .journal) i blank ≡ blank
+  pub blank-words : (i : ℕ) → b .moves ≤ i → getD (wordsPlayed (loadText text .board) cs noWords) i blankWords ≡ blankWords
   -- the standing moves are each accepted when they are called again
   pub accepted-again : answers (loadText text .board) (standingMoves text [] cs) ≡ replicate (length (standingMoves text [] cs)) 0
   -- play goes on, so that no answer was 20

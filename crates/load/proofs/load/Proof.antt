@@ -16,15 +16,15 @@ returns c = refused-load _ _ (c .before .before .before .read .ensures) _ (c .be
 acyclic-flows-requires : tie.Need-acyclic-flows-requires
 acyclic-flows-requires c κs = bounded _ _ (c .before .before .before .read .ensures) (c .before .if1 .left)
 
-opened-requires : tie.Need-opened-requires
-opened-requires c κs = search needs
+opened-board-requires : tie.Need-opened-board-requires
+opened-board-requires c κs = search needs
 
 returns-2 : tie.Need-returns-2
 returns-2 c =
     let at-acyclic-flows = c .before .acyclic-flows in
     let at-if1 = c .before .before .before .if1 in
     let at-read = c .before .before .before .before .before .read in
-    accepted-load _ _ (at-read .ensures) _ _ (at-if1 .left) (at-acyclic-flows .ensures) (c .opened .ensures)
+    accepted-load _ _ (at-read .ensures) _ _ (at-if1 .left) (at-acyclic-flows .ensures) (c .opened-board .ensures)
 
 pub load-spec : {M : Type 1} → statement M
 load-spec =
@@ -34,5 +34,5 @@ load-spec =
     closed-requires
     returns
     acyclic-flows-requires
-    opened-requires
+    opened-board-requires
     returns-2)

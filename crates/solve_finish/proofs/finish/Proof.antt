@@ -87,6 +87,12 @@ tested c =
 plays : (c : Begun) → playing (given (c .before)) ≡ true
 plays c = sym (tested (c .before)) ∙ not-false _ (c .if2 .left)
 
+-- what owning the board tells of its journal
+room : (c : Begun) → length (given (c .before) .journal) ≡ maxMoves
+room c =
+    let journal = c .before .before .before .before .before .before .before .before .before .before .good .0 .1 .1 .1 .1 .1 .1 .1 .1 .0 in
+    simp length-map at (journal .1 .0 .1)
+
 -- the whole run is left
 starts : (c : Begun)
     → let b = given (c .before) in Run b (b .network) b (b .flows) (b .marks) (b .places) (b .moves) maxMoves
@@ -95,7 +101,6 @@ starts c =
     let board = at-start .args .board in
     -- what owning the board tells of its fields, nested to the right
     let network = at-start .good .0 .1 .1 .1 in
-    let journal = network .1 .1 .1 .1 .1 .0 in
     let lists = network .0 .1 .1 .1 .1 .1 .1 in
     let long : length (board .flows) ≡ maxEdges = search needs in
     let short : length (board .places) ≡ maxTerminals = search needs in
@@ -104,8 +109,7 @@ starts c =
       heads = length-unmapped ℕ (board .network .heads) maxEdges (lists .1 .0 .1 .0 .1);
       demands = length-unmapped ℕ (board .network .demands) maxTerminals (lists .1 .1 .1 .1 .0 .1 .0 .1);
     } in
-    let room : length (board .journal) ≡ maxMoves = simp length-map at (journal .1 .0 .1) in
-    run-starts board (plays c) long short sized room
+    run-starts board (plays c) long short sized
 
 -- the place after an accepted move: the run has gone on, and fewer moves are left
 abbrev Moved : Type 0
@@ -121,10 +125,11 @@ goes-on c =
     let at-if3 = c .before .before .before .before in
     let at-test = at-if3 .before .before .before in
     let at-loop = at-test .before in
+    let begun = at-loop .before .before .before .before .before .before .before .before .before in
     let joined = c .before .before .before .if4 in
     run-made _ _ _ _ _ _ _ _ (at-loop .loop .inv .0) (at-test .loop-test .taken) (at-loop .loop .made) (at-loop .loop .inv .1 .makes (at-test .loop-test .taken))
     (joined .last) _ (at-if3 .if3 .left) (at-loop .loop .inv .1 .short)
-    (⊎-elim (λ w. w .2) (λ w. w .1 ∙ journal-past _ _ _ (omega (arith, at-loop .loop .inv .0 .room, w .0 .left))) (joined .came))
+    (⊎-elim (λ w. w .2) (λ w. w .1 ∙ journal-past _ _ _ (omega (arith, at-loop .loop .inv .0 .room, room begun, w .0 .left))) (joined .came))
     (c .left-after .ensures)
 
 goes-less : (c : Moved) → c .left-after .result < c .before .before .before .before .before .before .before .before .loop .left

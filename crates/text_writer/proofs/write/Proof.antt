@@ -18,7 +18,7 @@ returns : tie.Need-returns
 returns c =
     let tested = c .before in
     let at-writable = tested .before in
-    let closed = write-closed (at-writable .before .before .before .args .b) _ (sym (at-writable .writable .ensures) ∙ not-true _ (tested .if1 .taken)) in
+    let closed = write-closed _ _ _ (sym (at-writable .writable .ensures) ∙ not-true _ (tested .if1 .taken)) in
     (c .refused .ensures ∙ closed .0, closed .1)
 
 slice-aggregate-put-text : tie.Need-slice-aggregate-put-text
@@ -37,7 +37,7 @@ returns-2 c =
     let tested = at-put-text .before .before in
     let at-writable = tested .before in
     let args = at-writable .before .before .before .args in
-    let short = write-short (args .b) (args .buf .now) (sym (at-writable .writable .ensures) ∙ not-false _ (tested .if1 .left))
+    let short = write-short _ _ (args .buf .now) (sym (at-writable .writable .ensures) ∙ not-false _ (tested .if1 .left))
     (omega (arith, measured .if2 .taken, at-put-text .put-text .ensures .0)) in
     (c .refused2 .ensures ∙ short .0, short .1)
 
@@ -57,7 +57,7 @@ returns-3 c =
     let tested = at-put-text .before .before in
     let at-writable = tested .before in
     let args = at-writable .before .before .before .args in
-    write-done (args .b) (args .buf .now) (sym (at-writable .writable .ensures) ∙ not-false _ (tested .if1 .left)) _ _
+    write-done _ _ (args .buf .now) (sym (at-writable .writable .ensures) ∙ not-false _ (tested .if1 .left)) _ _
     (omega (arith, measured .if2 .left, at-put-text .put-text .ensures .0)) (at-put-text2 .put-text2 .ensures .0) (at-put-text2 .put-text2 .ensures .1)
 
 pub write-spec : {M : Type 1} → statement M
