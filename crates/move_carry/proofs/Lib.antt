@@ -1,2 +1,3 @@
 pub mod Same
 pub mod Makes
+pub mod Lent

@@ -1,2 +1,3 @@
 pub mod Opens
 pub mod Carries
+pub mod Numbers

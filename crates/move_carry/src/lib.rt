@@ -6,14 +6,19 @@ use board::Move;
 use board::Network;
 use board::Played;
 use board::Relocation;
+use journal::Done;
+use journal::Table;
+use journal::WORDS;
 use move_guard::Change;
 ghost use mathlib.Core.Path.{_≡_};
 ghost use lib.Dec.{ltb};
 ghost use lib.ListN.{getD};
 ghost use Rattle.lists.specs.Lists.{lowest};
+ghost use Rattle.journal.specs.Words.{wholeOf, givenOf, wordsAfter};
 ghost use Rattle.move_carry.specs.Opens.{flowFits, isOpenAt, hasOpenIn, someOpenIn};
 ghost use Rattle.move_guard.specs.Moved.{unchanged};
 ghost use Rattle.move_carry.specs.Carries.{carryRefusal, carryCall, carryRefusalIn, carriedIn, carryChange};
+ghost use Rattle.move_carry.specs.Numbers.{numberAt};
 
 // ---- Which carries are open.
 
@@ -258,5 +263,119 @@ pub fn carry(board: Board, i: u32, e: u32) -> Played
     Played {
         answer: c.answer,
         board: next,
+    }
+}
+
+// ---- The call `carry` with the journal lent.
+
+// 20, 6, 21, 22 or 23, in this order; 0 where the carry is accepted: by the numbers of the terminal and of the edge.
+fn number_at(
+    in_play: bool,
+    on_board: bool,
+    source: u32,
+    place: u32,
+    head: u32,
+    mark: bool,
+    flow: u32,
+    demand: u32,
+) -> u32
+    ensures { λ r. ⌜ r ≡ numberAt «in_play» «on_board» source place head mark flow demand ⌝ }
+{
+    if !in_play {
+        return 20;
+    }
+    if !on_board {
+        return 6;
+    }
+    if place == source {
+        return 21;
+    }
+    if head != place {
+        return 22;
+    }
+    if !flow_fits(mark, flow, demand) {
+        return 23;
+    }
+    0
+}
+
+// The same of the parts of a board.
+pub fn refusal_in<'a>(
+    in_play: bool,
+    net: Network,
+    flows: &'a [u32],
+    marks: EdgeSet,
+    places: &'a [u32],
+    i: u32,
+    e: u32,
+) -> u32
+    ensures { λ r. ⌜ r ≡ carryRefusalIn «in_play» net (now (flows .entry)) marks (now (places .entry)) i e ⌝ }
+{
+    let on_board = lists::and(i < net.terminals, e < net.edges);
+    let place = lists::word_at(places, i as usize);
+    let head = lists::word_at(&net.heads, e as usize);
+    let mark = sets::has(marks, e as usize);
+    let flow = lists::word_at(flows, e as usize);
+    let demand = lists::word_at(&net.demands, i as usize);
+    number_at(
+        in_play,
+        on_board,
+        net.source,
+        place,
+        head,
+        mark,
+        flow,
+        demand,
+    )
+}
+
+// Relocates terminal i over edge e, to its tail.
+pub fn carry_lent(
+    mut board: Table,
+    journal: &mut [[u64; WORDS]; Board::JOURNAL],
+    i: u32,
+    e: u32,
+) -> Done
+    ensures { λ r. ⌜ givenOf r (now (journal .exit)) ≡ carryCall (wholeOf board (now (journal .entry))) i e ⌝ }
+    ensures { λ _. ⌜ now (journal .exit) ≡
+        wordsAfter (board .moves) (carryCall (wholeOf board (now (journal .entry))) i e .board) (now (journal .entry)) ⌝ }
+{
+    let in_play = move_guard::playing_lent(board, journal);
+    let terminal = i as usize;
+    let edge = e as usize;
+    let on_board = lists::and(i < board.network.terminals, e < board.network.edges);
+    let place = lists::word_at(&board.places, terminal);
+    let head = lists::word_at(&board.network.heads, edge);
+    let mark = sets::has(board.marks, edge);
+    let flow = lists::word_at(&board.flows, edge);
+    let demand = lists::word_at(&board.network.demands, terminal);
+    let number = number_at(
+        in_play,
+        on_board,
+        board.network.source,
+        place,
+        head,
+        mark,
+        flow,
+        demand,
+    );
+    if number == 0 {
+        let tail = lists::word_at(&board.network.tails, edge);
+        let rest = lists::minus(flow, demand);
+        let m = board.moves as usize;
+        let entry = Entry {
+            step: Move::Carry(Relocation {
+                terminal: i,
+                edge: e,
+            }),
+        };
+        board.flows[edge] = rest;
+        board.places[terminal] = tail;
+        board.moves = board.moves + 1;
+        journal::put_entry(journal, m, entry);
+    }
+    Done {
+        answer: number,
+        board: board,
     }
 }

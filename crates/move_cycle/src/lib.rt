@@ -236,3 +236,17 @@ pub fn shifted(
     }
     new
 }
+
+// Lowers the flows by x on one set of edges, and raises them by x on another.
+pub fn shift(x: u32, downs: EdgeSet, ups: EdgeSet, flows: &mut [u32])
+    requires { ⌜ x ≤ maxTotal ⌝ }
+    requires { ⌜ AtMost maxTotal (now flows) ⌝ }
+    ensures { λ _. ⌜ now (flows .exit) ≡ shifted x downs ups (now (flows .entry)) ⌝ }
+{
+    let mut e: usize = 0;
+    while e < flows.len() {
+        let f = shifted_at(x, downs, ups, e, flows[e]);
+        flows[e] = f;
+        e += 1;
+    }
+}

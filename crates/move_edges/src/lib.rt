@@ -48,6 +48,19 @@ pub fn positive(flows: [u32; Board::MAX_EDGES]) -> EdgeSet
     m
 }
 
+// The same of flows that are lent.
+pub fn positive_lent(flows: &[u32; Board::MAX_EDGES]) -> EdgeSet
+    ensures { λ r. ⌜ PositiveSet (now (flows .entry)) r ⌝ }
+{
+    let mut m: EdgeSet = 0;
+    let mut e: usize = 0;
+    while e < Board::MAX_EDGES {
+        m = sets::with(m, 0 < flows[e], e);
+        e += 1;
+    }
+    m
+}
+
 // The set of the positive edges that have this end at v, and the empty set where there is no such vertex.
 pub fn touching(edges: &[EdgeSet], positive: EdgeSet, v: u32) -> EdgeSet
     ensures { λ r. ⌜ r ≡ touchingAt (now (edges .entry)) positive v ⌝ }

@@ -65,7 +65,7 @@ back-parts : (b : Board) (m : Move)
 back-parts b (Carry r) = refl
 back-parts b (Turn a) = refl
 
-back-accepted : (net : Network) (flows : List ℕ) (marks : ℕ) (places : List ℕ) (m : Move) → moveBack net flows marks places m .answer ≡ 0
+pub back-accepted : (net : Network) (flows : List ℕ) (marks : ℕ) (places : List ℕ) (m : Move) → moveBack net flows marks places m .answer ≡ 0
 back-accepted net flows marks places (Carry r) = refl
 back-accepted net flows marks places (Turn a) = refl
 

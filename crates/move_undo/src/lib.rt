@@ -7,12 +7,17 @@ use board::Move;
 use board::Network;
 use board::Played;
 use board::Relocation;
+use journal::Done;
+use journal::Table;
+use journal::WORDS;
 use move_guard::Change;
 ghost use mathlib.Core.Path.{_≡_};
 ghost use mathlib.Core.Bool.{true};
 ghost use Prim.Native.Nat.{_≤_};
+ghost use lib.ListN.{set};
 ghost use Rattle.board.specs.Limits.{maxTotal};
 ghost use Rattle.board.specs.declared.Move.the-variants.{Carry};
+ghost use Rattle.journal.specs.Words.{wholeOf, givenOf, wordsAfter};
 ghost use Rattle.move_cycle.specs.Inner.{AtMost};
 ghost use Rattle.move_undo.specs.Undone.{carryBack, turnBack, moveBack, undoRefusalIn, undoChange, undoCall};
 ghost use Rattle.move_undo.specs.Inner.{Small};
@@ -157,5 +162,57 @@ pub fn undo(board: Board) -> Played
     Played {
         answer: c.answer,
         board: next,
+    }
+}
+
+// ---- The call `undo` with the journal lent.
+
+// Stores a flow at e, and nothing past the end.
+fn store_flow(flows: &mut [u32; Board::MAX_EDGES], e: usize, flow: u32)
+    ensures { λ _. ⌜ now (flows .exit) ≡ set (now (flows .entry)) e flow ⌝ }
+{
+    lists::put_word(flows, e, flow);
+}
+
+// Stores a place at i, and nothing past the end.
+fn store_place(places: &mut [u32; Board::MAX_TERMINALS], i: usize, place: u32)
+    ensures { λ _. ⌜ now (places .exit) ≡ set (now (places .entry)) i place ⌝ }
+{
+    lists::put_word(places, i, place);
+}
+
+// Takes the last standing move back.
+pub fn undo_lent(mut board: Table, journal: &mut [[u64; WORDS]; Board::JOURNAL]) -> Done
+    ensures { λ r. ⌜ givenOf r (now (journal .exit)) ≡ undoCall (wholeOf board (now (journal .entry))) ⌝ }
+    ensures { λ _. ⌜ now (journal .exit) ≡
+        wordsAfter (board .moves) (undoCall (wholeOf board (now (journal .entry))) .board) (now (journal .entry)) ⌝ }
+{
+    let in_play = move_guard::playing_lent(board, journal);
+    let number = refusal(in_play, board.moves);
+    if number == 0 {
+        let last = journal::last_entry(journal, board.moves);
+        let step = last.step;
+        let rest = lists::minus(board.moves, 1);
+        board.moves = rest;
+        journal::put_entry(journal, rest as usize, Entry::blank());
+        match step {
+            Move::Carry(r) => {
+                let flow = lists::word_at(&board.flows, r.edge as usize);
+                let demand = lists::word_at(&board.network.demands, r.terminal as usize);
+                let head = lists::word_at(&board.network.heads, r.edge as usize);
+                store_flow(&mut board.flows, r.edge as usize, flow + demand);
+                store_place(&mut board.places, r.terminal as usize, head);
+            }
+            Move::Turn(a) => {
+                let flows = board.flows;
+                let shifted = move_cycle::shifted(a.amount, a.up, a.down, flows);
+                board.flows = shifted;
+                board.marks = sets::without(board.marks, a.marked);
+            }
+        }
+    }
+    Done {
+        answer: number,
+        board: board,
     }
 }

@@ -2,6 +2,8 @@
 use board::Board;
 use board::Entry;
 use board::Network;
+use journal::Table;
+use journal::WORDS;
 use text::Written;
 ghost use mathlib.Core.Path.{_≡_};
 ghost use mathlib.Core.List.{_∷_};
@@ -10,7 +12,9 @@ ghost use lib.Dec.{leb};
 ghost use lib.ListN.{length, getD, take};
 ghost use lib.Seq.{sets};
 ghost use Rattle.board.specs.Limits.{maxVertices, maxEdges, maxTerminals};
+ghost use Rattle.journal.specs.Words.{wholeOf};
 ghost use Rattle.text.specs.Text.{lineText, linesText};
+ghost use Rattle.move_guard.specs.Guard.{loaded};
 ghost use Rattle.report_routes.specs.Inner.{Moderate};
 ghost use Rattle.report.specs.Reports.{loadedIn, unreportedIn, sheetCall, sheeted, putCall, putIn};
 ghost use Rattle.report.specs.Rows.{tableRouteRow, tableLoadRow, tableText, Printable};
@@ -225,4 +229,169 @@ pub fn sheet(board: Board, buf: &mut [u8]) -> Written
     ensures { λ _. ⌜ now (buf .exit) ≡ sheeted board (now (buf .entry)) ⌝ }
 {
     put_sheet(buf, 0, true, board)
+}
+
+// ---- The same over a lent journal, with the tables lent.
+
+// Whether the board was loaded.
+fn loaded_lent(board: Table, journal: &[[u64; WORDS]; Board::JOURNAL]) -> bool
+    ensures { λ r. ⌜ r ≡ loaded (wholeOf board (now (journal .entry))) ⌝ }
+{
+    let net = board.network;
+    let acyclic = board.acyclic;
+    let flows = board.flows;
+    let places = board.places;
+    let last = journal::last_entry(journal, board.moves);
+    let step = last.step;
+    let sound = move_guard::intact_in(net, acyclic, flows, places, board.moves, step);
+    loaded_in(board.stage, sound)
+}
+
+// Writes the lines of the routes.
+fn put_routes_lent(
+    buf: &mut [u8],
+    at: usize,
+    counts: &[u32; Board::MAX_TERMINALS],
+    rows: &[[u32; Board::MAX_VERTICES as usize]; Board::MAX_TERMINALS],
+    terminals: u32,
+) -> usize
+    requires { ⌜ (at ≤ 100000)
+        × ((terminals ≤ maxTerminals) × ((i : ℕ) → i < terminals → getD (now counts) i 0 ≤ maxVertices)) ⌝ }
+    ensures { λ r. ⌜ r ≡ at
+        + length (linesText 77 (tableRouteRow (now (counts .entry)) (now (rows .entry))) 0 terminals) ⌝ }
+    ensures { λ r. ⌜ r ≤ at + 376 * maxTerminals ⌝ }
+    ensures { λ _. ⌜ now (buf .exit) ≡ sets (now (buf .entry)) at
+        (linesText 77 (tableRouteRow (now (counts .entry)) (now (rows .entry))) 0 terminals) ⌝ }
+{
+    let mut to = at;
+    let mut i: u32 = 0;
+    while i < terminals {
+        let count = counts[i as usize];
+        let edges = rows[i as usize];
+        to = put_route(buf, to, i, count, edges);
+        i += 1;
+    }
+    to
+}
+
+// Writes the lines of the loads.
+fn put_loads_lent(
+    buf: &mut [u8],
+    at: usize,
+    net: Network,
+    acyclic: &[u32; Board::MAX_EDGES],
+    counts: &[u32; Board::MAX_TERMINALS],
+    rows: &[[u32; Board::MAX_VERTICES as usize]; Board::MAX_TERMINALS],
+) -> usize
+    requires { ⌜ (at ≤ 100000)
+        × ((net .edges ≤ maxEdges) × ((net .terminals ≤ maxTerminals) × Moderate (net .demands))) ⌝ }
+    ensures { λ r. ⌜ r ≡ at + length (linesText 76
+        (tableLoadRow net (now (acyclic .entry)) (now (counts .entry)) (now (rows .entry))) 0 (net .edges)) ⌝ }
+    ensures { λ r. ⌜ r ≤ at + 35 * maxEdges ⌝ }
+    ensures { λ _. ⌜ now (buf .exit) ≡ sets (now (buf .entry)) at (linesText 76
+        (tableLoadRow net (now (acyclic .entry)) (now (counts .entry)) (now (rows .entry))) 0 (net .edges)) ⌝ }
+{
+    let edges = net.edges;
+    let terminals = net.terminals;
+    let demands = net.demands;
+    let routes = report_routes::edge_sets_lent(counts, rows, terminals);
+    let mut to = at;
+    let mut e: u32 = 0;
+    while e < edges {
+        let flow = acyclic[e as usize];
+        let load = report_routes::load_lent(&routes, &demands, terminals, e);
+        let row = [e, flow, load];
+        to = text_writer::put_line(buf, to, b'L', &row);
+        e += 1;
+    }
+    to
+}
+
+// Writes the report by the routes at a place of the buffer, and answers the place behind it. A byte past the end of the
+// buffer is dropped.
+fn put_tables_lent(
+    buf: &mut [u8],
+    at: usize,
+    net: Network,
+    acyclic: &[u32; Board::MAX_EDGES],
+    counts: &[u32; Board::MAX_TERMINALS],
+    rows: &[[u32; Board::MAX_VERTICES as usize]; Board::MAX_TERMINALS],
+) -> usize
+    requires { ⌜ (at ≤ 65536) × Printable net (now counts) ⌝ }
+    ensures { λ r. ⌜ r ≡ at
+        + length (tableText net (now (acyclic .entry)) (now (counts .entry)) (now (rows .entry))) ⌝ }
+    ensures { λ r. ⌜ r ≤ at + 8280 ⌝ }
+    ensures { λ _. ⌜ now (buf .exit) ≡ sets (now (buf .entry)) at
+        (tableText net (now (acyclic .entry)) (now (counts .entry)) (now (rows .entry))) ⌝ }
+{
+    let sizes = [net.terminals, net.edges];
+    let head = text_writer::put_line(buf, at, b'R', &sizes);
+    let routes = put_routes_lent(buf, head, counts, rows, net.terminals);
+    put_loads_lent(buf, routes, net, acyclic, counts, rows)
+}
+
+// Whether the report has room in so many bytes: it is measured by writing it into a buffer that drops it.
+fn has_room_lent(
+    room: usize,
+    net: Network,
+    acyclic: &[u32; Board::MAX_EDGES],
+    counts: &[u32; Board::MAX_TERMINALS],
+    rows: &[[u32; Board::MAX_VERTICES as usize]; Board::MAX_TERMINALS],
+) -> bool
+    requires { ⌜ Printable net (now counts) ⌝ }
+    ensures { λ r. ⌜ r ≡
+        leb (length (tableText net (now (acyclic .entry)) (now (counts .entry)) (now (rows .entry)))) room ⌝ }
+{
+    let mut none = [0u8; 1];
+    let length = put_tables_lent(&mut none, 0, net, acyclic, counts, rows);
+    length <= room
+}
+
+// Writes the report of a board at a place of the buffer, and answers its length, or the number that it is refused with.
+// A byte past the end of the buffer is dropped. Where the report is to be whole, a buffer that is shorter than it is
+// refused: the whole buffer is measured and not what is left of it behind the place, so that is asked for at place 0
+// alone. The routes are looked at where the board was loaded, and its counts are within the limits.
+pub fn put_sheet_lent(
+    buf: &mut [u8],
+    at: usize,
+    whole: bool,
+    board: Table,
+    journal: &[[u64; WORDS]; Board::JOURNAL],
+) -> Written
+    requires { ⌜ at ≤ 65536 ⌝ }
+    ensures { λ r. ⌜ r ≡ putCall (wholeOf board (now (journal .entry))) whole (length (now (buf .entry))) ⌝ }
+    ensures { λ r. ⌜ r .used ≤ 8280 ⌝ }
+    ensures { λ _. ⌜ now (buf .exit) ≡ putIn (wholeOf board (now (journal .entry))) whole (now (buf .entry)) at ⌝ }
+{
+    if !loaded_lent(board, journal) {
+        return Written::refused(29);
+    }
+    let net = board.network;
+    let acyclic = board.acyclic;
+    let mut counts = [0u32; Board::MAX_TERMINALS];
+    let rows = report_routes::fill_lent(journal, board.moves, &mut counts);
+    let fit = report_routes::routes_fit_lent(&counts, net.terminals);
+    let number = unreported_in(board.stage, fit);
+    if number != 0 {
+        return Written::refused(number);
+    }
+    if lists::and(whole, buf.len() < REPORT_BYTES) {
+        if !has_room_lent(buf.len(), net, &acyclic, &counts, &rows) {
+            return Written::refused(8);
+        }
+    }
+    let end = put_tables_lent(buf, at, net, &acyclic, &counts, &rows);
+    Written {
+        answer: 0,
+        used: end - at,
+    }
+}
+
+// Writes the route report: 29 where no board was loaded, 28 before a finish, then 8 where the buffer is too short for
+// the text.
+pub fn sheet_lent(board: Table, journal: &[[u64; WORDS]; Board::JOURNAL], buf: &mut [u8]) -> Written
+    ensures { λ r. ⌜ r ≡ sheetCall (wholeOf board (now (journal .entry))) (length (now (buf .entry))) ⌝ }
+    ensures { λ _. ⌜ now (buf .exit) ≡ sheeted (wholeOf board (now (journal .entry))) (now (buf .entry)) ⌝ }
+{
+    put_sheet_lent(buf, 0, true, board, journal)
 }

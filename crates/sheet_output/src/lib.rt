@@ -1,9 +1,12 @@
 // What the programs read and print, over slices.
 use board::Board;
+use journal::Table;
+use journal::WORDS;
 ghost use mathlib.Core.Path.{_≡_};
 ghost use Prim.Native.Nat.{_+_, _≤_};
 ghost use lib.ListN.{length};
 ghost use lib.Seq.{sets};
+ghost use Rattle.journal.specs.Words.{wholeOf};
 ghost use Rattle.sheet_output.specs.Outputs.{numberLine, reportOf, sheetOutput};
 ghost use Rattle.sheet_output.specs.Inputs.{linesWanted};
 
@@ -28,6 +31,25 @@ pub fn put_report(buf: &mut [u8], at: usize, board: Board) -> usize
     ensures { λ r. ⌜ now (buf .exit) ≡ sets (now (buf .entry)) at (reportOf board) ⌝ }
 {
     let written = report::put_sheet(buf, at, false, board);
+    if written.answer != 0 {
+        return put_number(buf, at, written.answer);
+    }
+    at + written.used
+}
+
+// The same of a board whose journal is lent.
+pub fn put_report_lent(
+    buf: &mut [u8],
+    at: usize,
+    board: Table,
+    journal: &[[u64; WORDS]; Board::JOURNAL],
+) -> usize
+    requires { ⌜ at ≤ 65536 ⌝ }
+    ensures { λ r. ⌜ r ≡ at + length (reportOf (wholeOf board (now (journal .entry)))) ⌝ }
+    ensures { λ r. ⌜ r ≤ at + 8280 ⌝ }
+    ensures { λ _. ⌜ now (buf .exit) ≡ sets (now (buf .entry)) at (reportOf (wholeOf board (now (journal .entry)))) ⌝ }
+{
+    let written = report::put_sheet_lent(buf, at, false, board, journal);
     if written.answer != 0 {
         return put_number(buf, at, written.answer);
     }

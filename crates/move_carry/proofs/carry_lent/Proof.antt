@@ -1,0 +1,192 @@
+-- The numbers that are read judge the carry as the definition does. Where it is accepted, the terminal and the edge are on the board, and what is stored is
+-- one more move.
+use mathlib.Core.Path.{_≡_, ap, ap₂, _∙_}
+use mathlib.Core.List.{List}
+use Prim.Native.Nat.{ℕ, _-_, _<_, _≤_}
+use native.Mathlib.Omega.{arith}
+use denote.Ref.{now}
+use lib.ListN.{set}
+use Rattle.board.specs.Limits.{maxEdges, maxTerminals, maxMoves}
+use Rattle.journal.specs.declared.Table.{Table}
+use Rattle.move_carry.specs.Carries.{carryRefusalIn}
+use Rattle.move_carry.proofs.Lent.{numbers-same, room-edge, room-terminal, room-move, lent-accepted, lent-refused}
+use borrow.Author.Needs.{needs}
+use Rattle.move_carry.proofs.carry_lent.Statement.{statement}
+use Rattle.move_carry.proofs.carry_lent.Tie as tie
+use Rattle.move_carry.proofs.carry_lent.Reads as reads
+use Rattle.move_carry.proofs.carry_lent.Lts as lts
+use Rattle.journal.proofs.put_entry.Reads as put-entry-reads
+use Rattle.lists.proofs.and.Reads as and-reads
+use Rattle.lists.proofs.minus.Reads as minus-reads
+use Rattle.lists.proofs.word_at.Reads as word-at-reads
+use Rattle.move_carry.proofs.number_at.Reads as number-at-reads
+use Rattle.move_guard.proofs.playing_lent.Reads as playing-lent-reads
+use Rattle.sets.proofs.has.Reads as has-reads
+
+abbrev cs : lts.Claims
+cs = (
+  playing-lent-reads.Asked,
+  playing-lent-reads.Learnt,
+  and-reads.Asked,
+  and-reads.Learnt,
+  word-at-reads.Asked,
+  word-at-reads.Learnt,
+  has-reads.Asked,
+  has-reads.Learnt,
+  number-at-reads.Asked,
+  number-at-reads.Learnt,
+  minus-reads.Asked,
+  minus-reads.Learnt,
+  put-entry-reads.Asked,
+  put-entry-reads.Learnt,
+)
+
+-- where the carry is judged: the test before it, the table and the words
+abbrev Judged : Type 0
+Judged = lts.After-number-at cs reads.Pre reads.Post
+
+abbrev tested : Judged → lts.After-playing-lent cs reads.Pre reads.Post
+tested c =
+    let at-flow = c .before .before .before .before .before in
+    let at-head = at-flow .before .before .before .before .before in
+    let at-place = at-head .before .before .before .before in
+    let at-on = at-place .before .before .before .before in
+    at-on .before
+
+abbrev start : Judged → lts.Start cs reads.Pre reads.Post
+start c = tested c .before .before
+
+abbrev table : Judged → Table
+table c = start c .args .t1
+
+abbrev words : Judged → List (List ℕ)
+words c = now (start c .args .journal)
+
+-- what is known there
+module _ (c : Judged) where
+  judged : c .number-at .result
+      ≡ carryRefusalIn (tested c .playing-lent .result) (table c .network) (table c .flows) (table c .marks) (table c .places) (start c .args .i) (start c .args .e)
+  judged =
+      let at-demand = c .before in
+      let at-flow = at-demand .before .before .before .before in
+      let at-mark = at-flow .before .before .before .before in
+      let at-head = at-mark .before in
+      let at-place = at-head .before .before .before .before in
+      let at-on = at-place .before .before .before .before in
+      c .number-at .ensures
+      ∙ numbers-same _ _ _ _ _ _ _ _ _ _ _ _ _ (at-on .and .ensures) (at-place .word-at .ensures) (at-head .word-at2 .ensures) (at-mark .has .ensures)
+      (at-flow .word-at3 .ensures) (at-demand .word-at4 .ensures)
+
+  module _ (h : c .number-at .result ≡ 0) where
+    edge : start c .args .e < maxEdges
+    edge = room-edge (table c) (words c) (start c .args .i) _ _ _ (tested c .playing-lent .ensures) judged h
+
+    terminal : start c .args .i < maxTerminals
+    terminal = room-terminal (table c) (words c) _ (start c .args .e) _ _ (tested c .playing-lent .ensures) judged h
+
+    room : table c .moves ≤ maxMoves
+    room = room-move (table c) (words c) (start c .args .i) (start c .args .e) _ _ (tested c .playing-lent .ensures) judged h
+
+playing-lent-requires : tie.Need-playing-lent-requires
+playing-lent-requires c κs = search needs
+
+and-requires : tie.Need-and-requires
+and-requires c κs = search needs
+
+word-at-requires : tie.Need-word-at-requires
+word-at-requires c κs = search needs
+
+word-at-requires-2 : tie.Need-word-at-requires-2
+word-at-requires-2 c κs = search needs
+
+has-requires : tie.Need-has-requires
+has-requires c κs = search needs
+
+word-at-requires-3 : tie.Need-word-at-requires-3
+word-at-requires-3 c κs = search needs
+
+word-at-requires-4 : tie.Need-word-at-requires-4
+word-at-requires-4 c κs = search needs
+
+number-at-requires : tie.Need-number-at-requires
+number-at-requires c κs = search needs
+
+word-at-requires-5 : tie.Need-word-at-requires-5
+word-at-requires-5 c κs = search needs
+
+minus-requires : tie.Need-minus-requires
+minus-requires c κs = search needs
+
+cast-m : tie.Need-cast-m
+cast-m c =
+    let accepted = c .before .before .before .before .before in
+    omega (arith, room (accepted .before) (accepted .if1 .taken))
+
+mul-board : tie.Need-mul-board
+mul-board c =
+    let accepted = c .before .before .before .before .before in
+    omega (arith, edge (accepted .before) (accepted .if1 .taken))
+
+element-write-board : tie.Need-element-write-board
+element-write-board c =
+    let accepted = c .before .before .before .before .before in
+    edge (accepted .before) (accepted .if1 .taken)
+
+mul-board-2 : tie.Need-mul-board-2
+mul-board-2 c =
+    let accepted = c .before .before .before .before .before in
+    omega (arith, terminal (accepted .before) (accepted .if1 .taken))
+
+element-write-board-2 : tie.Need-element-write-board-2
+element-write-board-2 c =
+    let accepted = c .before .before .before .before .before in
+    terminal (accepted .before) (accepted .if1 .taken)
+
+add-board : tie.Need-add-board
+add-board c =
+    let accepted = c .before .before .before .before .before in
+    omega (arith, room (accepted .before) (accepted .if1 .taken))
+
+put-entry-requires : tie.Need-put-entry-requires
+put-entry-requires c κs = search needs
+
+returns : tie.Need-returns
+returns c =
+    let at-rest = c .before .before in
+    let at-tail = at-rest .before in
+    let accepted = at-tail .before .before .before .before in
+    let judge = accepted .before in
+    let at-demand = judge .before in
+    let at-flow = at-demand .before .before .before .before in
+    lent-accepted (table judge) (words judge) (start judge .args .i) (start judge .args .e) _ _ (tested judge .playing-lent .ensures) (judged judge) _ _ _ (accepted .if1 .taken)
+    (ap (set (table judge .flows) (start judge .args .e)) (at-rest .minus .ensures ∙ ap₂ (λ (a b : ℕ). a - b) (at-flow .word-at3 .ensures) (at-demand .word-at4 .ensures)))
+    (ap (set (table judge .places) (start judge .args .i)) (at-tail .word-at5 .ensures)) (c .put-entry .ensures .0) (c .put-entry .ensures .1)
+
+returns-2 : tie.Need-returns-2
+returns-2 c =
+    let judge = c .before in
+    lent-refused (table judge) (words judge) (start judge .args .i) (start judge .args .e) _ _ (tested judge .playing-lent .ensures) (judged judge) (c .if1 .left)
+
+pub carry-lent-spec : {M : Type 1} → statement M
+carry-lent-spec =
+    tie.close
+    (tie.spec
+    playing-lent-requires
+    and-requires
+    word-at-requires
+    word-at-requires-2
+    has-requires
+    word-at-requires-3
+    word-at-requires-4
+    number-at-requires
+    word-at-requires-5
+    minus-requires
+    cast-m
+    mul-board
+    element-write-board
+    mul-board-2
+    element-write-board-2
+    add-board
+    put-entry-requires
+    returns
+    returns-2)
