@@ -5,6 +5,7 @@ use journal::Done;
 use journal::Table;
 use journal::WORDS;
 use load::Loaded;
+use load::Opened;
 use play_lines::Form;
 use play_lines::Scan;
 use solve_next::Suggestion;
@@ -21,6 +22,7 @@ ghost use Rattle.journal.specs.Words.{wholeOf, givenOf, noWords, blankFrom, pac
 ghost use Rattle.solve_next.specs.Hints.{hintRefusal, hintCall};
 ghost use Rattle.solve_finish.specs.Finishes.{finishCall};
 ghost use Rattle.load.specs.Load.{loadText};
+ghost use Rattle.load.specs.Lent.{loadedOf};
 ghost use Rattle.play_lines.specs.Scans.{hintForm, scanned};
 ghost use Rattle.sheet_output.specs.Inputs.{textSpace};
 ghost use Rattle.play_session.specs.Machine.{
@@ -234,6 +236,30 @@ fn wipe_behind(moves: u32, journal: &mut [[u64; WORDS]; Board::JOURNAL])
     journal::wipe(journal, from, Board::JOURNAL - from);
 }
 
+// A finish: its number, and the board after it. Places behind the moves are no part of a board: where a finish is
+// refused they are blanked, should one of them hold something, which no load leaves, and it is tried once more.
+fn finish_replied_lent(board: Table, journal: &mut [[u64; WORDS]; Board::JOURNAL]) -> Done
+    ensures { λ r. ⌜ r .answer ≡ finishCall (wholeOf board (now (journal .entry))) .answer ⌝ }
+    ensures { λ r. ⌜ wholeOf (r .board) (now (journal .exit)) ≡
+        finishCall (wholeOf board (now (journal .entry))) .board ⌝ }
+{
+    let tried = solve_finish::finish_lent(board, journal);
+    if tried.answer == 0 {
+        let last = tried.board;
+        return Done {
+            answer: 0,
+            board: last,
+        };
+    }
+    wipe_behind(board.moves, journal);
+    let finished = solve_finish::finish_lent(board, journal);
+    let last = finished.board;
+    Done {
+        answer: finished.answer,
+        board: last,
+    }
+}
+
 // What a line that asks for no hint is answered with, and the board after it.
 fn form_replied(board: Board, form: Form) -> Played
     requires { ⌜ eqb (form .kind) hintForm ≡ false ⌝ }
@@ -284,6 +310,27 @@ fn put_reply(out: &mut [u8], form: Form, played: Played) -> usize
     }
     let last = played.board;
     sheet_output::put_report(out, number, last)
+}
+
+// The same with the journal lent.
+fn put_reply_lent(
+    out: &mut [u8],
+    form: Form,
+    played: Done,
+    journal: &[[u64; WORDS]; Board::JOURNAL],
+) -> usize
+    ensures { λ r. ⌜ r ≡ length (playedText form (givenOf played (now (journal .entry)))) ⌝ }
+    ensures { λ r. ⌜ r ≤ 8291 ⌝ }
+    ensures { λ _. ⌜ now (out .exit) ≡
+        sets (now (out .entry)) 0 (playedText form (givenOf played (now (journal .entry)))) ⌝ }
+{
+    let number = sheet_output::put_number(out, 0, played.answer);
+    let finished = form.kind == Form::FINISH;
+    if !lists::and(finished, played.answer == 0) {
+        return number;
+    }
+    let last = played.board;
+    sheet_output::put_report_lent(out, number, last, journal)
 }
 
 // Stores bytes from a place on, as many as there is room for.
@@ -437,6 +484,16 @@ fn board_loaded(session: Session) -> Loaded
     load::load(&text[..used])
 }
 
+// The same with the journal lent, which is emptied.
+fn board_loaded_lent(session: Sitting, journal: &mut [[u64; WORDS]; Board::JOURNAL]) -> Opened
+    ensures { λ r. ⌜ loadedOf r (now (journal .exit)) ≡
+        loadText (textSoFar (sessionOf session (now (journal .entry)))) ⌝ }
+{
+    let text = session.text;
+    let used = kept(session.used);
+    load::load_lent(&text[..used], journal)
+}
+
 // The stage behind a load: the board is played, or it was refused.
 fn stage_after(answer: u32) -> u32
     ensures { λ r. ⌜ r ≡ pick (eqb answer 0) playingStage overStage ⌝ }
@@ -463,11 +520,39 @@ fn ready(session: Session, loaded: Loaded) -> Session
     next
 }
 
+// The same, whatever words are lent.
+fn ready_lent(session: Sitting, loaded: Opened) -> Sitting
+    ensures { λ r. ⌜ ((w : List (List ℕ)) → sessionOf r w ≡ ready (loadedOf loaded w) (sessionOf session w)) ⌝ }
+{
+    let stage = stage_after(loaded.answer);
+    let scan = Scan::none();
+    let board = loaded.board;
+    let mut next = session;
+    next.stage = stage;
+    next.left = 0;
+    next.scan = scan;
+    next.board = board;
+    next
+}
+
 // Writes the number of a refused board, and nothing for another; answers how many bytes.
 fn put_load(out: &mut [u8], loaded: Loaded) -> usize
     ensures { λ r. ⌜ r ≡ length (loadTold loaded) ⌝ }
     ensures { λ r. ⌜ r ≤ 8291 ⌝ }
     ensures { λ _. ⌜ now (out .exit) ≡ sets (now (out .entry)) 0 (loadTold loaded) ⌝ }
+{
+    if loaded.answer == 0 {
+        return 0;
+    }
+    sheet_output::put_number(out, 0, loaded.answer)
+}
+
+// The same, whatever words are lent.
+fn put_load_lent(out: &mut [u8], loaded: Opened) -> usize
+    ensures { λ r. ⌜ ((w : List (List ℕ)) → r ≡ length (loadTold (loadedOf loaded w))) ⌝ }
+    ensures { λ r. ⌜ r ≤ 8291 ⌝ }
+    ensures { λ _. ⌜ ((w : List (List ℕ)) →
+        now (out .exit) ≡ sets (now (out .entry)) 0 (loadTold (loadedOf loaded w))) ⌝ }
 {
     if loaded.answer == 0 {
         return 0;
@@ -495,6 +580,37 @@ fn board_line(session: Session, out: &mut [u8]) -> AfterLine
     let used = put_load(out, loaded);
     let next = ready(session, loaded);
     AfterLine {
+        session: next,
+        used: used,
+    }
+}
+
+// The same with the journal lent.
+fn board_line_lent(
+    session: Sitting,
+    journal: &mut [[u64; WORDS]; Board::JOURNAL],
+    out: &mut [u8],
+) -> SittingAfter
+    ensures { λ r. ⌜ sessionOf (r .session) (now (journal .exit)) ≡
+        boardLine (sessionOf session (now (journal .entry))) ⌝ }
+    ensures { λ r. ⌜ r .used ≡ length (boardTold (sessionOf session (now (journal .entry)))) ⌝ }
+    ensures { λ r. ⌜ r .used ≤ 8291 ⌝ }
+    ensures { λ _. ⌜ now (out .exit) ≡
+        sets (now (out .entry)) 0 (boardTold (sessionOf session (now (journal .entry)))) ⌝ }
+{
+    let left = lines_left_lent(session);
+    if left != 0 {
+        let mut next = session;
+        next.left = left;
+        return SittingAfter {
+            session: next,
+            used: 0,
+        };
+    }
+    let loaded = board_loaded_lent(session, journal);
+    let used = put_load_lent(out, loaded);
+    let next = ready_lent(session, loaded);
+    SittingAfter {
         session: next,
         used: used,
     }
@@ -611,6 +727,31 @@ pub fn close(session: Session, out: &mut [u8]) -> usize
         return put_load(out, loaded);
     }
     if session.stage == Session::PLAYING {
+        let scan = session.scan;
+        if play_lines::is_blank(scan) {
+            return 0;
+        }
+        return sheet_output::put_number(out, 0, 1);
+    }
+    0
+}
+
+// The same with the journal lent.
+pub fn close_lent(
+    session: Sitting,
+    journal: &mut [[u64; WORDS]; Board::JOURNAL],
+    out: &mut [u8],
+) -> usize
+    ensures { λ r. ⌜ r ≡ length (endTold (sessionOf session (now (journal .entry)))) ⌝ }
+    ensures { λ r. ⌜ r ≤ 8291 ⌝ }
+    ensures { λ _. ⌜ now (out .exit) ≡
+        sets (now (out .entry)) 0 (endTold (sessionOf session (now (journal .entry)))) ⌝ }
+{
+    if session.stage == Sitting::READING {
+        let loaded = board_loaded_lent(session, journal);
+        return put_load_lent(out, loaded);
+    }
+    if session.stage == Sitting::PLAYING {
         let scan = session.scan;
         if play_lines::is_blank(scan) {
             return 0;
