@@ -203,6 +203,24 @@ fn turn_replied(board: Board, form: Form) -> Played
     move_turn::turn(board, &steps[..form.count as usize])
 }
 
+// The same with the journal lent.
+fn turn_replied_lent(board: Table, journal: &mut [[u64; WORDS]; Board::JOURNAL], form: Form) -> Done
+    ensures { λ r. ⌜ givenOf r (now (journal .exit)) ≡ turnReplied (wholeOf board (now (journal .entry))) form ⌝ }
+{
+    let net = board.network;
+    let few = form.count <= Board::MAX_EDGES as u32;
+    let known = form.greatest < net.edges;
+    if !lists::and(few, known) {
+        let number = unkept_lent(board, journal, form);
+        return Done {
+            answer: number,
+            board: board,
+        };
+    }
+    let steps = form.steps;
+    move_turn::turn_lent(board, journal, &steps[..form.count as usize])
+}
+
 // A finish: its number, and the board after it.
 fn finish_replied(board: Board) -> Played
     ensures { λ r. ⌜ r .answer ≡ finishCall board .answer ⌝ }
@@ -278,6 +296,29 @@ fn form_replied(board: Board, form: Form) -> Played
         return finish_replied(board);
     }
     Played {
+        answer: 1,
+        board: board,
+    }
+}
+
+// The same with the journal lent.
+fn form_replied_lent(board: Table, journal: &mut [[u64; WORDS]; Board::JOURNAL], form: Form) -> Done
+    requires { ⌜ eqb (form .kind) hintForm ≡ false ⌝ }
+    ensures { λ r. ⌜ givenOf r (now (journal .exit)) ≡ formReplied (wholeOf board (now (journal .entry))) form ⌝ }
+{
+    if form.kind == Form::CARRY_WHOLE {
+        return move_carry::carry_lent(board, journal, form.first, form.second);
+    }
+    if form.kind == Form::TURN {
+        return turn_replied_lent(board, journal, form);
+    }
+    if form.kind == Form::UNDO {
+        return move_undo::undo_lent(board, journal);
+    }
+    if form.kind == Form::FINISH {
+        return finish_replied_lent(board, journal);
+    }
+    Done {
         answer: 1,
         board: board,
     }
@@ -638,6 +679,34 @@ fn hint_line(session: Session, out: &mut [u8]) -> AfterLine
     }
 }
 
+// The same with the journal lent.
+fn hint_line_lent(
+    session: Sitting,
+    journal: &[[u64; WORDS]; Board::JOURNAL],
+    out: &mut [u8],
+) -> SittingAfter
+    ensures { λ r. ⌜ sessionOf (r .session) (now (journal .entry)) ≡ playedLine (record {
+      answer = hintRefusal (wholeOf (session .board) (now (journal .entry)));
+      board = wholeOf (session .board) (now (journal .entry));
+    }) (sessionOf session (now (journal .entry))) ⌝ }
+    ensures { λ r. ⌜ r .used ≡
+        length (suggestionText (hintCall (wholeOf (session .board) (now (journal .entry))))) ⌝ }
+    ensures { λ r. ⌜ r .used ≤ 8291 ⌝ }
+    ensures { λ _. ⌜ now (out .exit) ≡
+        sets (now (out .entry)) 0 (suggestionText (hintCall (wholeOf (session .board) (now (journal .entry))))) ⌝ }
+{
+    let board = session.board;
+    let given = solve_next::hint_lent(board, journal);
+    let used = put_hint(out, given);
+    let none = Scan::none();
+    let mut next = session;
+    next.scan = none;
+    SittingAfter {
+        session: next,
+        used: used,
+    }
+}
+
 // A line of the play has ended: it is answered.
 fn played_line(session: Session, out: &mut [u8]) -> AfterLine
     ensures { λ r. ⌜ r .session ≡ playedLine (formReplied (session .board) (scanned (session .scan))) session ⌝ }
@@ -665,6 +734,40 @@ fn played_line(session: Session, out: &mut [u8]) -> AfterLine
     }
 }
 
+// The same with the journal lent.
+fn played_line_lent(
+    session: Sitting,
+    journal: &mut [[u64; WORDS]; Board::JOURNAL],
+    out: &mut [u8],
+) -> SittingAfter
+    ensures { λ r. ⌜ sessionOf (r .session) (now (journal .exit)) ≡
+        playedLine (formReplied (wholeOf (session .board) (now (journal .entry))) (scanned (session .scan)))
+        (sessionOf session (now (journal .entry))) ⌝ }
+    ensures { λ r. ⌜ r .used ≡
+        length (formText (wholeOf (session .board) (now (journal .entry))) (scanned (session .scan))) ⌝ }
+    ensures { λ r. ⌜ r .used ≤ 8291 ⌝ }
+    ensures { λ _. ⌜ now (out .exit) ≡ sets (now (out .entry)) 0
+        (formText (wholeOf (session .board) (now (journal .entry))) (scanned (session .scan))) ⌝ }
+{
+    let scan = session.scan;
+    let form = play_lines::whole(scan);
+    if form.kind == Form::HINT {
+        return hint_line_lent(session, journal, out);
+    }
+    let board = session.board;
+    let played = form_replied_lent(board, journal, form);
+    let used = put_reply_lent(out, form, played, journal);
+    let none = Scan::none();
+    let last = played.board;
+    let mut next = session;
+    next.scan = none;
+    next.board = last;
+    SittingAfter {
+        session: next,
+        used: used,
+    }
+}
+
 // A line feed.
 fn line_ended(session: Session, out: &mut [u8]) -> AfterLine
     ensures { λ r. ⌜ r .session ≡ lineEnded session ⌝ }
@@ -681,6 +784,33 @@ fn line_ended(session: Session, out: &mut [u8]) -> AfterLine
         return played_line(session, out);
     }
     AfterLine {
+        session: session,
+        used: 0,
+    }
+}
+
+// The same with the journal lent.
+fn line_ended_lent(
+    session: Sitting,
+    journal: &mut [[u64; WORDS]; Board::JOURNAL],
+    out: &mut [u8],
+) -> SittingAfter
+    ensures { λ r. ⌜ sessionOf (r .session) (now (journal .exit)) ≡
+        lineEnded (sessionOf session (now (journal .entry))) ⌝ }
+    ensures { λ r. ⌜ r .used ≡ length (lineTold (sessionOf session (now (journal .entry)))) ⌝ }
+    ensures { λ r. ⌜ r .used ≤ 8291 ⌝ }
+    ensures { λ _. ⌜ now (out .exit) ≡
+        sets (now (out .entry)) 0 (lineTold (sessionOf session (now (journal .entry)))) ⌝ }
+{
+    if session.stage == Sitting::READING {
+        let feed = [b'\n'];
+        let whole = text_grown_lent(session, &feed);
+        return board_line_lent(whole, journal, out);
+    }
+    if session.stage == Sitting::PLAYING {
+        return played_line_lent(session, journal, out);
+    }
+    SittingAfter {
         session: session,
         used: 0,
     }
@@ -710,6 +840,43 @@ pub fn feed(session: Session, bytes: &[u8], out: &mut [u8]) -> Fed
     let last = told.session;
     let taken = at + 1;
     Fed {
+        session: last,
+        taken: taken,
+        used: told.used,
+    }
+}
+
+// The same with the journal lent.
+pub fn feed_lent(
+    session: Sitting,
+    journal: &mut [[u64; WORDS]; Board::JOURNAL],
+    bytes: &[u8],
+    out: &mut [u8],
+) -> SittingFed
+    ensures { λ r. ⌜ sessionOf (r .session) (now (journal .exit)) ≡
+        fedSession (sessionOf session (now (journal .entry))) (now (bytes .entry)) ⌝ }
+    ensures { λ r. ⌜ r .taken ≡ takenOf (now (bytes .entry)) ⌝ }
+    ensures { λ r. ⌜ r .used ≡
+        length (fedTold (sessionOf session (now (journal .entry))) (now (bytes .entry))) ⌝ }
+    ensures { λ r. ⌜ r .used ≤ 8291 ⌝ }
+    ensures { λ _. ⌜ now (out .exit) ≡
+        sets (now (out .entry)) 0 (fedTold (sessionOf session (now (journal .entry))) (now (bytes .entry))) ⌝ }
+    ensures { λ r. ⌜ r .taken ≤ length (now (bytes .entry)) ⌝ }
+{
+    let at = lists::index_of(bytes, b'\n');
+    if bytes.len() <= at {
+        let next = grown_lent(session, bytes);
+        return SittingFed {
+            session: next,
+            taken: bytes.len(),
+            used: 0,
+        };
+    }
+    let taken = at + 1;
+    let next = grown_lent(session, &bytes[..at]);
+    let told = line_ended_lent(next, journal, out);
+    let last = told.session;
+    SittingFed {
         session: last,
         taken: taken,
         used: told.used,
