@@ -5,7 +5,6 @@ use Prim.Native.Nat.{ℕ, zero, suc}
 use lib.ListN.{replicate}
 use Rattle.board.specs.Limits.{maxMoves}
 use Rattle.board.specs.Record.{blank, closedBoard}
-use Rattle.board.specs.declared.Board.{Board}
 use Rattle.board.specs.declared.Entry.{Entry}
 use Rattle.board.specs.declared.Network.{Network}
 use Rattle.journal.specs.Words.{blankWords, unpacked, standing, journalOf, wholeOf, noWords, closedTable}

@@ -74,16 +74,18 @@ module _ (steps codes : List ℕ) (left : ℕ) (b : Board) where
 -- the buffers, the board and the words at first and now
 module _ (steps codes buf₀ hints₀ : List ℕ) (b₀ : Board) (w₀ : List (List ℕ)) where
   pub record Round (buf hints : List ℕ) (b : Board) (w : List (List ℕ)) (left k j : ℕ) : Type 0 where
-    pub inside : left ≤ length codes
+    pub inside : k + left ≤ length codes
     pub buf-long : length buf ≡ length buf₀
     pub hints-long : length hints ≡ length hints₀
-    pub words-long : length w ≡ length w₀
     pub plays : played b (calls steps codes left) ≡ played b₀ (callsOf steps codes)
     pub packs : wordsPlayed b (calls steps codes left) w ≡ wordsPlayed b₀ (callsOf steps codes) w₀
     pub says : sets buf k (answers b (calls steps codes left)) ≡ sets buf₀ 0 (answers b₀ (callsOf steps codes))
     pub hints-say : noted hints j (hintsOf b (calls steps codes left)) ≡ noted hints₀ 0 (hintsOf b₀ (callsOf steps codes))
 
   module _ (buf hints : List ℕ) (b : Board) (w : List (List ℕ)) (left k j : ℕ) (some : 3 ≤ left) (round : Round buf hints b w left k j) where
+    within : left ≤ length codes
+    within = omega (arith, round .inside)
+
     abbrev kind : ℕ
     kind = getD codes (length codes - left) 0
 
@@ -96,20 +98,19 @@ module _ (steps codes buf₀ hints₀ : List ℕ) (b₀ : Board) (w₀ : List (L
     module _ (buf' hints' : List ℕ) (b' : Board) (w' : List (List ℕ)) (j' : ℕ) where
       round-on : (p : Played) → p ≡ made b (callOf steps kind first second) → buf' ≡ set buf k (p .answer) → length hints' ≡ length hints
           → ((rest : List Suggestion) → noted hints' j' rest ≡ noted hints j (hintedBy b (callOf steps kind first second) ++ rest))
-          → b' ≡ p .board → w' ≡ wordsAfter (b .moves) (p .board) w → length w' ≡ length w → Round buf' hints' b' w' (left - 3) (k + 1) j'
-      round-on p makes e-buf long told e-b e-w same = record {
+          → b' ≡ p .board → w' ≡ wordsAfter (b .moves) (p .board) w → Round buf' hints' b' w' (left - 3) (k + 1) j'
+      round-on p makes e-buf long told e-b e-w = record {
         inside = omega (arith, round .inside);
         buf-long = ap length e-buf ∙ length-set buf k (p .answer) ∙ round .buf-long;
         hints-long = long ∙ round .hints-long;
-        words-long = same ∙ round .words-long;
-        plays = rw e-b (played-turn steps codes left b p some (round .inside) makes ∙ round .plays);
-        packs = rw (e-b, e-w) (words-turn steps codes left b p w some (round .inside) makes ∙ round .packs);
-        says = rw e-b (answers-turn steps codes left b p some (round .inside) makes buf buf' k e-buf ∙ round .says);
-        hints-say = rw e-b (hints-turn steps codes left b p some (round .inside) makes hints hints' j j' told ∙ round .hints-say);
+        plays = rw e-b (played-turn steps codes left b p some within makes ∙ round .plays);
+        packs = rw (e-b, e-w) (words-turn steps codes left b p w some within makes ∙ round .packs);
+        says = rw e-b (answers-turn steps codes left b p some within makes buf buf' k e-buf ∙ round .says);
+        hints-say = rw e-b (hints-turn steps codes left b p some within makes hints hints' j j' told ∙ round .hints-say);
       }
 
       pub round-moved : (p : Played) → kind < 3 → p ≡ made b (callOf steps kind first second) → buf' ≡ set buf k (p .answer) → hints' ≡ hints → j' ≡ j
-          → b' ≡ p .board → w' ≡ wordsAfter (b .moves) (p .board) w → length w' ≡ length w → Round buf' hints' b' w' (left - 3) (k + 1) j'
+          → b' ≡ p .board → w' ≡ wordsAfter (b .moves) (p .board) w → Round buf' hints' b' w' (left - 3) (k + 1) j'
       round-moved p low makes e-buf e-hints e-j =
           round-on p makes e-buf (ap length e-hints)
           (λ rest. none-hinted b (callOf steps kind first second) rest hints hints' j j' (move-unhinted steps kind first second b low) e-hints e-j)
@@ -122,4 +123,4 @@ module _ (steps codes buf₀ hints₀ : List ℕ) (b₀ : Board) (w₀ : List (L
           round-on (record { answer = h .answer; board = b }) (rw (called, e)) e-buf
           (ap length e-hints ∙ length-sets hints j (adviceCode (h .advice)))
           (λ rest. one-hinted b (callOf steps kind first second) rest hints hints' j j' h called e e-hints e-j) e-b
-          (e-w ∙ sym (after-none (b .moves) b w refl)) (ap length e-w)
+          (e-w ∙ sym (after-none (b .moves) b w refl))

@@ -5,11 +5,14 @@ use board::Entry;
 use board::Move;
 use board::Network;
 use board::Played;
+use journal::Done;
+use journal::Table;
+use journal::WORDS;
 use move_guard::Change;
 use solve_next::Advice;
 ghost use mathlib.Core.Path.{_≡_};
 ghost use mathlib.Core.Bool.{true};
-ghost use Prim.Native.Nat.{_+_, _-_, _≤_};
+ghost use Prim.Native.Nat.{_+_, _-_, _<_, _≤_};
 ghost use lib.Dec.{eqb};
 ghost use lib.ListN.{set};
 ghost use Rattle.move_turn.specs.Turns.{turnCall};
@@ -19,9 +22,11 @@ ghost use Rattle.move_cycle.specs.Steps.{stepsOf};
 ghost use Rattle.move_carry.specs.Carries.{carryChange};
 ghost use Rattle.move_undo.specs.Undone.{undoChange};
 ghost use Rattle.move_undo.specs.Inner.{Small};
-ghost use Rattle.move_list.specs.Calls.{played, answers, hintsOf, adviceCode, behind, noted};
+ghost use Rattle.journal.specs.Words.{wholeOf, givenOf, wordsAfter};
+ghost use Rattle.move_list.specs.Words.{wordsPlayed};
+ghost use Rattle.move_list.specs.Calls.{made, played, answers, hintsOf, adviceCode, behind, noted};
 ghost use Rattle.move_list.specs.Inner.{lastPlace};
-ghost use Rattle.move_list.specs.Codes.{part, callsOf, moveCode, journalCoded};
+ghost use Rattle.move_list.specs.Codes.{part, callOf, callsOf, moveCode, journalCoded};
 ghost use lib.Seq.{sets};
 
 // A turn along the steps from a up to c.
@@ -80,6 +85,54 @@ fn after(back: bool, at: u32) -> u32
         return at;
     }
     at + 1
+}
+
+// A turn along the steps from a up to c.
+fn turn_part_lent(
+    board: Table,
+    journal: &mut [[u64; WORDS]; Board::JOURNAL],
+    steps: &[u8],
+    a: u32,
+    c: u32,
+) -> Done
+    ensures { λ r. ⌜ givenOf r (now (journal .exit)) ≡
+        turnCall (wholeOf board (now (journal .entry))) (stepsOf (part (now (steps .entry)) a c)) ⌝ }
+    ensures { λ _. ⌜ now (journal .exit) ≡ wordsAfter (board .moves)
+        (turnCall (wholeOf board (now (journal .entry))) (stepsOf (part (now (steps .entry)) a c)) .board)
+        (now (journal .entry)) ⌝ }
+{
+    let from = a as usize;
+    let to = c as usize;
+    let inside = lists::and(from <= to, to <= steps.len());
+    if !inside {
+        return move_turn::turn_lent(board, journal, &steps[..0]);
+    }
+    move_turn::turn_lent(board, journal, &steps[from..to])
+}
+
+// A call that is no hint: a carry of terminal a over edge c (0), a turn along the steps from a up to c (1), an undo (2).
+fn make(
+    board: Table,
+    journal: &mut [[u64; WORDS]; Board::JOURNAL],
+    steps: &[u8],
+    kind: u32,
+    a: u32,
+    c: u32,
+) -> Done
+    requires { ⌜ kind < 3 ⌝ }
+    ensures { λ r. ⌜ givenOf r (now (journal .exit)) ≡
+        made (wholeOf board (now (journal .entry))) (callOf (now (steps .entry)) kind a c) ⌝ }
+    ensures { λ _. ⌜ now (journal .exit) ≡ wordsAfter (board .moves)
+        (made (wholeOf board (now (journal .entry))) (callOf (now (steps .entry)) kind a c) .board)
+        (now (journal .entry)) ⌝ }
+{
+    if kind == 0 {
+        return move_carry::carry_lent(board, journal, a, c);
+    }
+    if kind == 1 {
+        return turn_part_lent(board, journal, steps, a, c);
+    }
+    move_undo::undo_lent(board, journal)
 }
 
 // Stores the steps from place k on.
@@ -174,6 +227,49 @@ pub fn run(board: Board, codes: &[u32], steps: &[u8], buf: &mut [u32], hints: &m
             b = given.board;
         } else {
             let given = solve_next::hint(b);
+            lists::put_word(buf, k, given.answer);
+            let advice = given.advice;
+            j = note(hints, j, advice);
+        }
+        left -= 3;
+        k += 1;
+    }
+    b
+}
+
+// Makes the calls, one after the other; writes their answers into one buffer, and the moves of the hints into the
+// other.
+pub fn run_lent(
+    board: Table,
+    journal: &mut [[u64; WORDS]; Board::JOURNAL],
+    codes: &[u32],
+    steps: &[u8],
+    buf: &mut [u32],
+    hints: &mut [u32],
+) -> Table
+    ensures { λ r. ⌜ wholeOf r (now (journal .exit)) ≡
+        played (wholeOf board (now (journal .entry))) (callsOf (now (steps .entry)) (now (codes .entry))) ⌝ }
+    ensures { λ _. ⌜ now (journal .exit) ≡
+        wordsPlayed (wholeOf board (now (journal .entry))) (callsOf (now (steps .entry)) (now (codes .entry)))
+        (now (journal .entry)) ⌝ }
+    ensures { λ _. ⌜ now (buf .exit) ≡ sets (now (buf .entry)) 0
+        (answers (wholeOf board (now (journal .entry))) (callsOf (now (steps .entry)) (now (codes .entry)))) ⌝ }
+    ensures { λ _. ⌜ now (hints .exit) ≡ noted (now (hints .entry)) 0
+        (hintsOf (wholeOf board (now (journal .entry))) (callsOf (now (steps .entry)) (now (codes .entry)))) ⌝ }
+{
+    let mut b = board;
+    let mut left = codes.len();
+    let mut k: usize = 0;
+    let mut j: usize = 0;
+    while left >= 3 {
+        let i = codes.len() - left;
+        let kind = codes[i];
+        if kind < 3 {
+            let given = make(b, journal, steps, kind, codes[i + 1], codes[i + 2]);
+            lists::put_word(buf, k, given.answer);
+            b = given.board;
+        } else {
+            let given = solve_next::hint_lent(b, journal);
             lists::put_word(buf, k, given.answer);
             let advice = given.advice;
             j = note(hints, j, advice);

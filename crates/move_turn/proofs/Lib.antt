@@ -1,2 +1,3 @@
 pub mod Passing
 pub mod Changes
+pub mod Lent

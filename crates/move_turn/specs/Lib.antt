@@ -1,2 +1,3 @@
 pub mod Turns
 pub mod Inner
+pub mod Lent

@@ -6,6 +6,9 @@ use board::Entry;
 use board::Move;
 use board::Network;
 use board::Played;
+use journal::Done;
+use journal::Table;
+use journal::WORDS;
 use move_guard::Change;
 ghost use mathlib.Core.Path.{_≡_};
 ghost use mathlib.Core.Bool.{true};
@@ -31,12 +34,34 @@ ghost use Rattle.move_turn.specs.Turns.{
   turnCall,
 };
 ghost use Rattle.move_turn.specs.Inner.{Sound};
+ghost use Rattle.move_turn.specs.Lent.{netOf, changeOf, augmentedBy, Turnable};
+ghost use Rattle.journal.specs.Words.{wholeOf, givenOf, wordsAfter};
+ghost use Rattle.move_cycle.specs.Inner.{AtMost};
+ghost use Rattle.board.specs.Limits.{maxTotal};
 
 // The rules that each step of a turn keeps.
 pub enum StepRule {
     OnBoard,
     Positive,
     UpSingular,
+}
+
+// The numbers that a move goes by, beside the lists of its board: the counts, the source, the marked edges and the
+// positive ones.
+pub struct Frame {
+    pub vertices: u32,
+    pub edges: u32,
+    pub terminals: u32,
+    pub source: u32,
+    pub marks: EdgeSet,
+    pub positive: EdgeSet,
+}
+
+// What a turn gives beside the flows that it changes.
+pub struct Augmented {
+    pub answer: u32,
+    pub marks: EdgeSet,
+    pub entry: Entry,
 }
 
 // The board has the edge.
@@ -253,6 +278,26 @@ pub fn turn_refusal(board: Board, steps: &[u8]) -> u32
     refusal(play, any_open, net, flows, &leaving, positive, steps)
 }
 
+// The same of the parts of a board; `in_play` says whether the board is in play.
+pub fn turn_refusal_in<'a>(
+    in_play: bool,
+    net: Network,
+    flows: [u32; Board::MAX_EDGES],
+    marks: EdgeSet,
+    places: &'a [u32],
+    steps: &'a [u8],
+) -> u32
+    requires { ⌜ («in_play» ≡ true → Sound net flows) ⌝ }
+    ensures { λ r. ⌜ r ≡ turnRefusalIn «in_play» (both «in_play» (someOpenIn net flows marks (now (places .entry))))
+        net flows (stepsOf (now (steps .entry))) ⌝ }
+{
+    let any_open = open_in_play(in_play, net, &flows, marks, places);
+    let tails = net.tails;
+    let leaving = move_edges::at_vertices(tails);
+    let positive = move_edges::positive(flows);
+    refusal(in_play, any_open, net, flows, &leaving, positive, steps)
+}
+
 // What an accepted turn changes.
 fn turned<'a>(
     net: Network,
@@ -398,6 +443,143 @@ pub fn turn(board: Board, steps: &[u8]) -> Played
     }
     Played {
         answer: made.answer,
+        board: next,
+    }
+}
+
+// Makes an accepted turn on the flows.
+fn augment<'a>(
+    frame: Frame,
+    heads: &'a [u32],
+    demands: &'a [u32],
+    leaving: &'a [EdgeSet],
+    places: &'a [u32],
+    steps: &'a [u8],
+    flows: &mut [u32],
+) -> Augmented
+    requires { ⌜ AtMost maxTotal (now flows) ⌝ }
+    requires { ⌜ AtMost maxTotal (now demands) ⌝ }
+    requires { ⌜ InSets (now steps) ⌝ }
+    ensures { λ r. ⌜ changeOf r (now (flows .exit)) (now (places .entry)) ≡
+        augmentedBy frame (now (heads .entry)) (now (demands .entry)) (now (leaving .entry)) (now (flows .entry))
+        (now (places .entry)) (stepsOf (now (steps .entry))) ⌝ }
+{
+    let amount = move_cycle::least_allowed(heads, flows, places, demands, frame.terminals, steps);
+    let down = move_cycle::gather(false, steps);
+    let up = move_cycle::gather(true, steps);
+    let fresh = move_edges::fresh_by(heads, leaving, frame.positive, frame.vertices, frame.marks);
+    move_cycle::shift(amount, down, up, flows);
+    let marks = sets::joined(frame.marks, fresh);
+    let entry = Entry {
+        step: Move::Turn(Augmentation {
+            amount: amount,
+            down: down,
+            up: up,
+            marked: fresh,
+        }),
+    };
+    Augmented {
+        answer: 0,
+        marks: marks,
+        entry: entry,
+    }
+}
+
+// Makes a turn on the flows of a board in play, where it is accepted; `any_open` says whether a carry is open.
+pub fn change_lent<'a>(
+    any_open: bool,
+    frame: Frame,
+    tails: &'a [u32; Board::MAX_EDGES],
+    heads: &'a [u32; Board::MAX_EDGES],
+    demands: &'a [u32; Board::MAX_TERMINALS],
+    leaving: &'a [EdgeSet],
+    places: &'a [u32; Board::MAX_TERMINALS],
+    steps: &'a [u8],
+    flows: &mut [u32; Board::MAX_EDGES],
+) -> Augmented
+    requires { ⌜ Turnable frame (now tails) (now heads) (now demands) (now leaving) (now flows) ⌝ }
+    ensures { λ r. ⌜ changeOf r (now (flows .exit)) (now (places .entry)) ≡
+        turnChange true «any_open» (netOf frame (now (tails .entry)) (now (heads .entry)) (now (demands .entry)))
+        (now (flows .entry)) (frame .marks) (now (places .entry)) (stepsOf (now (steps .entry))) ⌝ }
+{
+    let number = steps_refusal(
+        any_open,
+        frame.edges,
+        tails,
+        heads,
+        flows,
+        leaving,
+        frame.positive,
+        frame.vertices,
+        steps,
+    );
+    if number != 0 {
+        let blank = Entry::blank();
+        return Augmented {
+            answer: number,
+            marks: frame.marks,
+            entry: blank,
+        };
+    }
+    augment(frame, heads, demands, leaving, places, steps, flows)
+}
+
+// Augments along the cycle of the steps, on a board whose journal is lent.
+pub fn turn_lent(board: Table, journal: &mut [[u64; WORDS]; Board::JOURNAL], steps: &[u8]) -> Done
+    ensures { λ r. ⌜ givenOf r (now (journal .exit)) ≡
+        turnCall (wholeOf board (now (journal .entry))) (stepsOf (now (steps .entry))) ⌝ }
+    ensures { λ _. ⌜ now (journal .exit) ≡ wordsAfter (board .moves)
+        (turnCall (wholeOf board (now (journal .entry))) (stepsOf (now (steps .entry))) .board)
+        (now (journal .entry)) ⌝ }
+{
+    if !move_guard::playing_lent(board, journal) {
+        return Done {
+            answer: 20,
+            board: board,
+        };
+    }
+    let net = board.network;
+    let mut flows = board.flows;
+    let places = board.places;
+    let any_open = move_carry::some_open_in(net, &flows, board.marks, &places);
+    let tails = net.tails;
+    let heads = net.heads;
+    let demands = net.demands;
+    let leaving = move_edges::at_vertices(tails);
+    let positive = move_edges::positive_lent(&flows);
+    let frame = Frame {
+        vertices: net.vertices,
+        edges: net.edges,
+        terminals: net.terminals,
+        source: net.source,
+        marks: board.marks,
+        positive: positive,
+    };
+    let made = change_lent(
+        any_open,
+        frame,
+        &tails,
+        &heads,
+        &demands,
+        &leaving,
+        &places,
+        steps,
+        &mut flows,
+    );
+    if made.answer != 0 {
+        return Done {
+            answer: made.answer,
+            board: board,
+        };
+    }
+    let entry = made.entry;
+    journal::put_entry(journal, board.moves as usize, entry);
+    let mut next = board;
+    next.flows = flows;
+    next.marks = made.marks;
+    next.moves = board.moves + 1;
+    Done {
+        answer: 0,
         board: next,
     }
 }

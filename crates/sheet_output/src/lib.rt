@@ -6,7 +6,9 @@ ghost use mathlib.Core.Path.{_≡_};
 ghost use Prim.Native.Nat.{_+_, _≤_};
 ghost use lib.ListN.{length};
 ghost use lib.Seq.{sets};
-ghost use Rattle.journal.specs.Words.{wholeOf};
+ghost use Rattle.journal.specs.Words.{wholeOf, packedAll};
+ghost use Rattle.load.specs.Load.{loadText};
+ghost use Rattle.solve_finish.specs.Finishes.{finishCall};
 ghost use Rattle.sheet_output.specs.Outputs.{numberLine, reportOf, sheetOutput};
 ghost use Rattle.sheet_output.specs.Inputs.{linesWanted};
 
@@ -73,6 +75,31 @@ pub fn sheet_output(input: &[u8], out: &mut [u8]) -> usize
     }
     let last = finished.board;
     put_report(out, 0, last)
+}
+
+// The same with a journal that is lent, which gets the moves of the finish.
+pub fn sheet_output_lent(
+    input: &[u8],
+    journal: &mut [[u64; WORDS]; Board::JOURNAL],
+    out: &mut [u8],
+) -> usize
+    ensures { λ r. ⌜ r ≡ length (sheetOutput (now (input .entry))) ⌝ }
+    ensures { λ r. ⌜ r ≤ 8280 ⌝ }
+    ensures { λ _. ⌜ now (out .exit) ≡ sets (now (out .entry)) 0 (sheetOutput (now (input .entry))) ⌝ }
+    ensures { λ _. ⌜ now (journal .exit) ≡
+        packedAll (finishCall (loadText (now (input .entry)) .board) .board .journal) ⌝ }
+{
+    let loaded = load::load_lent(input, journal);
+    if loaded.answer != 0 {
+        return put_number(out, 0, loaded.answer);
+    }
+    let board = loaded.board;
+    let finished = solve_finish::finish_lent(board, journal);
+    if finished.answer != 0 {
+        return put_number(out, 0, finished.answer);
+    }
+    let last = finished.board;
+    put_report_lent(out, 0, last, journal)
 }
 
 // How many lines the board has whose text starts with this.

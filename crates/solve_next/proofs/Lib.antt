@@ -1,3 +1,4 @@
 pub mod Intact
 pub mod Advised
 pub mod Ways
+pub mod Lent

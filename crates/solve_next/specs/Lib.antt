@@ -1,3 +1,4 @@
 pub mod Choosing
 pub mod Parts
 pub mod Hints
+pub mod Acts

@@ -2,17 +2,22 @@
 use board::Board;
 use board::EdgeSet;
 use board::Network;
+use journal::Table;
+use journal::WORDS;
 use solve_carry::Found;
 use solve_walk::Walk;
 ghost use mathlib.Core.Path.{_≡_};
 ghost use mathlib.Core.Bool.{true};
 ghost use Prim.Native.Nat.{_≤_};
 ghost use Rattle.board.specs.Limits.{maxEdges};
+ghost use Rattle.journal.specs.Words.{wholeOf};
 ghost use Rattle.move_guard.specs.Guard.{playing};
+ghost use Rattle.move_turn.specs.Inner.{Sound};
 ghost use Rattle.solve_carry.specs.Search.{foundCarry};
 ghost use Rattle.solve_walk.specs.Walk.{cycleOf, packed};
 ghost use Rattle.solve_next.specs.Parts.{Searchable, Walkable};
 ghost use Rattle.solve_next.specs.Choosing.{allHomeIn, judge, nextAct, noAdvice, adviceOf, actOf};
+ghost use Rattle.solve_next.specs.Acts.{nextActIn, judgeIn};
 ghost use Rattle.solve_next.specs.Hints.{hintCall};
 
 // ---- The move that the solver makes next.
@@ -187,5 +192,106 @@ pub fn hint(board: Board) -> Suggestion
     Suggestion {
         answer: 0,
         advice: advice,
+    }
+}
+
+// ---- The call `hint` with the journal lent.
+
+// The move that the solver makes next, by the parts of a board in play.
+fn next_in(
+    net: Network,
+    flows: [u32; Board::MAX_EDGES],
+    marks: EdgeSet,
+    places: [u32; Board::MAX_TERMINALS],
+) -> Advice
+    requires { ⌜ Searchable net flows places ⌝ }
+    requires { ⌜ Walkable net ⌝ }
+    ensures { λ r. ⌜ r ≡ adviceOf (nextActIn net flows marks places) ⌝ }
+{
+    let found = next_carry(net, flows, marks, places);
+    if found.terminal < net.terminals {
+        return Advice {
+            kind: Advice::CARRY,
+            terminal: found.terminal,
+            edge: found.edge,
+            count: 0,
+            steps: [0; Board::MAX_EDGES],
+        };
+    }
+    let walk = next_cycle(net, flows);
+    let steps = walk.steps;
+    Advice {
+        kind: Advice::TURN,
+        terminal: 0,
+        edge: 0,
+        count: walk.count,
+        steps: steps,
+    }
+}
+
+// The number that a move is refused with, by the parts of a board in play; 0 where it is accepted.
+fn judge_in<'a>(
+    net: Network,
+    flows: [u32; Board::MAX_EDGES],
+    marks: EdgeSet,
+    places: &'a [u32],
+    advice: Advice,
+) -> u32
+    requires { ⌜ Sound net flows ⌝ }
+    requires { ⌜ advice .count ≤ maxEdges ⌝ }
+    ensures { λ r. ⌜ r ≡ judgeIn net flows marks (now (places .entry)) (actOf advice) ⌝ }
+{
+    if advice.kind == Advice::CARRY {
+        return move_carry::refusal_in(
+            true,
+            net,
+            &flows,
+            marks,
+            places,
+            advice.terminal,
+            advice.edge,
+        );
+    }
+    let steps = advice.steps;
+    move_turn::turn_refusal_in(
+        true,
+        net,
+        flows,
+        marks,
+        places,
+        &steps[..advice.count as usize],
+    )
+}
+
+// The move that the solver would make next; none where every terminal is at the source, and after a refusal.
+pub fn hint_lent(board: Table, journal: &[[u64; WORDS]; Board::JOURNAL]) -> Suggestion
+    ensures { λ r. ⌜ r ≡ hintCall (wholeOf board (now (journal .entry))) ⌝ }
+{
+    let none = Advice::none();
+    if !move_guard::playing_lent(board, journal) {
+        return Suggestion {
+            answer: 20,
+            advice: none,
+        };
+    }
+    let net = board.network;
+    let flows = board.flows;
+    let places = board.places;
+    if all_home(&places, net.terminals, net.source) {
+        return Suggestion {
+            answer: 0,
+            advice: none,
+        };
+    }
+    let next = next_in(net, flows, board.marks, places);
+    if judge_in(net, flows, board.marks, &places, next) != 0 {
+        return Suggestion {
+            answer: 20,
+            advice: none,
+        };
+    }
+    Suggestion {
+        answer: 0,
+        advice: next,
     }
 }

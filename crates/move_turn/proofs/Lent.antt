@@ -1,0 +1,131 @@
+-- A turn on lists that are lent is the turn by the parts of a board, since no turn looks at the text's flows and homes; and what the call leaves of a table and
+-- its words.
+use mathlib.Core.Path.{_≡_, refl, sym, ap, _∙_}
+use mathlib.Core.Bool.{Bool, true, false}
+use mathlib.Core.List.{List}
+use mathlib.Core.Logic.{_≢_}
+use Prim.Native.Nat.{ℕ, _+_, _<_, _^_}
+use native.Mathlib.Omega.{arith}
+use lib.ListN.{length, set}
+use Rattle.lists.specs.Choice.{pick}
+use Rattle.lists.proofs.Laws.{pick-no, pick-passed}
+use Rattle.sets.specs.Sets.{joined}
+use Rattle.sets.specs.Inner.{setWidth}
+use Rattle.board.specs.Limits.{maxEdges, maxTerminals}
+use Rattle.board.specs.Record.{blank}
+use Rattle.board.specs.declared.Board.{Board}
+use Rattle.board.specs.declared.Entry.{Entry}
+use Rattle.board.specs.declared.Move.the-variants.{Turn}
+use Rattle.board.specs.declared.Network.{Network}
+use Rattle.board.specs.declared.Played.{Played}
+use Rattle.graph_flows.specs.Trails.{Step}
+use Rattle.journal.specs.Words.{packed, wordsAfter}
+use Rattle.move_guard.specs.Guard.{playing}
+use Rattle.move_guard.specs.Moved.{unchanged, changed}
+use Rattle.move_guard.specs.declared.Change.{Change}
+use Rattle.move_guard.proofs.Stores.{withParts, numbered}
+use Rattle.move_guard.proofs.Lent.{words-stored, words-kept}
+use Rattle.move_edges.specs.Incidence.{Incident, PositiveSet}
+use Rattle.move_edges.proofs.Following.{fresh-same}
+use Rattle.move_carry.specs.Opens.{someOpen, someOpenIn}
+use Rattle.move_carry.proofs.Same.{some-same}
+use Rattle.move_cycle.specs.Steps.{stepsOf, gather, every}
+use Rattle.move_cycle.specs.Amounts.{amountIn}
+use Rattle.move_cycle.specs.Shifts.{shifted}
+use Rattle.move_cycle.specs.Inner.{InSets}
+use Rattle.move_turn.specs.declared.Frame.{Frame}
+use Rattle.move_turn.specs.declared.StepRule.the-variants.{OnBoard}
+use Rattle.move_turn.specs.Turns.{meetsOn, stepsRefusal, turnRefusalIn, turnedIn, turnChange, turnCall}
+use Rattle.move_turn.specs.Inner.{Sound}
+use Rattle.move_turn.specs.Lent.{frameOf, netOf, bareOf, augmentedBy, Turnable}
+use Rattle.move_turn.proofs.Passing.{in-sets}
+use Rattle.move_turn.proofs.Changes.{charted-out, change-accepted, change-refused, turnMade, turn-changes, turn-refused, turn-stored}
+
+-- a sound network can be turned on
+pub sound-turnable : (net : Network) (flows leaving : List ℕ) (marks positive : ℕ) → Sound net flows → length (net .heads) ≡ maxEdges → length flows ≡ maxEdges
+    → length (net .demands) ≡ maxTerminals → Incident (net .tails) leaving → PositiveSet flows positive
+    → Turnable (frameOf net marks positive) (net .tails) (net .heads) (net .demands) leaving flows
+sound-turnable net flows leaving marks positive sound wide long asked at is-positive = record {
+  room = sound .room;
+  chart = charted-out net flows leaving positive sound wide long at is-positive;
+  small = sound .small long;
+  asked = sound .asked asked;
+}
+
+module _ (frame : Frame) (tails heads demands leaving flows : List ℕ) (can : Turnable frame tails heads demands leaving flows) where
+  -- the tests of the steps are those of the turn
+  pub turn-tests : (anyOpen : Bool) (w : List Step)
+      → stepsRefusal anyOpen (frame .edges) tails heads flows (frame .vertices) w ≡ turnRefusalIn true anyOpen (netOf frame tails heads demands) flows w
+  unfolding turnRefusalIn pick
+  turn-tests anyOpen w = refl
+
+  pub turn-sets : (anyOpen : Bool) (s : List ℕ) → stepsRefusal anyOpen (frame .edges) tails heads flows (frame .vertices) (stepsOf s) ≡ 0 → InSets s
+  unfolding stepsRefusal
+  turn-sets anyOpen s h =
+      in-sets (frame .edges) tails heads flows (frame .vertices) (can .room) s
+      (pick-passed (every (meetsOn OnBoard (frame .edges) tails heads flows (frame .vertices)) (stepsOf s)) _ 5 h .0)
+
+  -- an accepted turn by the sets
+  augmented : frame .positive < 2 ^ setWidth → (places : List ℕ) (w : List Step)
+      → augmentedBy frame heads demands leaving flows places w ≡ turnedIn (netOf frame tails heads demands) flows (frame .marks) places w
+  unfolding augmentedBy turnedIn
+  augmented fits places w =
+      ap (λ (new : ℕ). record {
+        answer = 0;
+        flows = shifted (amountIn heads flows places demands (frame .terminals) 0 w) (gather false 0 w) (gather true 0 w) flows;
+        marks = joined (frame .marks) new;
+        places = places;
+        entry = record { step = Turn (record { amount = amountIn heads flows places demands (frame .terminals) 0 w; down = gather false 0 w; up = gather true 0 w; marked = new }) };
+      })
+      (fresh-same tails heads flows leaving (frame .positive) (can .chart) fits (frame .vertices) (frame .marks))
+
+  module _ (anyOpen : Bool) (places : List ℕ) (w : List Step) (number : ℕ)
+      (h : number ≡ stepsRefusal anyOpen (frame .edges) tails heads flows (frame .vertices) w) where
+    pub turn-not-made : (entry : Entry) → number ≢ 0 → entry ≡ blank
+        → record { answer = number; flows = flows; marks = frame .marks; places = places; entry = entry }
+        ≡ turnChange true anyOpen (netOf frame tails heads demands) flows (frame .marks) places w
+    turn-not-made entry n e =
+        let same = h ∙ turn-tests anyOpen w in
+        rw (e, same) (sym (change-refused true anyOpen (netOf frame tails heads demands) flows (frame .marks) places w (λ z. n (same ∙ z))))
+
+    pub turn-is-made : (c : Change) → frame .positive < 2 ^ setWidth → number ≡ 0 → c ≡ augmentedBy frame heads demands leaving flows places w
+        → c ≡ turnChange true anyOpen (netOf frame tails heads demands) flows (frame .marks) places w
+    turn-is-made c fits z e =
+        e ∙ augmented fits places w
+        ∙ sym (change-accepted true anyOpen (netOf frame tails heads demands) flows (frame .marks) places w (sym (h ∙ turn-tests anyOpen w) ∙ z))
+
+-- a network and its bare one
+pub turn-of-bare : (net : Network) (play anyOpen : Bool) (flows : List ℕ) (marks : ℕ) (places : List ℕ) (w : List Step)
+    → turnChange play anyOpen (bareOf net) flows marks places w ≡ turnChange play anyOpen net flows marks places w
+unfolding turnChange turnRefusalIn turnedIn stepsRefusal
+turn-of-bare net play anyOpen flows marks places w = refl
+
+module _ (b : Board) (w : List Step) where
+  -- on a board that is not in play a turn changes nothing
+  pub closed-made : playing b ≡ false → unchanged 20 (b .flows) (b .marks) (b .places) ≡ turnMade b w
+  unfolding turnRefusalIn
+  closed-made h =
+      let number : turnRefusalIn (playing b) (someOpen b) (b .network) (b .flows) w ≡ 20 = pick-no _ _ _ h in
+      sym (change-refused (playing b) (someOpen b) (b .network) (b .flows) (b .marks) (b .places) w (λ z. omega (arith, z, number))
+      ∙ ap (λ (n : ℕ). unchanged n (b .flows) (b .marks) (b .places)) number)
+
+  pub open-made : (c : Change) (anyOpen : Bool) → playing b ≡ true → anyOpen ≡ someOpenIn (b .network) (b .flows) (b .marks) (b .places)
+      → c ≡ turnChange true anyOpen (b .network) (b .flows) (b .marks) (b .places) w → c ≡ turnMade b w
+  open-made c anyOpen play o e = rw (play, ← some-same b, ← o) e
+
+  -- the call and its words by the change
+  module _ (c : Change) (e : c ≡ turnMade b w) (words : List (List ℕ)) where
+    by-change : changed b c .board ≡ turnCall b w .board
+    by-change = ap (λ (p : Played). p .board) (ap (changed b) e ∙ sym (turn-changes b w))
+
+    pub lent-refused : c .answer ≢ 0 → (numbered c b ≡ turnCall b w) × (words ≡ wordsAfter (b .moves) (turnCall b w .board) words)
+    lent-refused n = (turn-refused b w c e n, rw by-change at (words-kept b c words n))
+
+    pub lent-stored : (j : List Entry) (new : List (List ℕ)) → c .answer ≡ 0 → length (b .journal) ≡ length words
+        → j ≡ set (b .journal) (b .moves) (c .entry) → new ≡ set words (b .moves) (packed (c .entry))
+        → (record { answer = 0; board = withParts b (c .flows) (c .marks) (b .places) j (b .moves + 1) } ≡ turnCall b w)
+        × (new ≡ wordsAfter (b .moves) (turnCall b w .board) words)
+    lent-stored j new z long hj hn = (
+      ap (λ (n : ℕ). record { answer = n; board = withParts b (c .flows) (c .marks) (b .places) j (b .moves + 1) }) (sym z) ∙ turn-stored b w c e j z hj,
+      rw by-change at (hn ∙ words-stored b c words long z),
+    )

@@ -1,0 +1,61 @@
+-- A load and a finish over lent words: the load leaves the words of an empty journal, so that the finish is that of the board, and leaves the words of its journal.
+use mathlib.Core.Path.{_≡_, refl, sym, ap, _∙_}
+use mathlib.Core.Bool.{false}
+use mathlib.Core.List.{List}
+use mathlib.Core.Logic.{_⊎_, inl, inr, _≢_}
+use Prim.Native.Nat.{ℕ}
+use Rattle.lists.specs.Choice.{both}
+use Rattle.lists.proofs.Laws.{eq-or-ne}
+use Rattle.board.specs.Limits.{maxMoves}
+use Rattle.board.specs.Record.{closedBoard}
+use Rattle.board.specs.declared.Board.{Board}
+use Rattle.journal.specs.Words.{wholeOf, noWords, wordsAfter, packedAll}
+use Rattle.journal.proofs.Places.{packed-none}
+use Rattle.load.specs.declared.Loaded.{Loaded}
+use Rattle.load.specs.declared.Opened.{Opened}
+use Rattle.load.specs.Load.{loadText}
+use Rattle.load.specs.Lent.{loadedOf}
+use Rattle.load.proofs.Loads.{load-accepted, load-refused}
+use Rattle.move_guard.specs.Guard.{loaded, playing}
+use Rattle.solve_finish.specs.declared.Ended.{Ended}
+use Rattle.solve_finish.specs.declared.Finished.{Finished}
+use Rattle.solve_finish.specs.Finishes.{finishCall}
+use Rattle.solve_finish.specs.Lent.{endedOf, finishOn}
+use Rattle.solve_finish.proofs.Stepping.{finish-closed}
+use Rattle.solve_finish.proofs.Lent.{finish-on-packed, finish-packed}
+
+-- no move stands on a board that was loaded, nor on the closed one
+loaded-words : (s : List ℕ) → noWords ≡ packedAll (loadText s .board .journal)
+unfolding closedBoard
+loaded-words s = go (eq-or-ne (loadText s .answer) 0)
+  where
+    go : (loadText s .answer ≡ 0) ⊎ (loadText s .answer ≢ 0) → noWords ≡ packedAll (loadText s .board .journal)
+    go (inl h) = sym (packed-none maxMoves) ∙ ap (λ (b : Board). packedAll (b .journal)) (sym (load-accepted s h))
+    go (inr h) = sym (packed-none maxMoves) ∙ ap (λ (b : Board). packedAll (b .journal)) (sym (load-refused s h))
+
+-- a finish of the closed board leaves it
+closed-out : playing closedBoard ≡ false
+unfolding playing loaded both closedBoard
+closed-out = refl
+
+module _ (s : List ℕ) (l : Opened) (w : List (List ℕ)) (loads : loadedOf l w ≡ loadText s) (empty : w ≡ noWords) where
+  board : wholeOf (l .board) w ≡ loadText s .board
+  board = ap (λ (x : Loaded). x .board) loads
+
+  kept : w ≡ packedAll (wholeOf (l .board) w .journal)
+  kept = empty ∙ loaded-words s ∙ ap (λ (b : Board). packedAll (b .journal)) (sym board)
+
+  pub refused-words : l .answer ≢ 0 → w ≡ packedAll (finishCall (loadText s .board) .board .journal)
+  refused-words h =
+      let refused : loadText s .board ≡ closedBoard = load-refused s (λ e. h (ap (λ (x : Loaded). x .answer) loads ∙ e)) in
+      empty ∙ loaded-words s
+      ∙ ap (λ (b : Board). packedAll (b .journal)) (refused ∙ ap (λ (f : Finished). f .board) (finish-closed closedBoard closed-out) ∙ ap (λ (b : Board). finishCall b .board) (sym refused))
+
+  pub finish-loaded : (e : Ended) (v : List (List ℕ)) → endedOf e v ≡ finishOn (l .board) w → endedOf e v ≡ finishCall (wholeOf (l .board) w)
+  finish-loaded e v ends = ends ∙ finish-on-packed (l .board) w kept
+
+  pub finish-words : (v : List (List ℕ)) → v ≡ wordsAfter (l .board .moves) (finishOn (l .board) w .board) w
+      → v ≡ packedAll (finishCall (loadText s .board) .board .journal)
+  finish-words v stores =
+      stores ∙ ap (λ (f : Finished). wordsAfter (l .board .moves) (f .board) w) (finish-on-packed (l .board) w kept)
+      ∙ finish-packed (wholeOf (l .board) w) w kept ∙ ap (λ (b : Board). packedAll (finishCall b .board .journal)) board
