@@ -1,6 +1,7 @@
 -- Whatever the pieces in which an input comes, serving them one after the other and closing the session prints what the definition says of the whole
 -- input: a line that is handed on leaves the session and prints what the bytes up to it do, and pieces are lines.
 use mathlib.Core.Path.{_≡_, refl, sym, ap, _∙_}
+use mathlib.Core.Bool.{Bool}
 use mathlib.Core.List.{List, [], _∷_, _++_, append-assoc}
 use Prim.Native.Nat.{ℕ, zero, suc, _≤_}
 use native.Mathlib.Omega.{arith}
@@ -11,7 +12,6 @@ use Rattle.play_session.specs.Machine.{newSession, endTold, takenOf, fedSession
 use Rattle.play_session.specs.Inner.{runs}
 use Rattle.play_session.proofs.Pieces.{runs-fed}
 use Rattle.play_session.proofs.Prints.{prints}
-use Rattle.descriptors.specs.declared.Served.{Served}
 use Rattle.descriptors.specs.Serving.{servedLines, servedOver, toldLines, toldOver, ServedPart, inputOf, servedPieces, toldPieces}
 use Rattle.descriptors.specs.Inner.{BehindPieces}
 use Rattle.descriptors.proofs.Taking.{taken-some}
@@ -50,7 +50,7 @@ served-more (p ∷ ps) qs s = served-more ps qs (servedOver s p)
 pub behind-none : (s : Session) → BehindPieces s s
 behind-none s = record { pieces = []; session = refl }
 
-pub behind-part : {s : Session} {bytes : List ℕ} {r : Served} → ServedPart s bytes r → BehindPieces s (r .session)
+pub behind-part : {s : Session} {bytes : List ℕ} {r : Session} {going : Bool} → ServedPart s bytes r going → BehindPieces s r
 behind-part {s} {bytes} {r} h = record { pieces = take (h .count) bytes ∷ []; session = h .session }
 
 pub behind-more : (s r q : Session) → BehindPieces s r → BehindPieces r q → BehindPieces s q

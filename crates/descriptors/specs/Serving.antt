@@ -1,12 +1,11 @@
 -- The input of the program `play`, handed to its session line by line.
 use mathlib.Core.Path.{_≡_}
-use mathlib.Core.Bool.{true}
+use mathlib.Core.Bool.{Bool, true}
 use mathlib.Core.List.{List, [], _∷_, _++_}
 use Prim.Native.Nat.{ℕ, zero, suc, _≤_}
 use lib.ListN.{length, take, drop}
 use Rattle.play_session.specs.declared.Session.{Session}
 use Rattle.play_session.specs.Machine.{overStage, takenOf, fedSession, fedTold}
-use Rattle.descriptors.specs.declared.Served.{Served}
 
 -- the session behind the first k lines of the bytes; the last of them may lack its line feed
 unfoldable pub servedLines : ℕ → Session → List ℕ → Session
@@ -27,13 +26,13 @@ toldLines (suc k) s (c ∷ cs) = fedTold s (c ∷ cs) ++ toldLines k (fedSession
 abbrev pub toldOver : Session → List ℕ → List ℕ
 toldOver s bytes = toldLines (length bytes) s bytes
 
--- a session that was handed so many of the bytes, all of them where it goes on; and then its board was not refused
-pub record ServedPart (s : Session) (bytes : List ℕ) (r : Served) : Type 0 where
+-- r is the session s that was handed so many of the bytes, all of them where it goes on; and then its board was not refused
+pub record ServedPart (s : Session) (bytes : List ℕ) (r : Session) (going : Bool) : Type 0 where
   pub count : ℕ
   pub within : count ≤ length bytes
-  pub session : r .session ≡ servedOver s (take count bytes)
-  pub whole : r .going ≡ true → r .session ≡ servedOver s bytes
-  pub unrefused : r .going ≡ true → r .session .stage ≡ overStage → ⊥
+  pub session : r ≡ servedOver s (take count bytes)
+  pub whole : going ≡ true → r ≡ servedOver s bytes
+  pub unrefused : going ≡ true → r .stage ≡ overStage → ⊥
 
 -- ---- an input that comes in pieces
 

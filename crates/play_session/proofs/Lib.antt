@@ -7,4 +7,5 @@ pub mod BoardParts
 pub mod Prints
 pub mod Replying
 pub mod Keeping
+pub mod Wiped
 pub mod Feeding

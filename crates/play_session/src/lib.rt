@@ -1,20 +1,28 @@
 // The program `play` over pieces of its input.
 use board::Board;
 use board::Played;
+use journal::Done;
+use journal::Table;
+use journal::WORDS;
 use load::Loaded;
+use load::Opened;
 use play_lines::Form;
 use play_lines::Scan;
 use solve_next::Suggestion;
 ghost use mathlib.Core.Path.{_≡_};
-ghost use mathlib.Core.Bool.{false};
-ghost use Prim.Native.Nat.{min, _+_, _≤_};
+ghost use mathlib.Core.Bool.{true, false};
+ghost use mathlib.Core.List.{List, []};
+ghost use Prim.Native.Nat.{ℕ, min, _+_, _-_, _≤_};
 ghost use lib.Dec.{leb, eqb};
 ghost use lib.ListN.{length};
 ghost use lib.Seq.{sets};
 ghost use Rattle.lists.specs.Choice.{pick};
+ghost use Rattle.board.specs.Limits.{maxMoves};
+ghost use Rattle.journal.specs.Words.{wholeOf, givenOf, noWords, blankFrom, packedOn};
 ghost use Rattle.solve_next.specs.Hints.{hintRefusal, hintCall};
 ghost use Rattle.solve_finish.specs.Finishes.{finishCall};
 ghost use Rattle.load.specs.Load.{loadText};
+ghost use Rattle.load.specs.Lent.{loadedOf};
 ghost use Rattle.play_lines.specs.Scans.{hintForm, scanned};
 ghost use Rattle.sheet_output.specs.Inputs.{textSpace};
 ghost use Rattle.play_session.specs.Machine.{
@@ -44,6 +52,7 @@ ghost use Rattle.play_session.specs.Machine.{
   fedSession,
   fedTold,
 };
+ghost use Rattle.play_session.specs.Lent.{sessionOf};
 
 // The board is read, lines are played, or the board was refused; how many lines of the board are still to come, 0
 // before the first has ended; the text of the board as far as it is kept; the line as far as it was read; and the
@@ -57,6 +66,16 @@ pub struct Session {
     pub board: Board,
 }
 
+// The same with the journal lent: the board is without it.
+pub struct Sitting {
+    pub stage: u32,
+    pub left: u32,
+    pub used: usize,
+    pub text: [u8; Sitting::TEXT],
+    pub scan: Scan,
+    pub board: Table,
+}
+
 // The session behind a line feed, and how many bytes were printed.
 pub struct AfterLine {
     pub session: Session,
@@ -66,6 +85,18 @@ pub struct AfterLine {
 // The session behind a piece of the input, how many bytes of the piece were taken, and how many were printed.
 pub struct Fed {
     pub session: Session,
+    pub taken: usize,
+    pub used: usize,
+}
+
+// The same of a session whose journal is lent.
+pub struct SittingAfter {
+    pub session: Sitting,
+    pub used: usize,
+}
+
+pub struct SittingFed {
+    pub session: Sitting,
     pub taken: usize,
     pub used: usize,
 }
@@ -101,11 +132,53 @@ impl Session {
     }
 }
 
+impl Sitting {
+    // No board text is longer.
+    pub const TEXT: usize = 2048;
+
+    // The most that a line's answer takes: a number, and the longest report.
+    pub const OUTPUT: usize = 8291;
+
+    // The stages.
+    pub const READING: u32 = 0;
+
+    pub const PLAYING: u32 = 1;
+
+    pub const OVER: u32 = 2;
+
+    // Nothing was read yet, and the journal is empty.
+    pub fn start() -> Sitting
+        ensures { λ r. ⌜ sessionOf r noWords ≡ newSession ⌝ }
+    {
+        let scan = Scan::none();
+        let board = Table::closed();
+        Sitting {
+            stage: Sitting::READING,
+            left: 0,
+            used: 0,
+            text: [0; Sitting::TEXT],
+            scan: scan,
+            board: board,
+        }
+    }
+}
+
 // The number for a turn whose steps were not all kept.
 fn unkept(board: Board, form: Form) -> u32
     ensures { λ r. ⌜ r ≡ unkept board form ⌝ }
 {
     if !move_guard::playing(board) {
+        return 20;
+    }
+    let net = board.network;
+    if form.greatest < net.edges { 7 } else { 6 }
+}
+
+// The same of a board whose journal is lent.
+fn unkept_lent(board: Table, journal: &[[u64; WORDS]; Board::JOURNAL], form: Form) -> u32
+    ensures { λ r. ⌜ r ≡ unkept (wholeOf board (now (journal .entry))) form ⌝ }
+{
+    if !move_guard::playing_lent(board, journal) {
         return 20;
     }
     let net = board.network;
@@ -130,6 +203,24 @@ fn turn_replied(board: Board, form: Form) -> Played
     move_turn::turn(board, &steps[..form.count as usize])
 }
 
+// The same with the journal lent.
+fn turn_replied_lent(board: Table, journal: &mut [[u64; WORDS]; Board::JOURNAL], form: Form) -> Done
+    ensures { λ r. ⌜ givenOf r (now (journal .exit)) ≡ turnReplied (wholeOf board (now (journal .entry))) form ⌝ }
+{
+    let net = board.network;
+    let few = form.count <= Board::MAX_EDGES as u32;
+    let known = form.greatest < net.edges;
+    if !lists::and(few, known) {
+        let number = unkept_lent(board, journal, form);
+        return Done {
+            answer: number,
+            board: board,
+        };
+    }
+    let steps = form.steps;
+    move_turn::turn_lent(board, journal, &steps[..form.count as usize])
+}
+
 // A finish: its number, and the board after it.
 fn finish_replied(board: Board) -> Played
     ensures { λ r. ⌜ r .answer ≡ finishCall board .answer ⌝ }
@@ -138,6 +229,50 @@ fn finish_replied(board: Board) -> Played
     let finished = solve_finish::finish(board);
     let last = finished.board;
     Played {
+        answer: finished.answer,
+        board: last,
+    }
+}
+
+// Where the places behind so many moves begin.
+fn behind(moves: u32) -> usize
+    ensures { λ r. ⌜ r ≡ min moves maxMoves ⌝ }
+{
+    if moves < Board::JOURNAL as u32 {
+        moves as usize
+    } else {
+        Board::JOURNAL
+    }
+}
+
+// Blanks the places behind so many moves.
+fn wipe_behind(moves: u32, journal: &mut [[u64; WORDS]; Board::JOURNAL])
+    ensures { λ _. ⌜ now (journal .exit) ≡ packedOn (maxMoves - moves) moves [] (now (journal .entry)) ⌝ }
+    ensures { λ _. ⌜ ((k : ℕ) → blankFrom k moves (now (journal .exit)) ≡ true) ⌝ }
+{
+    let from = behind(moves);
+    journal::wipe(journal, from, Board::JOURNAL - from);
+}
+
+// A finish: its number, and the board after it. Places behind the moves are no part of a board: where a finish is
+// refused they are blanked, should one of them hold something, which no load leaves, and it is tried once more.
+fn finish_replied_lent(board: Table, journal: &mut [[u64; WORDS]; Board::JOURNAL]) -> Done
+    ensures { λ r. ⌜ r .answer ≡ finishCall (wholeOf board (now (journal .entry))) .answer ⌝ }
+    ensures { λ r. ⌜ wholeOf (r .board) (now (journal .exit)) ≡
+        finishCall (wholeOf board (now (journal .entry))) .board ⌝ }
+{
+    let tried = solve_finish::finish_lent(board, journal);
+    if tried.answer == 0 {
+        let last = tried.board;
+        return Done {
+            answer: 0,
+            board: last,
+        };
+    }
+    wipe_behind(board.moves, journal);
+    let finished = solve_finish::finish_lent(board, journal);
+    let last = finished.board;
+    Done {
         answer: finished.answer,
         board: last,
     }
@@ -161,6 +296,29 @@ fn form_replied(board: Board, form: Form) -> Played
         return finish_replied(board);
     }
     Played {
+        answer: 1,
+        board: board,
+    }
+}
+
+// The same with the journal lent.
+fn form_replied_lent(board: Table, journal: &mut [[u64; WORDS]; Board::JOURNAL], form: Form) -> Done
+    requires { ⌜ eqb (form .kind) hintForm ≡ false ⌝ }
+    ensures { λ r. ⌜ givenOf r (now (journal .exit)) ≡ formReplied (wholeOf board (now (journal .entry))) form ⌝ }
+{
+    if form.kind == Form::CARRY_WHOLE {
+        return move_carry::carry_lent(board, journal, form.first, form.second);
+    }
+    if form.kind == Form::TURN {
+        return turn_replied_lent(board, journal, form);
+    }
+    if form.kind == Form::UNDO {
+        return move_undo::undo_lent(board, journal);
+    }
+    if form.kind == Form::FINISH {
+        return finish_replied_lent(board, journal);
+    }
+    Done {
         answer: 1,
         board: board,
     }
@@ -193,6 +351,27 @@ fn put_reply(out: &mut [u8], form: Form, played: Played) -> usize
     }
     let last = played.board;
     sheet_output::put_report(out, number, last)
+}
+
+// The same with the journal lent.
+fn put_reply_lent(
+    out: &mut [u8],
+    form: Form,
+    played: Done,
+    journal: &[[u64; WORDS]; Board::JOURNAL],
+) -> usize
+    ensures { λ r. ⌜ r ≡ length (playedText form (givenOf played (now (journal .entry)))) ⌝ }
+    ensures { λ r. ⌜ r ≤ 8291 ⌝ }
+    ensures { λ _. ⌜ now (out .exit) ≡
+        sets (now (out .entry)) 0 (playedText form (givenOf played (now (journal .entry)))) ⌝ }
+{
+    let number = sheet_output::put_number(out, 0, played.answer);
+    let finished = form.kind == Form::FINISH;
+    if !lists::and(finished, played.answer == 0) {
+        return number;
+    }
+    let last = played.board;
+    sheet_output::put_report_lent(out, number, last, journal)
 }
 
 // Stores bytes from a place on, as many as there is room for.
@@ -239,9 +418,33 @@ fn text_grown(session: Session, bytes: &[u8]) -> Session
     next
 }
 
+// The same, whatever words are lent.
+fn text_grown_lent(session: Sitting, bytes: &[u8]) -> Sitting
+    ensures { λ r. ⌜ ((w : List (List ℕ)) → sessionOf r w ≡ textGrown (sessionOf session w) (now (bytes .entry))) ⌝ }
+{
+    let text = session.text;
+    let kept = put_bytes(text, session.used, bytes);
+    let used = used_after(session.used, bytes.len());
+    let mut next = session;
+    next.used = used;
+    next.text = kept;
+    next
+}
+
 // Bytes of a line of the play.
 fn scan_grown(session: Session, bytes: &[u8]) -> Session
     ensures { λ r. ⌜ r ≡ scanGrown session (now (bytes .entry)) ⌝ }
+{
+    let scan = session.scan;
+    let read = play_lines::read_on(scan, bytes);
+    let mut next = session;
+    next.scan = read;
+    next
+}
+
+// The same, whatever words are lent.
+fn scan_grown_lent(session: Sitting, bytes: &[u8]) -> Sitting
+    ensures { λ r. ⌜ ((w : List (List ℕ)) → sessionOf r w ≡ scanGrown (sessionOf session w) (now (bytes .entry))) ⌝ }
 {
     let scan = session.scan;
     let read = play_lines::read_on(scan, bytes);
@@ -259,6 +462,19 @@ fn grown(session: Session, bytes: &[u8]) -> Session
     }
     if session.stage == Session::PLAYING {
         return scan_grown(session, bytes);
+    }
+    session
+}
+
+// The same, whatever words are lent.
+fn grown_lent(session: Sitting, bytes: &[u8]) -> Sitting
+    ensures { λ r. ⌜ ((w : List (List ℕ)) → sessionOf r w ≡ grown (sessionOf session w) (now (bytes .entry))) ⌝ }
+{
+    if session.stage == Sitting::READING {
+        return text_grown_lent(session, bytes);
+    }
+    if session.stage == Sitting::PLAYING {
+        return scan_grown_lent(session, bytes);
     }
     session
 }
@@ -287,6 +503,19 @@ fn lines_left(session: Session) -> u32
     lists::minus(wanted, 1)
 }
 
+// The same, whatever words are lent.
+fn lines_left_lent(session: Sitting) -> u32
+    ensures { λ r. ⌜ ((w : List (List ℕ)) → r ≡ linesLeft (sessionOf session w)) ⌝ }
+{
+    if session.left != 0 {
+        return session.left - 1;
+    }
+    let text = session.text;
+    let used = kept(session.used);
+    let wanted = sheet_output::lines_wanted(&text[..used]);
+    lists::minus(wanted, 1)
+}
+
 // The board, loaded from the text.
 fn board_loaded(session: Session) -> Loaded
     ensures { λ r. ⌜ r ≡ loadText (textSoFar session) ⌝ }
@@ -294,6 +523,16 @@ fn board_loaded(session: Session) -> Loaded
     let text = session.text;
     let used = kept(session.used);
     load::load(&text[..used])
+}
+
+// The same with the journal lent, which is emptied.
+fn board_loaded_lent(session: Sitting, journal: &mut [[u64; WORDS]; Board::JOURNAL]) -> Opened
+    ensures { λ r. ⌜ loadedOf r (now (journal .exit)) ≡
+        loadText (textSoFar (sessionOf session (now (journal .entry)))) ⌝ }
+{
+    let text = session.text;
+    let used = kept(session.used);
+    load::load_lent(&text[..used], journal)
 }
 
 // The stage behind a load: the board is played, or it was refused.
@@ -322,11 +561,39 @@ fn ready(session: Session, loaded: Loaded) -> Session
     next
 }
 
+// The same, whatever words are lent.
+fn ready_lent(session: Sitting, loaded: Opened) -> Sitting
+    ensures { λ r. ⌜ ((w : List (List ℕ)) → sessionOf r w ≡ ready (loadedOf loaded w) (sessionOf session w)) ⌝ }
+{
+    let stage = stage_after(loaded.answer);
+    let scan = Scan::none();
+    let board = loaded.board;
+    let mut next = session;
+    next.stage = stage;
+    next.left = 0;
+    next.scan = scan;
+    next.board = board;
+    next
+}
+
 // Writes the number of a refused board, and nothing for another; answers how many bytes.
 fn put_load(out: &mut [u8], loaded: Loaded) -> usize
     ensures { λ r. ⌜ r ≡ length (loadTold loaded) ⌝ }
     ensures { λ r. ⌜ r ≤ 8291 ⌝ }
     ensures { λ _. ⌜ now (out .exit) ≡ sets (now (out .entry)) 0 (loadTold loaded) ⌝ }
+{
+    if loaded.answer == 0 {
+        return 0;
+    }
+    sheet_output::put_number(out, 0, loaded.answer)
+}
+
+// The same, whatever words are lent.
+fn put_load_lent(out: &mut [u8], loaded: Opened) -> usize
+    ensures { λ r. ⌜ ((w : List (List ℕ)) → r ≡ length (loadTold (loadedOf loaded w))) ⌝ }
+    ensures { λ r. ⌜ r ≤ 8291 ⌝ }
+    ensures { λ _. ⌜ ((w : List (List ℕ)) →
+        now (out .exit) ≡ sets (now (out .entry)) 0 (loadTold (loadedOf loaded w))) ⌝ }
 {
     if loaded.answer == 0 {
         return 0;
@@ -359,6 +626,37 @@ fn board_line(session: Session, out: &mut [u8]) -> AfterLine
     }
 }
 
+// The same with the journal lent.
+fn board_line_lent(
+    session: Sitting,
+    journal: &mut [[u64; WORDS]; Board::JOURNAL],
+    out: &mut [u8],
+) -> SittingAfter
+    ensures { λ r. ⌜ sessionOf (r .session) (now (journal .exit)) ≡
+        boardLine (sessionOf session (now (journal .entry))) ⌝ }
+    ensures { λ r. ⌜ r .used ≡ length (boardTold (sessionOf session (now (journal .entry)))) ⌝ }
+    ensures { λ r. ⌜ r .used ≤ 8291 ⌝ }
+    ensures { λ _. ⌜ now (out .exit) ≡
+        sets (now (out .entry)) 0 (boardTold (sessionOf session (now (journal .entry)))) ⌝ }
+{
+    let left = lines_left_lent(session);
+    if left != 0 {
+        let mut next = session;
+        next.left = left;
+        return SittingAfter {
+            session: next,
+            used: 0,
+        };
+    }
+    let loaded = board_loaded_lent(session, journal);
+    let used = put_load_lent(out, loaded);
+    let next = ready_lent(session, loaded);
+    SittingAfter {
+        session: next,
+        used: used,
+    }
+}
+
 // A line that asks for a hint has ended: the hint is worked out once, and the board stays.
 fn hint_line(session: Session, out: &mut [u8]) -> AfterLine
     ensures { λ r. ⌜ r .session ≡ playedLine (record {
@@ -376,6 +674,34 @@ fn hint_line(session: Session, out: &mut [u8]) -> AfterLine
     let mut next = session;
     next.scan = none;
     AfterLine {
+        session: next,
+        used: used,
+    }
+}
+
+// The same with the journal lent.
+fn hint_line_lent(
+    session: Sitting,
+    journal: &[[u64; WORDS]; Board::JOURNAL],
+    out: &mut [u8],
+) -> SittingAfter
+    ensures { λ r. ⌜ sessionOf (r .session) (now (journal .entry)) ≡ playedLine (record {
+      answer = hintRefusal (wholeOf (session .board) (now (journal .entry)));
+      board = wholeOf (session .board) (now (journal .entry));
+    }) (sessionOf session (now (journal .entry))) ⌝ }
+    ensures { λ r. ⌜ r .used ≡
+        length (suggestionText (hintCall (wholeOf (session .board) (now (journal .entry))))) ⌝ }
+    ensures { λ r. ⌜ r .used ≤ 8291 ⌝ }
+    ensures { λ _. ⌜ now (out .exit) ≡
+        sets (now (out .entry)) 0 (suggestionText (hintCall (wholeOf (session .board) (now (journal .entry))))) ⌝ }
+{
+    let board = session.board;
+    let given = solve_next::hint_lent(board, journal);
+    let used = put_hint(out, given);
+    let none = Scan::none();
+    let mut next = session;
+    next.scan = none;
+    SittingAfter {
         session: next,
         used: used,
     }
@@ -408,6 +734,40 @@ fn played_line(session: Session, out: &mut [u8]) -> AfterLine
     }
 }
 
+// The same with the journal lent.
+fn played_line_lent(
+    session: Sitting,
+    journal: &mut [[u64; WORDS]; Board::JOURNAL],
+    out: &mut [u8],
+) -> SittingAfter
+    ensures { λ r. ⌜ sessionOf (r .session) (now (journal .exit)) ≡
+        playedLine (formReplied (wholeOf (session .board) (now (journal .entry))) (scanned (session .scan)))
+        (sessionOf session (now (journal .entry))) ⌝ }
+    ensures { λ r. ⌜ r .used ≡
+        length (formText (wholeOf (session .board) (now (journal .entry))) (scanned (session .scan))) ⌝ }
+    ensures { λ r. ⌜ r .used ≤ 8291 ⌝ }
+    ensures { λ _. ⌜ now (out .exit) ≡ sets (now (out .entry)) 0
+        (formText (wholeOf (session .board) (now (journal .entry))) (scanned (session .scan))) ⌝ }
+{
+    let scan = session.scan;
+    let form = play_lines::whole(scan);
+    if form.kind == Form::HINT {
+        return hint_line_lent(session, journal, out);
+    }
+    let board = session.board;
+    let played = form_replied_lent(board, journal, form);
+    let used = put_reply_lent(out, form, played, journal);
+    let none = Scan::none();
+    let last = played.board;
+    let mut next = session;
+    next.scan = none;
+    next.board = last;
+    SittingAfter {
+        session: next,
+        used: used,
+    }
+}
+
 // A line feed.
 fn line_ended(session: Session, out: &mut [u8]) -> AfterLine
     ensures { λ r. ⌜ r .session ≡ lineEnded session ⌝ }
@@ -424,6 +784,33 @@ fn line_ended(session: Session, out: &mut [u8]) -> AfterLine
         return played_line(session, out);
     }
     AfterLine {
+        session: session,
+        used: 0,
+    }
+}
+
+// The same with the journal lent.
+fn line_ended_lent(
+    session: Sitting,
+    journal: &mut [[u64; WORDS]; Board::JOURNAL],
+    out: &mut [u8],
+) -> SittingAfter
+    ensures { λ r. ⌜ sessionOf (r .session) (now (journal .exit)) ≡
+        lineEnded (sessionOf session (now (journal .entry))) ⌝ }
+    ensures { λ r. ⌜ r .used ≡ length (lineTold (sessionOf session (now (journal .entry)))) ⌝ }
+    ensures { λ r. ⌜ r .used ≤ 8291 ⌝ }
+    ensures { λ _. ⌜ now (out .exit) ≡
+        sets (now (out .entry)) 0 (lineTold (sessionOf session (now (journal .entry)))) ⌝ }
+{
+    if session.stage == Sitting::READING {
+        let feed = [b'\n'];
+        let whole = text_grown_lent(session, &feed);
+        return board_line_lent(whole, journal, out);
+    }
+    if session.stage == Sitting::PLAYING {
+        return played_line_lent(session, journal, out);
+    }
+    SittingAfter {
         session: session,
         used: 0,
     }
@@ -459,6 +846,43 @@ pub fn feed(session: Session, bytes: &[u8], out: &mut [u8]) -> Fed
     }
 }
 
+// The same with the journal lent.
+pub fn feed_lent(
+    session: Sitting,
+    journal: &mut [[u64; WORDS]; Board::JOURNAL],
+    bytes: &[u8],
+    out: &mut [u8],
+) -> SittingFed
+    ensures { λ r. ⌜ sessionOf (r .session) (now (journal .exit)) ≡
+        fedSession (sessionOf session (now (journal .entry))) (now (bytes .entry)) ⌝ }
+    ensures { λ r. ⌜ r .taken ≡ takenOf (now (bytes .entry)) ⌝ }
+    ensures { λ r. ⌜ r .used ≡
+        length (fedTold (sessionOf session (now (journal .entry))) (now (bytes .entry))) ⌝ }
+    ensures { λ r. ⌜ r .used ≤ 8291 ⌝ }
+    ensures { λ _. ⌜ now (out .exit) ≡
+        sets (now (out .entry)) 0 (fedTold (sessionOf session (now (journal .entry))) (now (bytes .entry))) ⌝ }
+    ensures { λ r. ⌜ r .taken ≤ length (now (bytes .entry)) ⌝ }
+{
+    let at = lists::index_of(bytes, b'\n');
+    if bytes.len() <= at {
+        let next = grown_lent(session, bytes);
+        return SittingFed {
+            session: next,
+            taken: bytes.len(),
+            used: 0,
+        };
+    }
+    let taken = at + 1;
+    let next = grown_lent(session, &bytes[..at]);
+    let told = line_ended_lent(next, journal, out);
+    let last = told.session;
+    SittingFed {
+        session: last,
+        taken: taken,
+        used: told.used,
+    }
+}
+
 // Writes what is printed at the end of the input, and answers how many bytes.
 pub fn close(session: Session, out: &mut [u8]) -> usize
     ensures { λ r. ⌜ r ≡ length (endTold session) ⌝ }
@@ -470,6 +894,31 @@ pub fn close(session: Session, out: &mut [u8]) -> usize
         return put_load(out, loaded);
     }
     if session.stage == Session::PLAYING {
+        let scan = session.scan;
+        if play_lines::is_blank(scan) {
+            return 0;
+        }
+        return sheet_output::put_number(out, 0, 1);
+    }
+    0
+}
+
+// The same with the journal lent.
+pub fn close_lent(
+    session: Sitting,
+    journal: &mut [[u64; WORDS]; Board::JOURNAL],
+    out: &mut [u8],
+) -> usize
+    ensures { λ r. ⌜ r ≡ length (endTold (sessionOf session (now (journal .entry)))) ⌝ }
+    ensures { λ r. ⌜ r ≤ 8291 ⌝ }
+    ensures { λ _. ⌜ now (out .exit) ≡
+        sets (now (out .entry)) 0 (endTold (sessionOf session (now (journal .entry)))) ⌝ }
+{
+    if session.stage == Sitting::READING {
+        let loaded = board_loaded_lent(session, journal);
+        return put_load_lent(out, loaded);
+    }
+    if session.stage == Sitting::PLAYING {
         let scan = session.scan;
         if play_lines::is_blank(scan) {
             return 0;

@@ -1,0 +1,85 @@
+-- The kind of the line picks the call, in the code and in the definition.
+use mathlib.Core.Path.{sym, _∙_}
+use borrow.Author.Tests.{eq-eqb, ne-eqb}
+use Rattle.lists.proofs.Laws.{pick-yes, pick-no}
+use Rattle.play_lines.specs.Scans.{undoForm, finishForm, carryWhole, turnForm}
+use Rattle.play_session.specs.Machine.{formReplied}
+use borrow.Author.Needs.{needs}
+use Rattle.play_session.proofs.form_replied_lent.Statement.{statement}
+use Rattle.play_session.proofs.form_replied_lent.Tie as tie
+
+carry-lent-requires : tie.Need-carry-lent-requires
+carry-lent-requires c κs = search needs
+
+returns : tie.Need-returns
+unfolding formReplied
+returns c = c .carry-lent .ensures .0 ∙ sym (pick-yes _ _ _ (eq-eqb _ carryWhole (c .before .before .if1 .taken)))
+
+turn-replied-lent-requires : tie.Need-turn-replied-lent-requires
+turn-replied-lent-requires c κs = search needs
+
+returns-2 : tie.Need-returns-2
+unfolding formReplied
+returns-2 c =
+    let at-if2 = c .before .before in
+    let n1 = ne-eqb _ carryWhole (at-if2 .before .before .if1 .left) in
+    c .turn-replied-lent .ensures ∙ sym (pick-no _ _ _ n1 ∙ pick-yes _ _ _ (eq-eqb _ turnForm (at-if2 .if2 .taken)))
+
+undo-lent-requires : tie.Need-undo-lent-requires
+undo-lent-requires c κs = search needs
+
+returns-3 : tie.Need-returns-3
+unfolding formReplied
+returns-3 c =
+    let at-if3 = c .before .before in
+    let at-if2 = at-if3 .before .before in
+    let at-if1 = at-if2 .before .before in
+    let n1 = ne-eqb _ carryWhole (at-if1 .if1 .left) in
+    let n2 = ne-eqb _ turnForm (at-if2 .if2 .left) in
+    let n3 = at-if1 .before .before .pre in
+    c .undo-lent .ensures .0 ∙ sym (pick-no _ _ _ n1 ∙ pick-no _ _ _ n2 ∙ pick-no _ _ _ n3 ∙ pick-yes _ _ _ (eq-eqb _ undoForm (at-if3 .if3 .taken)))
+
+finish-replied-lent-requires : tie.Need-finish-replied-lent-requires
+finish-replied-lent-requires c κs = search needs
+
+returns-4 : tie.Need-returns-4
+unfolding formReplied
+returns-4 c =
+    let e = c .finish-replied-lent .ensures in
+    let at-if4 = c .before .before in
+    let at-if3 = at-if4 .before .before in
+    let at-if2 = at-if3 .before .before in
+    let at-if1 = at-if2 .before .before in
+    let n1 = ne-eqb _ carryWhole (at-if1 .if1 .left) in
+    let n2 = ne-eqb _ turnForm (at-if2 .if2 .left) in
+    let n3 = at-if1 .before .before .pre in
+    let n4 = ne-eqb _ undoForm (at-if3 .if3 .left) in
+    (λ i. record { answer = e .0 i; board = e .1 i })
+    ∙ sym (pick-no _ _ _ n1 ∙ pick-no _ _ _ n2 ∙ pick-no _ _ _ n3 ∙ pick-no _ _ _ n4 ∙ pick-yes _ _ _ (eq-eqb _ finishForm (at-if4 .if4 .taken)))
+
+returns-5 : tie.Need-returns-5
+unfolding formReplied
+returns-5 c =
+    let at-if3 = c .before .before in
+    let at-if2 = at-if3 .before .before in
+    let at-if1 = at-if2 .before .before in
+    let n1 = ne-eqb _ carryWhole (at-if1 .if1 .left) in
+    let n2 = ne-eqb _ turnForm (at-if2 .if2 .left) in
+    let n3 = at-if1 .before .before .pre in
+    let n4 = ne-eqb _ undoForm (at-if3 .if3 .left) in
+    let n5 = ne-eqb _ finishForm (c .if4 .left) in
+    sym (pick-no _ _ _ n1 ∙ pick-no _ _ _ n2 ∙ pick-no _ _ _ n3 ∙ pick-no _ _ _ n4 ∙ pick-no _ _ _ n5)
+
+pub form-replied-lent-spec : {M : Type 1} → statement M
+form-replied-lent-spec =
+    tie.close
+    (tie.spec
+    carry-lent-requires
+    returns
+    turn-replied-lent-requires
+    returns-2
+    undo-lent-requires
+    returns-3
+    finish-replied-lent-requires
+    returns-4
+    returns-5)
