@@ -80,10 +80,10 @@ module _ (text : List ℕ) (cs : List Call) (l : Opened) (w₁ : List (List ℕ)
   start : wholeOf (l .board) w₁ ≡ loadText text .board
   start = ap (λ (x : Loaded). x .board) loads
 
-  after-calls : wholeOf t w₂ ≡ played (loadText text .board) cs
+  pub after-calls : wholeOf t w₂ ≡ played (loadText text .board) cs
   after-calls = plays ∙ ap (λ (b : Board). played b cs) start
 
-  kept : Kept (wholeOf t w₂) w₂
+  pub kept : Kept (wholeOf t w₂) w₂
   kept =
       packs ∙ ap (λ (b : Board). wordsPlayed b cs w₁) start ∙ ap (wordsPlayed (loadText text .board) cs) empty ∙ calls-kept text cs
       ∙ ap (λ (b : Board). packedAll (b .journal)) (sym after-calls)
