@@ -1,26 +1,30 @@
+-- The session's last words are written into the buffer, and printed where they fit it.
+use denote.Ref.{now}
+use Rattle.play_session.specs.Machine.{endTold}
+use Rattle.play_session.specs.Lent.{sessionOf}
 use borrow.Author.Needs.{needs}
+use Rattle.descriptors.proofs.Printing.{printed-fits}
 use Rattle.descriptors.proofs.close_lent.Statement.{statement}
 use Rattle.descriptors.proofs.close_lent.Tie as tie
-use Rattle.descriptors.proofs.close_lent.Reads as reads
-use Rattle.descriptors.proofs.close_lent.Lts as lts
-use Rattle.descriptors.proofs.print_part.Reads as print-part-reads
-use Rattle.play_session.proofs.close_lent.Reads as close-lent-reads
 
--- src/lib.rt:197:9
 close-lent-requires : tie.Need-close-lent-requires
 close-lent-requires c κs = search needs
 
--- src/lib.rt:198:5
 print-part-requires : tie.Need-print-part-requires
 print-part-requires c κs = search needs
 
--- src/lib.rt:187:1
 same-length : tie.Need-same-length
 same-length c = search needs
 
--- src/lib.rt:187:1
 returns : tie.Need-returns
-returns c = ?
+returns c =
+    let telling = c .before .before .before .before in
+    let start = telling .before .before .before .before in
+    let session = sessionOf (start .args .session) (now (start .args .journal)) in
+    let told = telling .close-lent .ensures in
+    let written = told .1 .1 in
+    let fits = printed-fits (now (start .args .out)) _ (endTold session) _ (told .0) written in
+    ((λ e. fits (c .print-part .ensures e)), written)
 
 pub close-lent-spec : {M : Type 1} → statement M
 close-lent-spec = tie.close (tie.spec close-lent-requires print-part-requires same-length returns)

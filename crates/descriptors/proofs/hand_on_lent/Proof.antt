@@ -1,26 +1,31 @@
+-- What the session says of a piece is written into the buffer, and printed where it fits it.
+use denote.Ref.{now}
+use Rattle.play_session.specs.Machine.{fedTold}
+use Rattle.play_session.specs.Lent.{sessionOf}
 use borrow.Author.Needs.{needs}
+use Rattle.descriptors.proofs.Printing.{printed-fits}
 use Rattle.descriptors.proofs.hand_on_lent.Statement.{statement}
 use Rattle.descriptors.proofs.hand_on_lent.Tie as tie
-use Rattle.descriptors.proofs.hand_on_lent.Reads as reads
-use Rattle.descriptors.proofs.hand_on_lent.Lts as lts
-use Rattle.descriptors.proofs.print_part.Reads as print-part-reads
-use Rattle.play_session.proofs.feed_lent.Reads as feed-lent-reads
 
--- src/lib.rt:87:9
 feed-lent-requires : tie.Need-feed-lent-requires
 feed-lent-requires c κs = search needs
 
--- src/lib.rt:88:9
 print-part-requires : tie.Need-print-part-requires
 print-part-requires c κs = search needs
 
--- src/lib.rt:72:1
 same-length : tie.Need-same-length
 same-length c = search needs
 
--- src/lib.rt:72:1
 returns : tie.Need-returns
-returns c = ?
+returns c =
+    let printing = c .before in
+    let feeding = printing .before .before .before .before in
+    let start = feeding .before .before .before .before .before in
+    let session = sessionOf (start .args .session) (now (start .args .journal)) in
+    let told = feeding .feed-lent .ensures in
+    let written = told .1 .1 .1 .1 .0 in
+    let fits = printed-fits (now (start .args .out)) _ (fedTold session (now (start .args .bytes))) _ (told .1 .1 .0) written in
+    (told .0, (told .1 .0, ((λ e. fits (printing .print-part .ensures e)), written)))
 
 pub hand-on-lent-spec : {M : Type 1} → statement M
 hand-on-lent-spec = tie.close (tie.spec feed-lent-requires print-part-requires same-length returns)
