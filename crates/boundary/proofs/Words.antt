@@ -32,5 +32,5 @@ module _ (n : ℕ) (t : Table) (w : List (List ℕ)) (kept : w ≡ packedAll (wh
       record {
         board = ap (λ (f : Finished). f .board) (ends ∙ on) ∙ sym over;
         words-kept = stores ∙ ap (λ (f : Finished). wordsAfter (t .moves) (f .board) w) on ∙ finish-packed (wholeOf t w) w kept
-        ∙ ap (λ (b : Board). packedAll (b .journal)) (sym over);
+            ∙ ap (λ (b : Board). packedAll (b .journal)) (sym over);
       }
