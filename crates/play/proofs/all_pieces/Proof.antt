@@ -2,16 +2,18 @@
 use Prim.Native.Nat.{_≤_}
 use native.Mathlib.Omega.{arith}
 use borrow.Author.Needs.{needs}
+use Rattle.play_session.specs.Lent.{sessionOf}
 use Rattle.descriptors.specs.Inner.{BehindPieces}
 use Rattle.descriptors.proofs.PrintedPieces.{behind-none, behind-more}
 use Rattle.play.proofs.all_pieces.Statement.{statement}
 use Rattle.play.proofs.all_pieces.Tie as tie
 
 abbrev Inv-loop : tie.InvT-loop
-Inv-loop current₀ rounds₀ current rounds = (rounds ≤ rounds₀) × BehindPieces current₀ current
+Inv-loop journal₀ current₀ rounds₀ journal current rounds =
+    (rounds ≤ rounds₀) × BehindPieces (sessionOf current₀ journal₀) (sessionOf current journal)
 
 abbrev μ-loop : tie.MeasureT-loop
-μ-loop current₀ rounds₀ current rounds = rounds
+μ-loop journal₀ current₀ rounds₀ journal current rounds = rounds
 
 loop-holds : tie.Need-loop-holds Inv-loop μ-loop
 loop-holds c = (omega arith, behind-none _)
@@ -22,7 +24,7 @@ next-piece-requires c κs = search needs
 returns : tie.Need-returns Inv-loop μ-loop
 returns c =
     let at-next = c .before .before in
-    behind-more _ _ _ (at-next .before .before .loop .inv .1) (at-next .next-piece .ensures)
+    behind-more _ _ _ (at-next .before .before .before .loop .inv .1) (at-next .next-piece .ensures)
 
 sub-rounds : tie.Need-sub-rounds Inv-loop μ-loop
 sub-rounds c = search needs
@@ -33,7 +35,7 @@ loop-less c = search needs
 loop-again : tie.Need-loop-again Inv-loop μ-loop
 loop-again c =
     let at-next = c .before .before in
-    (omega arith, behind-more _ _ _ (at-next .before .before .loop .inv .1) (at-next .next-piece .ensures))
+    (omega arith, behind-more _ _ _ (at-next .before .before .before .loop .inv .1) (at-next .next-piece .ensures))
 
 returns-2 : tie.Need-returns-2 Inv-loop μ-loop
 returns-2 c = c .before .loop .inv .1
