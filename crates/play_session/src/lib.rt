@@ -419,16 +419,15 @@ fn text_grown(session: Session, bytes: &[u8]) -> Session
 }
 
 // The same, whatever words are lent.
-fn text_grown_lent(session: Sitting, bytes: &[u8]) -> Sitting
+fn text_grown_lent(mut session: Sitting, bytes: &[u8]) -> Sitting
     ensures { λ r. ⌜ ((w : List (List ℕ)) → sessionOf r w ≡ textGrown (sessionOf session w) (now (bytes .entry))) ⌝ }
 {
     let text = session.text;
     let kept = put_bytes(text, session.used, bytes);
     let used = used_after(session.used, bytes.len());
-    let mut next = session;
-    next.used = used;
-    next.text = kept;
-    next
+    session.used = used;
+    session.text = kept;
+    session
 }
 
 // Bytes of a line of the play.
@@ -443,14 +442,13 @@ fn scan_grown(session: Session, bytes: &[u8]) -> Session
 }
 
 // The same, whatever words are lent.
-fn scan_grown_lent(session: Sitting, bytes: &[u8]) -> Sitting
+fn scan_grown_lent(mut session: Sitting, bytes: &[u8]) -> Sitting
     ensures { λ r. ⌜ ((w : List (List ℕ)) → sessionOf r w ≡ scanGrown (sessionOf session w) (now (bytes .entry))) ⌝ }
 {
     let scan = session.scan;
     let read = play_lines::read_on(scan, bytes);
-    let mut next = session;
-    next.scan = read;
-    next
+    session.scan = read;
+    session
 }
 
 // Bytes with no line feed among them.
@@ -562,18 +560,17 @@ fn ready(session: Session, loaded: Loaded) -> Session
 }
 
 // The same, whatever words are lent.
-fn ready_lent(session: Sitting, loaded: Opened) -> Sitting
+fn ready_lent(mut session: Sitting, loaded: Opened) -> Sitting
     ensures { λ r. ⌜ ((w : List (List ℕ)) → sessionOf r w ≡ ready (loadedOf loaded w) (sessionOf session w)) ⌝ }
 {
     let stage = stage_after(loaded.answer);
     let scan = Scan::none();
     let board = loaded.board;
-    let mut next = session;
-    next.stage = stage;
-    next.left = 0;
-    next.scan = scan;
-    next.board = board;
-    next
+    session.stage = stage;
+    session.left = 0;
+    session.scan = scan;
+    session.board = board;
+    session
 }
 
 // Writes the number of a refused board, and nothing for another; answers how many bytes.
@@ -628,7 +625,7 @@ fn board_line(session: Session, out: &mut [u8]) -> AfterLine
 
 // The same with the journal lent.
 fn board_line_lent(
-    session: Sitting,
+    mut session: Sitting,
     journal: &mut [[u64; WORDS]; Board::JOURNAL],
     out: &mut [u8],
 ) -> SittingAfter
@@ -641,10 +638,9 @@ fn board_line_lent(
 {
     let left = lines_left_lent(session);
     if left != 0 {
-        let mut next = session;
-        next.left = left;
+        session.left = left;
         return SittingAfter {
-            session: next,
+            session: session,
             used: 0,
         };
     }
@@ -681,7 +677,7 @@ fn hint_line(session: Session, out: &mut [u8]) -> AfterLine
 
 // The same with the journal lent.
 fn hint_line_lent(
-    session: Sitting,
+    mut session: Sitting,
     journal: &[[u64; WORDS]; Board::JOURNAL],
     out: &mut [u8],
 ) -> SittingAfter
@@ -699,10 +695,9 @@ fn hint_line_lent(
     let given = solve_next::hint_lent(board, journal);
     let used = put_hint(out, given);
     let none = Scan::none();
-    let mut next = session;
-    next.scan = none;
+    session.scan = none;
     SittingAfter {
-        session: next,
+        session: session,
         used: used,
     }
 }
@@ -736,7 +731,7 @@ fn played_line(session: Session, out: &mut [u8]) -> AfterLine
 
 // The same with the journal lent.
 fn played_line_lent(
-    session: Sitting,
+    mut session: Sitting,
     journal: &mut [[u64; WORDS]; Board::JOURNAL],
     out: &mut [u8],
 ) -> SittingAfter
@@ -759,11 +754,10 @@ fn played_line_lent(
     let used = put_reply_lent(out, form, played, journal);
     let none = Scan::none();
     let last = played.board;
-    let mut next = session;
-    next.scan = none;
-    next.board = last;
+    session.scan = none;
+    session.board = last;
     SittingAfter {
-        session: next,
+        session: session,
         used: used,
     }
 }
