@@ -1,17 +1,19 @@
 // Texts, each with its length in two bytes before it, the high byte first. For each it prints what reading the text
 // answers, and after a 0 the text written back from what was read.
 use super::framing;
+use board::Board;
 use board::Network;
+use journal::Table;
 use libc::STDIN_FILENO;
 use libc::STDOUT_FILENO;
 
 // The text of the network, or on a line the number that writing it is refused with.
 fn print_text(network: Network) -> bool {
-    let mut b = board::Board::closed();
-    b.stage = board::Board::PLAY;
-    b.network = network;
+    let mut board = Table::closed();
+    board.stage = Board::PLAY;
+    board.network = network;
     let mut space = [0u8; 1500];
-    let written = text_writer::write(b, &mut space);
+    let written = text_writer::write_lent(board, &mut space);
     if written.answer != 0 {
         return framing::print_line(written.answer);
     }

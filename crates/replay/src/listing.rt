@@ -2,9 +2,10 @@
 // and turns of its finish; its text; and its route report; or what a number with no board is refused with.
 use super::framing;
 use board::Board;
-use board::Entry;
 use board::Move;
-use play_session::Session;
+use journal::Table;
+use journal::WORDS;
+use play_session::Sitting;
 ghost use Prim.Native.Nat.{_≤_};
 
 // 1 for a carry, 0 for a turn.
@@ -18,13 +19,13 @@ fn carry_count(step: Move) -> u32
 }
 
 // How many of the first moves of a journal are carries.
-fn carries(journal: [Entry; Board::JOURNAL], moves: u32) -> u32
+fn carries(journal: &[[u64; WORDS]; Board::JOURNAL], moves: u32) -> u32
     ensures { λ r. ⌜ r ≤ moves ⌝ }
 {
     let mut count: u32 = 0;
     let mut i: u32 = 0;
     while i < moves && (i as usize) < Board::JOURNAL {
-        let entry = journal[i as usize];
+        let entry = journal::entry_at(journal, i as usize);
         let step = entry.step;
         count += carry_count(step);
         i += 1;
@@ -33,9 +34,8 @@ fn carries(journal: [Entry; Board::JOURNAL], moves: u32) -> u32
 }
 
 // The line of a board that was finished.
-fn print_counts(number: u32, board: Board) -> bool {
+fn print_counts(number: u32, board: Table, journal: &[[u64; WORDS]; Board::JOURNAL]) -> bool {
     let net = board.network;
-    let journal = board.journal;
     let carried = carries(journal, board.moves);
     let row = [
         number,
@@ -52,20 +52,21 @@ fn print_counts(number: u32, board: Board) -> bool {
 
 // The line of a board, its text and its report.
 fn print_board(number: u32, text: &[u8]) -> bool {
-    let loaded = load::load(text);
+    let mut journal = [[0u64; WORDS]; Board::JOURNAL];
+    let loaded = load::load_lent(text, &mut journal);
     let board = loaded.board;
-    let finished = solve_finish::finish(board);
+    let finished = solve_finish::finish_lent(board, &mut journal);
     let last = finished.board;
-    let counted = print_counts(number, last);
+    let counted = print_counts(number, last, &journal);
     let written = descriptors::print_part(text, text.len());
-    let mut out = [0u8; Session::OUTPUT];
-    let reported = descriptors::print_sheet(text, &mut out);
+    let mut out = [0u8; Sitting::OUTPUT];
+    let reported = descriptors::print_sheet_lent(text, &mut journal, &mut out);
     counted && written && reported
 }
 
 // The board of a number, or what the number is refused with.
 fn show(number: u32) -> bool {
-    let mut space = [0u8; Session::TEXT];
+    let mut space = [0u8; Sitting::TEXT];
     let written = catalog::write(number, &mut space);
     let used = written.used;
     if written.answer != 0 {

@@ -3,10 +3,10 @@
 // finished board.
 use super::framing;
 use board::Board;
-use board::Entry;
+use journal::WORDS;
 use libc::STDIN_FILENO;
 use libc::STDOUT_FILENO;
-use solve_finish::Finished;
+use solve_finish::Ended;
 ghost use Prim.Native.Nat.{_+_, _≤_};
 ghost use lib.ListN.{length};
 
@@ -104,48 +104,38 @@ fn print_numbers(numbers: &[u32]) -> bool {
 }
 
 // The five numbers of a move on a line, parted by commas.
-fn print_move(a: u64, b: u64, c: u64, d: u64, e: u64) -> bool {
-    let first = print_number(a, b",");
-    let second = print_number(b, b",");
-    let third = print_number(c, b",");
-    let fourth = print_number(d, b",");
-    let fifth = print_number(e, b"\n");
+fn print_move(w: [u64; WORDS]) -> bool {
+    let first = print_number(w[0], b",");
+    let second = print_number(w[1], b",");
+    let third = print_number(w[2], b",");
+    let fourth = print_number(w[3], b",");
+    let fifth = print_number(w[4], b"\n");
     first && second && third && fourth && fifth
 }
 
-// Moves, each of five numbers, a line for each.
-fn print_moves(numbers: &[u64]) -> bool {
-    let mut left = numbers.len();
-    while left >= 5 {
-        let i = numbers.len() - left;
-        let is_printed = print_move(
-            numbers[i],
-            numbers[i + 1],
-            numbers[i + 2],
-            numbers[i + 3],
-            numbers[i + 4],
-        );
-        if !is_printed {
-            return false;
-        }
-        left -= 5;
+// The move at a place: its numbers are the words of the place.
+fn print_place(journal: &[[u64; WORDS]], i: usize) -> bool {
+    if i < journal.len() {
+        let w = journal[i];
+        return print_move(w);
     }
-    true
+    false
 }
 
-// The first so many moves of the journal.
-fn print_journal(journal: [Entry; Board::JOURNAL], moves: u32) -> bool {
-    let mut numbers = [0u64; 5280];
-    move_list::put_journal(journal, &mut numbers);
+// The first so many moves of the journal, a line for each.
+fn print_journal(journal: &[[u64; WORDS]; Board::JOURNAL], moves: u32) -> bool {
     if Board::JOURNAL < moves as usize {
         return false;
     }
-    let used = (moves as usize) * 5;
-    print_moves(&numbers[..used])
+    let mut i: u32 = 0;
+    while i < moves && print_place(journal, i as usize) {
+        i += 1;
+    }
+    i == moves
 }
 
 // What the finish gave: its answer, the count of its moves, and the moves that stand on its board, after their count.
-fn print_finish(finish: Finished) -> bool {
+fn print_finish(finish: Ended, journal: &[[u64; WORDS]; Board::JOURNAL]) -> bool {
     let last = finish.board;
     let moves = last.moves;
     let answer_printed = framing::print_line(finish.answer);
@@ -154,15 +144,22 @@ fn print_finish(finish: Finished) -> bool {
     if !(answer_printed && count_printed && moves_printed) {
         return false;
     }
-    let journal = last.journal;
     print_journal(journal, moves)
 }
 
 // Plays one trial and prints what it gave.
 fn run_trial(text: &[u8], codes: &[u32], steps: &[u8]) -> bool {
+    let mut journal = [[0u64; WORDS]; Board::JOURNAL];
     let mut given = [0u32; 200];
     let mut hints = [0u32; 8];
-    let outcome = playthrough::play_through(text, codes, steps, &mut given, &mut hints);
+    let outcome = playthrough::play_through_lent(
+        text,
+        codes,
+        steps,
+        &mut given,
+        &mut hints,
+        &mut journal,
+    );
     let count = codes.len() / 3;
     if given.len() < count {
         return false;
@@ -173,7 +170,7 @@ fn run_trial(text: &[u8], codes: &[u32], steps: &[u8]) -> bool {
         return false;
     }
     let finish = outcome.finish;
-    print_finish(finish)
+    print_finish(finish, &journal)
 }
 
 // One trial: answers whether there was one, and it was read and printed whole.

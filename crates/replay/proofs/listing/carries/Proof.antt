@@ -5,10 +5,10 @@ use Rattle.replay.proofs.listing.carries.Statement.{statement}
 use Rattle.replay.proofs.listing.carries.Tie as tie
 
 abbrev Inv-loop : tie.InvT-loop
-Inv-loop moves journal count₀ i₀ count i = (count ≤ i) × (i ≤ moves)
+Inv-loop journal moves count₀ i₀ count i = (count ≤ i) × (i ≤ moves)
 
 abbrev μ-loop : tie.MeasureT-loop
-μ-loop moves journal count₀ i₀ count i = moves - i
+μ-loop journal moves count₀ i₀ count i = moves - i
 
 loop-holds : tie.Need-loop-holds Inv-loop μ-loop
 loop-holds c = search needs
@@ -16,14 +16,11 @@ loop-holds c = search needs
 cast-if1 : tie.Need-cast-if1 Inv-loop μ-loop
 cast-if1 c = search needs
 
-cast-entry : tie.Need-cast-entry Inv-loop μ-loop
-cast-entry c = search needs
+cast-entry-at : tie.Need-cast-entry-at Inv-loop μ-loop
+cast-entry-at c = search needs
 
-mul-entry : tie.Need-mul-entry Inv-loop μ-loop
-mul-entry c = search needs
-
-array-copy-out-entry : tie.Need-array-copy-out-entry Inv-loop μ-loop
-array-copy-out-entry c = search needs
+entry-at-requires : tie.Need-entry-at-requires Inv-loop μ-loop
+entry-at-requires c κs = search needs
 
 carry-count-requires : tie.Need-carry-count-requires Inv-loop μ-loop
 carry-count-requires c κs = search needs
@@ -54,9 +51,8 @@ carries-spec =
     μ-loop
     loop-holds
     cast-if1
-    cast-entry
-    mul-entry
-    array-copy-out-entry
+    cast-entry-at
+    entry-at-requires
     carry-count-requires
     add-count
     add-i

@@ -5,10 +5,10 @@ use Rattle.replay.proofs.scripts.play_script.Statement.{statement}
 use Rattle.replay.proofs.scripts.play_script.Tie as tie
 
 abbrev Inv-loop : tie.InvT-loop
-Inv-loop piece length session₀ left₀ session left = left ≤ left₀
+Inv-loop piece length journal₀ session₀ left₀ journal session left = left ≤ left₀
 
 abbrev μ-loop : tie.MeasureT-loop
-μ-loop piece length session₀ left₀ session left = left
+μ-loop piece length journal₀ session₀ left₀ journal session left = left
 
 start-requires : tie.Need-start-requires Inv-loop μ-loop
 start-requires c κs = search needs
@@ -31,11 +31,11 @@ loop-less c = search needs
 loop-again : tie.Need-loop-again Inv-loop μ-loop
 loop-again c = search needs
 
-slice-aggregate-close : tie.Need-slice-aggregate-close Inv-loop μ-loop
-slice-aggregate-close c = search needs
+slice-aggregate-close-lent : tie.Need-slice-aggregate-close-lent Inv-loop μ-loop
+slice-aggregate-close-lent c = search needs
 
-close-requires : tie.Need-close-requires Inv-loop μ-loop
-close-requires c κs = search needs
+close-lent-requires : tie.Need-close-lent-requires Inv-loop μ-loop
+close-lent-requires c κs = search needs
 
 returns-2 : tie.Need-returns-2 Inv-loop μ-loop
 returns-2 c = search needs
@@ -53,6 +53,6 @@ play-script-spec =
     sub-left
     loop-less
     loop-again
-    slice-aggregate-close
-    close-requires
+    slice-aggregate-close-lent
+    close-lent-requires
     returns-2)

@@ -1,6 +1,5 @@
 -- `scripts::report` is safe and ends: the room lies within the space, as the code has tested.
 use mathlib.Core.Path.{sym}
-use Prim.Native.Nat.{_-_}
 use lib.Seq.{length-take-le}
 use native.Mathlib.Omega.{arith}
 use borrow.Author.Needs.{needs}

@@ -1,6 +1,5 @@
 -- `scripts::serve_piece` meets its contract: the bytes that came lie within the space, and are no more than are left.
 use mathlib.Core.Path.{sym}
-use Prim.Native.Nat.{_-_}
 use lib.Seq.{length-take-le}
 use native.Mathlib.Omega.{arith}
 use borrow.Author.Needs.{needs}
@@ -16,14 +15,14 @@ read-piece-requires c κs = search needs
 array-share-prefix-space : tie.Need-array-share-prefix-space
 array-share-prefix-space c = search needs
 
-slice-aggregate-serve : tie.Need-slice-aggregate-serve
-slice-aggregate-serve c = sym (length-take-le _ _ (omega arith))
+slice-aggregate-serve-lent : tie.Need-slice-aggregate-serve-lent
+slice-aggregate-serve-lent c = sym (length-take-le _ _ (omega arith))
 
-serve-requires : tie.Need-serve-requires
-serve-requires c κs = search needs
+serve-lent-requires : tie.Need-serve-lent-requires
+serve-lent-requires c κs = search needs
 
-cast-t12 : tie.Need-cast-t12
-cast-t12 c = search needs
+cast-t14 : tie.Need-cast-t14
+cast-t14 c = search needs
 
 returns : tie.Need-returns
 returns c = search needs
@@ -35,7 +34,7 @@ serve-piece-spec =
     slice-aggregate-read-piece
     read-piece-requires
     array-share-prefix-space
-    slice-aggregate-serve
-    serve-requires
-    cast-t12
+    slice-aggregate-serve-lent
+    serve-lent-requires
+    cast-t14
     returns)

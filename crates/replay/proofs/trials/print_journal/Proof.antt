@@ -1,44 +1,50 @@
--- `trials::print_journal` is safe and ends: the part that is printed lies within the numbers, 5 · 1056 of them, as the code has tested.
-use mathlib.Core.Path.{sym}
-use native.Mathlib.Omega.{arith}
+-- `trials::print_journal` is safe and ends. The measure is how many moves are left to print.
+use Prim.Native.Nat.{_-_, _≤_}
 use borrow.Author.Needs.{needs}
-use lib.Seq.{length-take-le}
 use Rattle.replay.proofs.trials.print_journal.Statement.{statement}
 use Rattle.replay.proofs.trials.print_journal.Tie as tie
 
-slice-aggregate-put-journal : tie.Need-slice-aggregate-put-journal
-slice-aggregate-put-journal c = search needs
+abbrev Inv-loop : tie.InvT-loop
+Inv-loop journal moves i₀ i = i ≤ moves
 
-put-journal-requires : tie.Need-put-journal-requires
-put-journal-requires c κs = search needs
+abbrev μ-loop : tie.MeasureT-loop
+μ-loop journal moves i₀ i = moves - i
 
-returns : tie.Need-returns
+returns : tie.Need-returns Inv-loop μ-loop
 returns c = search needs
 
-mul-used : tie.Need-mul-used
-mul-used c = search needs
+loop-holds : tie.Need-loop-holds Inv-loop μ-loop
+loop-holds c = search needs
 
-array-share-prefix-numbers : tie.Need-array-share-prefix-numbers
-array-share-prefix-numbers c = search needs
+cast-print-place : tie.Need-cast-print-place Inv-loop μ-loop
+cast-print-place c = search needs
 
-slice-aggregate-print-moves : tie.Need-slice-aggregate-print-moves
-slice-aggregate-print-moves c = sym (length-take-le _ _ (omega arith))
+print-place-requires : tie.Need-print-place-requires Inv-loop μ-loop
+print-place-requires c κs = search needs
 
-print-moves-requires : tie.Need-print-moves-requires
-print-moves-requires c κs = search needs
+add-i : tie.Need-add-i Inv-loop μ-loop
+add-i c = search needs
 
-returns-2 : tie.Need-returns-2
+loop-less : tie.Need-loop-less Inv-loop μ-loop
+loop-less c = search needs
+
+loop-again : tie.Need-loop-again Inv-loop μ-loop
+loop-again c = search needs
+
+returns-2 : tie.Need-returns-2 Inv-loop μ-loop
 returns-2 c = search needs
 
 pub print-journal-spec : {M : Type 1} → statement M
 print-journal-spec =
     tie.close
     (tie.spec
-    slice-aggregate-put-journal
-    put-journal-requires
+    Inv-loop
+    μ-loop
     returns
-    mul-used
-    array-share-prefix-numbers
-    slice-aggregate-print-moves
-    print-moves-requires
+    loop-holds
+    cast-print-place
+    print-place-requires
+    add-i
+    loop-less
+    loop-again
     returns-2)

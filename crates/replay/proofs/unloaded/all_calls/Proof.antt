@@ -5,10 +5,10 @@ use Rattle.replay.proofs.unloaded.all_calls.Statement.{statement}
 use Rattle.replay.proofs.unloaded.all_calls.Tie as tie
 
 abbrev Inv-loop : tie.InvT-loop
-Inv-loop board count call₀ call = call ≤ 8
+Inv-loop board count journal₀ call₀ journal call = call ≤ 8
 
 abbrev μ-loop : tie.MeasureT-loop
-μ-loop board count call₀ call = 8 - call
+μ-loop board count journal₀ call₀ journal call = 8 - call
 
 loop-holds : tie.Need-loop-holds Inv-loop μ-loop
 loop-holds c = search needs

@@ -5,10 +5,10 @@ use Rattle.replay.proofs.unloaded.repeated.Statement.{statement}
 use Rattle.replay.proofs.unloaded.repeated.Tie as tie
 
 abbrev Inv-loop : tie.InvT-loop
-Inv-loop call board count first left₀ left = left ≤ left₀
+Inv-loop call board journal₀ count first left₀ journal left = left ≤ left₀
 
 abbrev μ-loop : tie.MeasureT-loop
-μ-loop call board count first left₀ left = left
+μ-loop call board journal₀ count first left₀ journal left = left
 
 answer-requires : tie.Need-answer-requires Inv-loop μ-loop
 answer-requires c κs = search needs
