@@ -70,7 +70,8 @@ pub fn fill_lent(
     }
     let mut k: usize = 0;
     while k < standing {
-        let entry = journal::entry_at(words, standing - 1 - k);
+        let at = standing - 1 - k;
+        let entry = journal::entry_at(words, at);
         k += 1;
         let step = entry.step;
         if let Move::Carry(r) = step {

@@ -30,11 +30,11 @@ loop-holds c =
     fill-start (start .args .moves) (entriesOf words) (c .if1 .standing) long
     (⊎-elim (λ w. inl (w .0 .taken, w .1)) (λ w. inr (w .0 .left, w .1)) (c .if1 .came))
 
-sub-entry-at : tie.Need-sub-entry-at Inv-loop μ-loop
-sub-entry-at c = omega arith
+sub-at : tie.Need-sub-at Inv-loop μ-loop
+sub-at c = omega arith
 
-sub-entry-at-2 : tie.Need-sub-entry-at-2 Inv-loop μ-loop
-sub-entry-at-2 c = omega arith
+sub-at-2 : tie.Need-sub-at-2 Inv-loop μ-loop
+sub-at-2 c = omega arith
 
 entry-at-requires : tie.Need-entry-at-requires Inv-loop μ-loop
 entry-at-requires c κs = search needs
@@ -191,8 +191,8 @@ fill-lent-spec =
     Inv-loop
     μ-loop
     loop-holds
-    sub-entry-at
-    sub-entry-at-2
+    sub-at
+    sub-at-2
     entry-at-requires
     add-k
     enum-known-step
