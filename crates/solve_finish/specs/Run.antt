@@ -3,15 +3,18 @@
 use mathlib.Core.Path.{_≡_}
 use mathlib.Core.Bool.{Bool, true, false}
 use mathlib.Core.List.{List}
-use Prim.Native.Nat.{ℕ, _+_, _-_, _≤_}
+use Prim.Native.Nat.{ℕ, _+_, _-_, _≤_, _<_}
 use lib.Dec.{leb, ltb, eqb}
 use lib.ListN.{length, getD}
 use Rattle.lists.specs.Choice.{pick, both}
 use Rattle.lists.specs.Lists.{all, lowest}
+use Rattle.sets.specs.Sets.{hasBit, joined}
 use Rattle.sets.specs.Inner.{dropped}
 use Rattle.move_edges.specs.Incidence.{PositiveSet}
 use Rattle.board.specs.Limits.{maxEdges, maxTerminals, maxMoves, maxTotal}
 use Rattle.board.specs.declared.Board.{Board}
+use Rattle.board.specs.declared.Move.{Move}
+use Rattle.board.specs.declared.Move.the-variants.{Carry, Turn}
 use Rattle.board.specs.declared.Network.{Network}
 use Rattle.move_guard.specs.Guard.{playing}
 use Rattle.move_guard.specs.Moved.{unchanged}
@@ -31,6 +34,7 @@ use Rattle.solve_finish.specs.Finishes.{playedOut}
 use Rattle.solve_finish.specs.declared.Ran.{Ran}
 use Rattle.solve_finish.specs.declared.Made.{Made}
 use Rattle.solve_finish.specs.declared.Progress.{Progress}
+use Rattle.solve_finish.specs.declared.Seen.{Seen}
 
 -- no flow is above what the terminals need together at most
 unfoldable pub allSmall : List ℕ → Bool
@@ -86,6 +90,21 @@ pub record Makes (change : Change) (made : Made) : Type 0 where
   pub changes : made .change ≡ change
   pub is-positive : PositiveSet (made .change .flows) (made .positive)
   pub smalls : made .small ≡ allSmall (made .change .flows)
+
+-- the edges whose flows a move shifts: those of a turn
+unfoldable pub shiftedEdges : Move → ℕ
+shiftedEdges (Carry c) = 0
+shiftedEdges (Turn t) = joined (t .down) (t .up)
+
+-- outside `rest` the set has the positive edges, and no flow is large
+pub record RightBut (flows : List ℕ) (positive rest : ℕ) : Type 0 where
+  pub positives : (e : ℕ) → e < maxEdges → hasBit rest e ≡ false → hasBit positive e ≡ ltb 0 (getD flows e 0)
+  pub smalls : (e : ℕ) → e < maxEdges → hasBit rest e ≡ false → leb (getD flows e 0) maxTotal ≡ true
+
+-- the positive edges of the flows, and whether these are small
+pub record Sees (flows : List ℕ) (seen : Seen) : Type 0 where
+  pub is-positive : PositiveSet flows (seen .positive)
+  pub smalls : seen .small ≡ allSmall flows
 
 -- the moves that are left of a run where the board is in play after one of them, else none
 unfoldable pub leftAfter : ℕ → ℕ → Bool → ℕ

@@ -29,6 +29,9 @@ ghost use Rattle.solve_finish.specs.Run.{
   stepChange,
   InPlay,
   Makes,
+  shiftedEdges,
+  RightBut,
+  Sees,
   leftAfter,
   madeOf,
   haltedWith,
@@ -57,6 +60,12 @@ pub struct Progress {
     pub answer: u32,
     pub entry: Entry,
     pub marks: EdgeSet,
+    pub positive: EdgeSet,
+    pub small: bool,
+}
+
+// What a look at flows shows: the positive edges, and whether the flows are small.
+pub struct Seen {
     pub positive: EdgeSet,
     pub small: bool,
 }
@@ -361,18 +370,36 @@ pub fn finish(board: Board) -> Finished
     }
 }
 
-// Whether no flow is above what the terminals need together at most.
-fn all_small_lent(flows: &[u32; Board::MAX_EDGES]) -> bool
-    ensures { λ r. ⌜ r ≡ allSmall (now (flows .entry)) ⌝ }
+// The edges whose flows a move shifts: those of a turn.
+fn shifted_edges(step: Move) -> EdgeSet
+    ensures { λ r. ⌜ r ≡ shiftedEdges step ⌝ }
 {
-    let mut e: usize = 0;
-    while e < Board::MAX_EDGES {
-        if Board::MAX_TOTAL < flows[e] {
-            return false;
-        }
-        e += 1;
+    match step {
+        Move::Carry(_) => 0,
+        Move::Turn(turn) => sets::joined(turn.down, turn.up),
     }
-    true
+}
+
+// The positive edges, and whether the flows are small, by a look at the changed edges alone.
+fn look_again(changed: EdgeSet, positive: EdgeSet, flows: &[u32; Board::MAX_EDGES]) -> Seen
+    requires { ⌜ RightBut (now flows) positive changed ⌝ }
+    ensures { λ r. ⌜ Sees (now (flows .entry)) r ⌝ }
+{
+    let mut rest = changed;
+    let mut after = positive;
+    let mut small = true;
+    while rest != 0 {
+        let e = sets::lowest(rest);
+        let f = lists::word_at(flows, e as usize);
+        let others = sets::drop(after, e);
+        after = sets::with(others, 0 < f, e as usize);
+        small = lists::and(small, f <= Board::MAX_TOTAL);
+        rest = sets::drop(rest, e);
+    }
+    Seen {
+        positive: after,
+        small: small,
+    }
 }
 
 // No move.
@@ -476,14 +503,15 @@ fn turn_on<'a>(
         flows,
     );
     let entry = made.entry;
-    let after = move_edges::positive_lent(flows);
-    let small = all_small_lent(flows);
+    let step = entry.step;
+    let changed = shifted_edges(step);
+    let seen = look_again(changed, frame.positive, flows);
     Progress {
         answer: made.answer,
         entry: entry,
         marks: made.marks,
-        positive: after,
-        small: small,
+        positive: seen.positive,
+        small: seen.small,
     }
 }
 

@@ -1,9 +1,10 @@
 -- With every terminal at the source it halts with 28. Else the lists are those of a board in play, which is what the walk and the turn lean on; the turn along
--- the cycle found is the solver's.
+-- the cycle found is the solver's, and shifts no edge but those that are looked at again.
 use mathlib.Core.Path.{sym}
 use lib.Seq.{length-take-le}
 use Rattle.solve_finish.proofs.Ready.{turn-stopped}
 use Rattle.solve_finish.proofs.InPlace.{halts, going-small, going-turns, going-charted, going-vertices, going-source, going-fits, going-turned}
+use Rattle.solve_finish.proofs.Looking.{going-right}
 use borrow.Author.Needs.{needs}
 use Rattle.solve_finish.proofs.turn_on.Statement.{statement}
 use Rattle.solve_finish.proofs.turn_on.Tie as tie
@@ -48,24 +49,29 @@ change-lent-requires c κs =
     let g = at-cycle .before .before .before .before .before .before .before .before .before .before .pre in
     going-turns _ _ _ _ _ _ _ _ g
 
-positive-lent-requires : tie.Need-positive-lent-requires
-positive-lent-requires c κs = search needs
+shifted-edges-requires : tie.Need-shifted-edges-requires
+shifted-edges-requires c κs = search needs
 
-all-small-lent-requires : tie.Need-all-small-lent-requires
-all-small-lent-requires c κs = search needs
+look-again-requires : tie.Need-look-again-requires
+look-again-requires c κs =
+    let at-edges = c .before in
+    let at-change = at-edges .before .before in
+    let at-cycle = at-change .before .before .before .before .before in
+    let at-home = at-cycle .before .before .before .before .before .before in
+    let g = at-home .before .before .before .before .pre in
+    rw (at-edges .shifted-edges .ensures) (going-right _ _ _ _ _ _ _ _ g _ _ (at-change .change-lent .ensures))
 
 returns-2 : tie.Need-returns-2
 returns-2 c =
-    let at-positive = c .before .before in
-    let at-change = at-positive .before .before .before in
+    let at-change = c .before .before .before .before in
     let at-cycle = at-change .before .before .before .before .before in
     let at-if1 = at-cycle .before .before .before .before .before in
     let at-home = at-if1 .before in
     let g = at-home .before .before .before .before .pre in
     record {
       changes = going-turned _ _ _ _ _ _ _ _ g _ (at-cycle .cycle .ensures) _ _ (at-home .all-home .ensures) (at-if1 .if1 .left) (at-change .change-lent .ensures);
-      is-positive = at-positive .positive-lent .ensures;
-      smalls = c .all-small-lent .ensures;
+      is-positive = c .look-again .ensures .is-positive;
+      smalls = c .look-again .ensures .smalls;
     }
 
 pub turn-on-spec : {M : Type 1} → statement M
@@ -80,6 +86,6 @@ turn-on-spec =
     array-share-prefix-steps
     slice-aggregate-change-lent
     change-lent-requires
-    positive-lent-requires
-    all-small-lent-requires
+    shifted-edges-requires
+    look-again-requires
     returns-2)

@@ -1,0 +1,87 @@
+-- What is seen of the flows is right but for the edges that are left to look at.
+use Rattle.sets.proofs.Scan.{lowest-below, dropped-less}
+use Rattle.move_edges.proofs.Gathering.{lowest-in}
+use native.Mathlib.Omega.{arith}
+use Rattle.solve_finish.proofs.Looking.{LookedBut, look-all, look-one, look-none}
+use borrow.Author.Needs.{needs}
+use Rattle.solve_finish.proofs.look_again.Statement.{statement}
+use Rattle.solve_finish.proofs.look_again.Tie as tie
+
+abbrev Inv-loop : tie.InvT-loop
+Inv-loop changed positive flows rest₀ after₀ small₀ rest after small = LookedBut flows rest after small
+
+abbrev μ-loop : tie.MeasureT-loop
+μ-loop changed positive flows rest₀ after₀ small₀ rest after small = rest
+
+loop-holds : tie.Need-loop-holds Inv-loop μ-loop
+loop-holds c = look-all _ _ _ (search needs) (c .pre)
+
+lowest-requires : tie.Need-lowest-requires Inv-loop μ-loop
+lowest-requires c κs = search needs
+
+cast-word-at : tie.Need-cast-word-at Inv-loop μ-loop
+cast-word-at c = search needs
+
+word-at-requires : tie.Need-word-at-requires Inv-loop μ-loop
+word-at-requires c κs = search needs
+
+drop-requires : tie.Need-drop-requires Inv-loop μ-loop
+drop-requires c κs = search needs
+
+cast-with : tie.Need-cast-with Inv-loop μ-loop
+cast-with c = search needs
+
+with-requires : tie.Need-with-requires Inv-loop μ-loop
+with-requires c κs =
+    let at-lowest = c .before .before .before in
+    let at-test = at-lowest .before in
+    rw (at-lowest .lowest .ensures) (lowest-below _ (at-test .before .loop .inv .fits) (omega (arith, at-test .loop-test .taken)))
+
+and-requires : tie.Need-and-requires Inv-loop μ-loop
+and-requires c κs = search needs
+
+drop-requires-2 : tie.Need-drop-requires-2 Inv-loop μ-loop
+drop-requires-2 c κs = search needs
+
+loop-less : tie.Need-loop-less Inv-loop μ-loop
+loop-less c =
+    let at-lowest = c .before .before .before .before .before .before in
+    let at-test = at-lowest .before in
+    rw (c .drop2 .ensures) (dropped-less _ _ (lowest-in _ _ (at-lowest .lowest .ensures) (at-test .before .loop .inv .fits) (at-test .loop-test .taken)))
+
+loop-again : tie.Need-loop-again Inv-loop μ-loop
+loop-again c =
+    let at-and = c .before in
+    let at-with = at-and .before in
+    let at-drop = at-with .before in
+    let at-word = at-drop .before in
+    let at-lowest = at-word .before .before in
+    let at-test = at-lowest .before in
+    let inv = at-test .before .loop .inv in
+    let has = lowest-in _ _ (at-lowest .lowest .ensures) (inv .fits) (at-test .loop-test .taken) in
+    rw (c .drop2 .ensures, at-and .and .ensures, at-with .with .ensures, at-drop .drop .ensures)
+    (look-one _ _ _ _ _ _ has (at-word .word-at .ensures) inv)
+
+returns : tie.Need-returns Inv-loop μ-loop
+returns c =
+    let seen = look-none _ _ _ _ (c .loop-test .left) (c .before .loop .inv) in
+    record { is-positive = seen .0; smalls = seen .1 }
+
+pub look-again-spec : {M : Type 1} → statement M
+look-again-spec =
+    tie.close
+    (tie.spec
+    Inv-loop
+    μ-loop
+    loop-holds
+    lowest-requires
+    cast-word-at
+    word-at-requires
+    drop-requires
+    cast-with
+    with-requires
+    and-requires
+    drop-requires-2
+    loop-less
+    loop-again
+    returns)

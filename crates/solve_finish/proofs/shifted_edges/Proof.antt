@@ -1,0 +1,26 @@
+-- The kind of the move decides: a carry shifts no flow, and a turn those of its two sets.
+use mathlib.Core.Path.{sym, ap, _∙_}
+use Rattle.solve_finish.specs.Run.{shiftedEdges}
+use borrow.Author.Needs.{needs}
+use Rattle.solve_finish.proofs.shifted_edges.Statement.{statement}
+use Rattle.solve_finish.proofs.shifted_edges.Tie as tie
+
+enum-told : tie.Need-enum-told
+enum-told c = search needs
+
+enum-known-step : tie.Need-enum-known-step
+enum-known-step c = search needs
+
+joined-requires : tie.Need-joined-requires
+joined-requires c κs = search needs
+
+returns : tie.Need-returns
+unfolding shiftedEdges
+returns c = sym (ap shiftedEdges (c .enum-told .given .1))
+
+returns-2 : tie.Need-returns-2
+unfolding shiftedEdges
+returns-2 c = c .joined .ensures ∙ sym (ap shiftedEdges (c .before .before .step .given .1))
+
+pub shifted-edges-spec : {M : Type 1} → statement M
+shifted-edges-spec = tie.close (tie.spec enum-told enum-known-step joined-requires returns returns-2)
