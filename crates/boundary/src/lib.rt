@@ -1,16 +1,20 @@
 // The engine as C and Rust link it: numbers and slices alone.
 use board::Board;
+use journal::Table;
+use journal::WORDS;
 ghost use mathlib.Core.Path.{_≡_};
 ghost use lib.ListN.{length};
 ghost use Rattle.text.specs.Results.{writeText, written};
+ghost use Rattle.journal.specs.Words.{wholeOf, noWords, packedAll};
 ghost use Rattle.load.specs.Load.{loadText};
 ghost use Rattle.solve_finish.specs.Finishes.{finishCall};
 ghost use Rattle.move_list.specs.Calls.{answers, hintsOf, noted};
-ghost use Rattle.move_list.specs.Codes.{callsOf, journalCoded};
+ghost use Rattle.move_list.specs.Codes.{callsOf};
 ghost use lib.Seq.{sets};
 ghost use Rattle.report.specs.Reports.{sheetCall, sheeted};
 ghost use Rattle.catalog.specs.Catalog.{catalogCall, catalogued};
 ghost use Rattle.boundary.specs.Ends.{after, finished, lastBoard};
+ghost use Rattle.boundary.specs.Lent.{LastOf};
 
 // Loads a text, and writes the board that it gave into the buffer. Answers what the load answered; `writing` and `used`
 // get what the writer answered: its number and the length of the text.
@@ -20,6 +24,7 @@ pub extern "C" fn vulprow_copy(
     buf: &mut [u8],
     writing: &mut u32,
     used: &mut usize,
+    journal: &mut [[u64; WORDS]; Board::JOURNAL],
 ) -> u32
     ensures { λ r. ⌜ r ≡ loadText (now (text .entry)) .answer ⌝ }
     ensures { λ _. ⌜ now (writing .exit) ≡ writeText (loadText (now (text .entry)) .board)
@@ -27,10 +32,11 @@ pub extern "C" fn vulprow_copy(
     ensures { λ _. ⌜ now (used .exit) ≡ writeText (loadText (now (text .entry)) .board)
         (length (now (buf .entry))) .used ⌝ }
     ensures { λ _. ⌜ now (buf .exit) ≡ written (loadText (now (text .entry)) .board) (now (buf .entry)) ⌝ }
+    ensures { λ _. ⌜ now (journal .exit) ≡ noWords ⌝ }
 {
-    let loaded = load::load(text);
+    let loaded = load::load_lent(text, journal);
     let board = loaded.board;
-    let w = text_writer::write(board, buf);
+    let w = text_writer::write_lent(board, buf);
     *writing = w.answer;
     *used = w.used;
     loaded.answer
@@ -39,11 +45,16 @@ pub extern "C" fn vulprow_copy(
 // Loads a text. Answers what the load answered; `flows` gets the flows of the board, without cycles, 0 in the places
 // past its edges.
 #[no_mangle]
-pub extern "C" fn vulprow_acyclic(text: &[u8], flows: &mut [u32; Board::MAX_EDGES]) -> u32
+pub extern "C" fn vulprow_acyclic(
+    text: &[u8],
+    flows: &mut [u32; Board::MAX_EDGES],
+    journal: &mut [[u64; WORDS]; Board::JOURNAL],
+) -> u32
     ensures { λ r. ⌜ r ≡ loadText (now (text .entry)) .answer ⌝ }
     ensures { λ _. ⌜ now (flows .exit) ≡ loadText (now (text .entry)) .board .acyclic ⌝ }
+    ensures { λ _. ⌜ now (journal .exit) ≡ noWords ⌝ }
 {
-    let loaded = load::load(text);
+    let loaded = load::load_lent(text, journal);
     let board = loaded.board;
     let acyclic = board.acyclic;
     let answer = loaded.answer;
@@ -65,7 +76,7 @@ pub extern "C" fn vulprow_play(
     places: &mut [u32; Board::MAX_TERMINALS],
     marks: &mut u64,
     moves: &mut u32,
-    journal: &mut [u64],
+    journal: &mut [[u64; WORDS]; Board::JOURNAL],
 ) -> u32
     ensures { λ r. ⌜ r ≡ loadText (now (text .entry)) .answer ⌝ }
     ensures { λ _. ⌜ now (given .exit) ≡
@@ -80,21 +91,18 @@ pub extern "C" fn vulprow_play(
     ensures { λ _. ⌜ now (marks .exit) ≡ after (now (text .entry)) (now (steps .entry)) (now (codes .entry)) .marks ⌝ }
     ensures { λ _. ⌜ now (moves .exit) ≡ after (now (text .entry)) (now (steps .entry)) (now (codes .entry)) .moves ⌝ }
     ensures { λ _. ⌜ now (journal .exit) ≡
-        journalCoded (now (journal .entry)) 0 (after (now (text .entry)) (now (steps .entry))
-        (now (codes .entry)) .journal) ⌝ }
+        packedAll (after (now (text .entry)) (now (steps .entry)) (now (codes .entry)) .journal) ⌝ }
 {
-    let loaded = load::load(text);
+    let loaded = load::load_lent(text, journal);
     let board = loaded.board;
     let loading = loaded.answer;
-    let end = move_list::run(board, codes, steps, given, hints);
+    let end = move_list::run_lent(board, journal, codes, steps, given, hints);
     let end_flows = end.flows;
     let end_places = end.places;
-    let end_journal = end.journal;
     *flows = end_flows;
     *places = end_places;
     *marks = end.marks;
     *moves = end.moves;
-    move_list::put_journal(end_journal, journal);
     loading
 }
 
@@ -113,7 +121,7 @@ pub extern "C" fn vulprow_finish(
     places: &mut [u32; Board::MAX_TERMINALS],
     marks: &mut u64,
     moves: &mut u32,
-    journal: &mut [u64],
+    journal: &mut [[u64; WORDS]; Board::JOURNAL],
 ) -> u32
     ensures { λ r. ⌜ r ≡ finished (now (text .entry)) (now (steps .entry)) (now (codes .entry)) .answer ⌝ }
     ensures { λ _. ⌜ now (given .exit) ≡
@@ -133,47 +141,50 @@ pub extern "C" fn vulprow_finish(
     ensures { λ _. ⌜ now (moves .exit) ≡ finished (now (text .entry)) (now (steps .entry))
         (now (codes .entry)) .board .moves ⌝ }
     ensures { λ _. ⌜ now (journal .exit) ≡
-        journalCoded (now (journal .entry)) 0 (finished (now (text .entry)) (now (steps .entry))
-        (now (codes .entry)) .board .journal) ⌝ }
+        packedAll (finished (now (text .entry)) (now (steps .entry)) (now (codes .entry)) .board .journal) ⌝ }
 {
-    let through = playthrough::play_through(text, codes, steps, given, hints);
+    let through = playthrough::play_through_lent(text, codes, steps, given, hints, journal);
     let finish = through.finish;
     let last = finish.board;
     let answer = finish.answer;
     let last_flows = last.flows;
     let last_places = last.places;
-    let last_journal = last.journal;
     *count = finish.count;
     *flows = last_flows;
     *places = last_places;
     *marks = last.marks;
     *moves = last.moves;
-    move_list::put_journal(last_journal, journal);
     answer
 }
 
 // Loads a text and finishes the board that it gave. Answers what the finish answered; `count` gets how many moves it
 // made.
 #[no_mangle]
-pub extern "C" fn vulprow_solve(text: &[u8], count: &mut u32) -> u32
+pub extern "C" fn vulprow_solve(
+    text: &[u8],
+    count: &mut u32,
+    journal: &mut [[u64; WORDS]; Board::JOURNAL],
+) -> u32
     ensures { λ r. ⌜ r ≡ finishCall (loadText (now (text .entry)) .board) .answer ⌝ }
     ensures { λ _. ⌜ now (count .exit) ≡ finishCall (loadText (now (text .entry)) .board) .count ⌝ }
+    ensures { λ _. ⌜ now (journal .exit) ≡ packedAll (finishCall (loadText (now (text .entry)) .board) .board .journal) ⌝ }
 {
-    let loaded = load::load(text);
+    let loaded = load::load_lent(text, journal);
     let board = loaded.board;
-    let solved = solve_finish::finish(board);
+    let solved = solve_finish::finish_lent(board, journal);
     *count = solved.count;
     solved.answer
 }
 
 // The board, or where `finishes` is not 0 the board that a finish gives.
-fn last_board(board: Board, finishes: u32) -> Board
-    ensures { λ r. ⌜ r ≡ lastBoard finishes board ⌝ }
+fn last_board(board: Table, journal: &mut [[u64; WORDS]; Board::JOURNAL], finishes: u32) -> Table
+    ensures { λ r. ⌜ (now (journal .entry) ≡ packedAll (wholeOf board (now (journal .entry)) .journal) →
+        LastOf finishes (wholeOf board (now (journal .entry))) r (now (journal .exit))) ⌝ }
 {
     if finishes == 0 {
         return board;
     }
-    let finish = solve_finish::finish(board);
+    let finish = solve_finish::finish_lent(board, journal);
     finish.board
 }
 
@@ -187,6 +198,7 @@ pub extern "C" fn vulprow_sheet(
     finishes: u32,
     buf: &mut [u8],
     used: &mut usize,
+    journal: &mut [[u64; WORDS]; Board::JOURNAL],
 ) -> u32
     ensures { λ r. ⌜ r ≡ sheetCall
         (lastBoard finishes (after (now (text .entry)) (now (steps .entry)) (now (codes .entry))))
@@ -197,14 +209,16 @@ pub extern "C" fn vulprow_sheet(
     ensures { λ _. ⌜ now (buf .exit) ≡
         sheeted (lastBoard finishes (after (now (text .entry)) (now (steps .entry)) (now (codes .entry))))
         (now (buf .entry)) ⌝ }
+    ensures { λ _. ⌜ now (journal .exit) ≡ packedAll
+        (lastBoard finishes (after (now (text .entry)) (now (steps .entry)) (now (codes .entry))) .journal) ⌝ }
 {
-    let loaded = load::load(text);
+    let loaded = load::load_lent(text, journal);
     let start = loaded.board;
     let mut given = [0u32; 1];
     let mut hints = [0u32; 1];
-    let board = move_list::run(start, codes, steps, &mut given, &mut hints);
-    let last = last_board(board, finishes);
-    let written = report::sheet(last, buf);
+    let board = move_list::run_lent(start, journal, codes, steps, &mut given, &mut hints);
+    let last = last_board(board, journal, finishes);
+    let written = report::sheet_lent(last, journal, buf);
     *used = written.used;
     written.answer
 }
@@ -219,6 +233,7 @@ pub extern "C" fn vulprow_write(
     finishes: u32,
     buf: &mut [u8],
     used: &mut usize,
+    journal: &mut [[u64; WORDS]; Board::JOURNAL],
 ) -> u32
     ensures { λ r. ⌜ r ≡ writeText
         (lastBoard finishes (after (now (text .entry)) (now (steps .entry)) (now (codes .entry))))
@@ -229,14 +244,16 @@ pub extern "C" fn vulprow_write(
     ensures { λ _. ⌜ now (buf .exit) ≡
         written (lastBoard finishes (after (now (text .entry)) (now (steps .entry)) (now (codes .entry))))
         (now (buf .entry)) ⌝ }
+    ensures { λ _. ⌜ now (journal .exit) ≡ packedAll
+        (lastBoard finishes (after (now (text .entry)) (now (steps .entry)) (now (codes .entry))) .journal) ⌝ }
 {
-    let loaded = load::load(text);
+    let loaded = load::load_lent(text, journal);
     let start = loaded.board;
     let mut given = [0u32; 1];
     let mut hints = [0u32; 1];
-    let board = move_list::run(start, codes, steps, &mut given, &mut hints);
-    let last = last_board(board, finishes);
-    let board_text = text_writer::write(last, buf);
+    let board = move_list::run_lent(start, journal, codes, steps, &mut given, &mut hints);
+    let last = last_board(board, journal, finishes);
+    let board_text = text_writer::write_lent(last, buf);
     *used = board_text.used;
     board_text.answer
 }

@@ -12,7 +12,7 @@ use Rattle.journal.specs.declared.Table.{Table}
 use Rattle.text.specs.declared.Reading.{Reading}
 use Rattle.text.specs.Results.{readText}
 use Rattle.load.specs.Load.{acyclicOf, opened, loadText}
-use Rattle.load.specs.Lent.{openedTable}
+use Rattle.load.specs.Inner.{openedTable}
 use Rattle.load.proofs.Loads.{refused-load, accepted-load}
 
 none-stand : (n : ℕ) → standing 0 (map unpacked (replicate n blankWords)) ≡ replicate n blank

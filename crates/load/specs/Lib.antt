@@ -1,2 +1,3 @@
 pub mod Load
 pub mod Lent
+pub mod Inner

@@ -10,7 +10,8 @@ ghost use lib.ListN.{length};
 ghost use Rattle.board.specs.Limits.{maxVertices};
 ghost use Rattle.journal.specs.Words.{noWords};
 ghost use Rattle.load.specs.Load.{acyclicOf, opened, loadText};
-ghost use Rattle.load.specs.Lent.{openedTable, loadedOf};
+ghost use Rattle.load.specs.Inner.{openedTable};
+ghost use Rattle.load.specs.Lent.{loadedOf};
 
 // What a load gives: 0 and the board, ready to be played; or the number that the text is refused with, and the closed
 // board.

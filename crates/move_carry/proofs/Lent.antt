@@ -13,8 +13,6 @@ use Rattle.sets.specs.Sets.{hasBit}
 use Rattle.lists.proofs.Laws.{pick-yes, pick-no, pick-passed, both-left, both-right}
 use Rattle.board.specs.Limits.{maxEdges, maxTerminals, maxMoves}
 use Rattle.board.specs.declared.Board.{Board}
-use Rattle.board.specs.declared.Entry.{Entry}
-use Rattle.board.specs.declared.Move.the-variants.{Carry}
 use Rattle.board.specs.declared.Network.{Network}
 use Rattle.board.specs.declared.Played.{Played}
 use Rattle.journal.specs.Words.{packed, entriesOf, standing, journalOf, wholeOf, wordsAfter}
@@ -27,7 +25,7 @@ use Rattle.move_guard.proofs.Facts.{intact-terminals, playing-intact, playing-e
 use Rattle.move_guard.proofs.Stores.{withParts, change-stored, change-refused}
 use Rattle.move_guard.proofs.Lent.{whole-long, words-stored, words-kept}
 use Rattle.move_carry.specs.Carries.{carryCall, carryRefusalIn, carriedIn, carryChange}
-use Rattle.move_carry.specs.Numbers.{numberAt}
+use Rattle.move_carry.specs.Numbers.{numberAt, carryEntry}
 use Rattle.move_carry.proofs.Makes.{carry-by-change}
 
 -- the number by what the tests read is that of the parts
@@ -71,9 +69,6 @@ module _ (t : Table) (w : List (List ℕ)) (i e : ℕ) (p : Bool) (number : ℕ)
     pub room-move : t .moves ≤ maxMoves
     room-move = playing-moves b plays
 
-  abbrev entry : Entry
-  entry = record { step = Carry (record { terminal = i; edge = e }) }
-
   abbrev yes : Change
   yes = carriedIn (t .network) (t .flows) (t .marks) (t .places) i e
 
@@ -81,14 +76,14 @@ module _ (t : Table) (w : List (List ℕ)) (i e : ℕ) (p : Bool) (number : ℕ)
   module _ (flows places : List ℕ) (words : List (List ℕ)) where
     pub lent-accepted : number ≡ 0 → flows ≡ set (t .flows) e (getD (t .flows) e 0 - getD (t .network .demands) i 0)
         → places ≡ set (t .places) i (getD (t .network .tails) e 0)
-        → words ≡ set w (t .moves) (packed entry) → entriesOf words ≡ set (entriesOf w) (t .moves) entry
+        → words ≡ set w (t .moves) (packed (carryEntry i e)) → entriesOf words ≡ set (entriesOf w) (t .moves) (carryEntry i e)
         → (record { answer = number; board = withParts b flows (t .marks) places (journalOf (t .moves + 1) words) (t .moves + 1) } ≡ carryCall b i e)
         × (words ≡ wordsAfter (t .moves) (carryCall b i e .board) w)
     unfolding carryChange
     lent-accepted h hf hp hw he =
         let made : changed b yes ≡ changed b change = ap (changed b) (sym (pick-yes _ _ _ (eq-eqb _ 0 (sym en ∙ h)))) in
-        let js : journalOf (t .moves + 1) words ≡ set (b .journal) (t .moves) entry =
-        ap (standing (t .moves + 1)) he ∙ sym (add-standing (t .moves) (t .moves + 1) (entriesOf w) entry (omega arith)) in (
+        let js : journalOf (t .moves + 1) words ≡ set (b .journal) (t .moves) (carryEntry i e) =
+        ap (standing (t .moves + 1)) he ∙ sym (add-standing (t .moves) (t .moves + 1) (entriesOf w) (carryEntry i e) (omega arith)) in (
           rw (h, hf, hp, js) (change-stored b yes refl ∙ made ∙ makes),
           hw ∙ words-stored b yes w (whole-long t w) refl ∙ ap (λ (q : Played). wordsAfter (t .moves) (q .board) w) made ∙ words-made,
         )

@@ -18,7 +18,7 @@ ghost use Rattle.journal.specs.Words.{wholeOf, givenOf, wordsAfter};
 ghost use Rattle.move_carry.specs.Opens.{flowFits, isOpenAt, hasOpenIn, someOpenIn};
 ghost use Rattle.move_guard.specs.Moved.{unchanged};
 ghost use Rattle.move_carry.specs.Carries.{carryRefusal, carryCall, carryRefusalIn, carriedIn, carryChange};
-ghost use Rattle.move_carry.specs.Numbers.{numberAt};
+ghost use Rattle.move_carry.specs.Numbers.{numberAt, carryEntry};
 
 // ---- Which carries are open.
 
@@ -317,16 +317,20 @@ pub fn refusal_in<'a>(
     let mark = sets::has(marks, e as usize);
     let flow = lists::word_at(flows, e as usize);
     let demand = lists::word_at(&net.demands, i as usize);
-    number_at(
-        in_play,
-        on_board,
-        net.source,
-        place,
-        head,
-        mark,
-        flow,
-        demand,
-    )
+    let source = net.source;
+    number_at(in_play, on_board, source, place, head, mark, flow, demand)
+}
+
+// The entry of a carry of terminal i over edge e.
+fn entry_of(i: u32, e: u32) -> Entry
+    ensures { λ r. ⌜ r ≡ carryEntry i e ⌝ }
+{
+    Entry {
+        step: Move::Carry(Relocation {
+            terminal: i,
+            edge: e,
+        }),
+    }
 }
 
 // Relocates terminal i over edge e, to its tail.
@@ -338,7 +342,8 @@ pub fn carry_lent(
 ) -> Done
     ensures { λ r. ⌜ givenOf r (now (journal .exit)) ≡ carryCall (wholeOf board (now (journal .entry))) i e ⌝ }
     ensures { λ _. ⌜ now (journal .exit) ≡
-        wordsAfter (board .moves) (carryCall (wholeOf board (now (journal .entry))) i e .board) (now (journal .entry)) ⌝ }
+        wordsAfter (board .moves) (carryCall (wholeOf board (now (journal .entry))) i e .board)
+        (now (journal .entry)) ⌝ }
 {
     let in_play = move_guard::playing_lent(board, journal);
     let terminal = i as usize;
@@ -349,30 +354,16 @@ pub fn carry_lent(
     let mark = sets::has(board.marks, edge);
     let flow = lists::word_at(&board.flows, edge);
     let demand = lists::word_at(&board.network.demands, terminal);
-    let number = number_at(
-        in_play,
-        on_board,
-        board.network.source,
-        place,
-        head,
-        mark,
-        flow,
-        demand,
-    );
+    let source = board.network.source;
+    let number = number_at(in_play, on_board, source, place, head, mark, flow, demand);
     if number == 0 {
         let tail = lists::word_at(&board.network.tails, edge);
         let rest = lists::minus(flow, demand);
         let m = board.moves as usize;
-        let entry = Entry {
-            step: Move::Carry(Relocation {
-                terminal: i,
-                edge: e,
-            }),
-        };
         board.flows[edge] = rest;
         board.places[terminal] = tail;
         board.moves = board.moves + 1;
-        journal::put_entry(journal, m, entry);
+        journal::put_entry(journal, m, entry_of(i, e));
     }
     Done {
         answer: number,

@@ -1,18 +1,24 @@
--- What shifted flows are: the loop writes each edge's new flow once, from its old one. Where the sets of the two ways share no edge and the lowered flows are
+-- What shifted flows are: a loop writes each edge's new flow once, from its old one, and may leave out the edges of neither way. Where the sets of the two ways share no edge and the lowered flows are
 -- x or more, a shift with the sets exchanged takes the shift back. The sets gathered from a trail's steps shift as the steps change the flows one by one.
-use mathlib.Core.Path.{_≡_, refl, sym, _∙_}
-use mathlib.Core.Bool.{Bool, true, false, true≢false}
+use mathlib.Core.Path.{_≡_, refl, sym, ap, _∙_}
+use mathlib.Core.Bool.{Bool, true, false, not, true≢false}
 use mathlib.Core.Logic.{_⊎_, inl, inr, _≢_}
 use mathlib.Core.List.{List, [], _∷_}
-use Prim.Native.Nat.{ℕ, zero, suc, _+_, _-_, _≤_, _<_}
+use Prim.Native.Nat.{ℕ, zero, suc, _+_, _-_, _≤_, _<_, _^_}
 use native.Mathlib.Numerals.{add-one}
 use native.Mathlib.Omega.{arith}
+use lib.Dec.{eqb}
 use lib.ListN.{length, getD, set, length-set, List·getD-eq-default}
 use lib.Seq.{getD-set-same, getD-set-other, ext-getD}
-use Rattle.lists.specs.Choice.{pick}
+use borrow.Author.Tests.{eq-eqb, ne-eqb}
+use Rattle.lists.specs.Choice.{pick, both, either}
+use Rattle.lists.specs.Lists.{lowest}
 use Rattle.lists.specs.Members.{has, Distinct}
-use Rattle.lists.proofs.Laws.{Known, was-true, was-false, known, eq-or-ne, pick-yes, pick-no}
-use Rattle.sets.specs.Sets.{hasBit}
+use Rattle.lists.proofs.Laws.{Known, was-true, was-false, known, eq-or-ne, pick-yes, pick-no, either-left, either-right}
+use Rattle.sets.specs.Sets.{hasBit, joined}
+use Rattle.sets.specs.Inner.{setWidth, dropped}
+use Rattle.sets.proofs.Bits.{has-none, has-joined}
+use Rattle.sets.proofs.Scan.{lowest-has, has-dropped, dropped-less}
 use Rattle.graph_flows.specs.Trails.{Step, down, up, edgeOf, edgesOf, In}
 use Rattle.graph_flows.specs.Inner.{changedAlong, Fits}
 use Rattle.graph_flows.proofs.Change.{over, in-edges, after, changed-length, changed-other, changed-at}
@@ -92,6 +98,64 @@ module _ (x d u : ℕ) where
   pub shift-end : (flows new total : List ℕ) (e n : ℕ) → n ≤ e → shiftFrom x d u flows new e (n - e) ≡ total → new ≡ total
   unfolding shiftFrom
   shift-end flows new total e n h inv = let s : n - e ≡ 0 = omega arith in rw (s, shiftFrom) at inv
+
+-- a set that is not empty has the number that the code finds
+pub lowest-in : (rest e : ℕ) → e ≡ lowest (hasBit rest) 0 setWidth → rest < 2 ^ setWidth → rest ≢ 0 → hasBit rest e ≡ true
+lowest-in rest e q fits some = rw q (lowest-has rest fits (omega (arith, some)))
+
+-- the edges of `rest` have their old flow, and all others their new one
+pub record ShiftedBut (x d u : ℕ) (flows new : List ℕ) (rest : ℕ) : Type 0 where
+  pub fits : rest < 2 ^ setWidth
+  pub long : length new ≡ length flows
+  pub old : (e : ℕ) → hasBit rest e ≡ true → getD new e 0 ≡ getD flows e 0
+  pub moved : (e : ℕ) → hasBit rest e ≡ false → e < length flows → getD new e 0 ≡ shiftedAt x d u e (getD flows e 0)
+
+module _ (x d u : ℕ) (flows : List ℕ) where
+  -- for the code: edges of neither way keep their flow; one more edge; none left
+  pub but-both : (rest : ℕ) → rest < 2 ^ setWidth → rest ≡ joined d u → ShiftedBut x d u flows flows rest
+  but-both rest fits q = record {
+    fits = fits;
+    long = refl;
+    old = λ e t. refl;
+    moved = λ e t h. let n : either (hasBit d e) (hasBit u e) ≡ false = sym (has-joined d u e) ∙ ap (λ (m : ℕ). hasBit m e) (sym q) ∙ t in
+        sym (shifted-other x d u e (getD flows e 0) (either-left _ _ n) (either-right _ _ n));
+  }
+
+  pub but-one : (new : List ℕ) (rest e f : ℕ) → hasBit rest e ≡ true → f ≡ shiftedAt x d u e (getD new e 0) → ShiftedBut x d u flows new rest
+      → ShiftedBut x d u flows (set new e f) (dropped rest e)
+  unfolding both
+  but-one new rest e f has q b = record {
+    fits = omega (arith, dropped-less rest e has, b .fits);
+    long = length-set new e f ∙ b .long;
+    old = λ k t. kept k t (eq-or-ne k e);
+    moved = λ k t h. goes k t h (eq-or-ne k e);
+  }
+    where
+      other : (k : ℕ) → k ≢ e → hasBit (dropped rest e) k ≡ hasBit rest k
+      other k n = has-dropped rest e k ∙ go (known (hasBit rest k))
+        where
+          go : Known (hasBit rest k) → both (hasBit rest k) (not (eqb k e)) ≡ hasBit rest k
+          go (was-true t) = rw (t, ne-eqb k e n)
+          go (was-false t) = rw t
+
+      gone : hasBit (dropped rest e) e ≡ false
+      gone = has-dropped rest e e ∙ rw (has, eq-eqb e e refl)
+
+      kept : (k : ℕ) → hasBit (dropped rest e) k ≡ true → (k ≡ e) ⊎ (k ≢ e) → getD (set new e f) k 0 ≡ getD flows k 0
+      kept k t (inl p) = absurd (true≢false (sym t ∙ rw p gone))
+      kept k t (inr n) = getD-set-other new e k f 0 n ∙ b .old k (sym (other k n) ∙ t)
+
+      goes : (k : ℕ) → hasBit (dropped rest e) k ≡ false → k < length flows → (k ≡ e) ⊎ (k ≢ e)
+          → getD (set new e f) k 0 ≡ shiftedAt x d u k (getD flows k 0)
+      goes k t h (inl p) =
+          rw p (getD-set-same new e f 0 (omega (arith, p, h, b .long)) ∙ q ∙ ap (shiftedAt x d u e) (b .old e has))
+      goes k t h (inr n) = getD-set-other new e k f 0 n ∙ b .moved k (sym (other k n) ∙ t) h
+
+  pub but-none : (new : List ℕ) (rest : ℕ) → rest ≡ 0 → ShiftedBut x d u flows new rest → new ≡ shifted x d u flows
+  but-none new rest z b =
+      ext-getD 0 new (shifted x d u flows) (b .long ∙ sym (shifted-length x d u flows))
+      (λ e h. let l : e < length flows = omega (arith, h, b .long) in
+      b .moved e (ap (λ (m : ℕ). hasBit m e) z ∙ has-none e) l ∙ sym (shifted-at x d u flows e l))
 
 -- back again
 at-back : (x d u e f : ℕ) → (hasBit d e ≡ true → hasBit u e ≡ true → ⊥) → (hasBit d e ≡ true → x ≤ f) → shiftedAt x u d e (shiftedAt x d u e f) ≡ f

@@ -237,16 +237,18 @@ pub fn shifted(
     new
 }
 
-// Lowers the flows by x on one set of edges, and raises them by x on another.
+// Lowers the flows by x on one set of edges, and raises them by x on another. No other edge is looked at.
 pub fn shift(x: u32, downs: EdgeSet, ups: EdgeSet, flows: &mut [u32])
     requires { ⌜ x ≤ maxTotal ⌝ }
     requires { ⌜ AtMost maxTotal (now flows) ⌝ }
     ensures { λ _. ⌜ now (flows .exit) ≡ shifted x downs ups (now (flows .entry)) ⌝ }
 {
-    let mut e: usize = 0;
-    while e < flows.len() {
-        let f = shifted_at(x, downs, ups, e, flows[e]);
-        flows[e] = f;
-        e += 1;
+    let mut rest = sets::joined(downs, ups);
+    while rest != 0 {
+        let e = sets::lowest(rest);
+        let f = lists::word_at(flows, e as usize);
+        let new = shifted_at(x, downs, ups, e as usize, f);
+        lists::put_word(flows, e as usize, new);
+        rest = sets::drop(rest, e);
     }
 }

@@ -3,3 +3,4 @@ pub mod Stores
 pub mod Facts
 pub mod Parts
 pub mod Lent
+pub mod Past

@@ -21,10 +21,14 @@ abbrev pub edgeNumbersIntact : Bool → ℕ → ℕ → ℕ → ℕ → ℕ → 
 edgeNumbersIntact isEdge tail head text acyclic flow vertices =
     both (edgeNumbersFit isEdge tail head text vertices) (both (leb acyclic text) (pick (eqb acyclic 0) (eqb flow 0) (leb flow maxTotal)))
 
+-- the same at place i of lists: the tails, the heads, the flows of the text, the acyclic flows and the flows
+abbrev pub edgeListsIntact : ℕ → ℕ → List ℕ → List ℕ → List ℕ → List ℕ → List ℕ → ℕ → Bool
+edgeListsIntact edges vertices tails heads texts acyclic flows i =
+    edgeNumbersIntact (ltb i edges) (getD tails i 0) (getD heads i 0) (getD texts i 0) (getD acyclic i 0) (getD flows i 0) vertices
+
 -- the same at place i of a network, the acyclic flows and the flows
 abbrev pub edgeIntactIn : Network → List ℕ → List ℕ → ℕ → Bool
-edgeIntactIn net acyclic flows i =
-    edgeNumbersIntact (ltb i (net .edges)) (getD (net .tails) i 0) (getD (net .heads) i 0) (getD (net .flows) i 0) (getD acyclic i 0) (getD flows i 0) (net .vertices)
+edgeIntactIn net acyclic flows i = edgeListsIntact (net .edges) (net .vertices) (net .tails) (net .heads) (net .flows) acyclic flows i
 
 -- the same at place i of a board
 abbrev pub edgeIntact : Board → ℕ → Bool
@@ -35,13 +39,26 @@ abbrev pub terminalNumbersIntact : Bool → ℕ → ℕ → ℕ → ℕ → Bool
 terminalNumbersIntact isTerminal home demand place vertices =
     both (terminalNumbersFit isTerminal home demand vertices) (pick isTerminal (ltb place vertices) (eqb place 0))
 
+-- the same at place j of lists: the homes, the demands and the places
+abbrev pub terminalListsIntact : ℕ → ℕ → List ℕ → List ℕ → List ℕ → ℕ → Bool
+terminalListsIntact terminals vertices homes demands places j =
+    terminalNumbersIntact (ltb j terminals) (getD homes j 0) (getD demands j 0) (getD places j 0) vertices
+
 -- the same at place j of a network and the places
 abbrev pub terminalIntactIn : Network → List ℕ → ℕ → Bool
-terminalIntactIn net places j = terminalNumbersIntact (ltb j (net .terminals)) (getD (net .homes) j 0) (getD (net .demands) j 0) (getD places j 0) (net .vertices)
+terminalIntactIn net places j = terminalListsIntact (net .terminals) (net .vertices) (net .homes) (net .demands) places j
 
 -- the same at place j of a board
 abbrev pub terminalIntact : Board → ℕ → Bool
 terminalIntact b j = terminalIntactIn (b .network) (b .places) j
+
+-- the numbers of a place past the edges, and those of a place past the terminals, are 0
+abbrev pub edgeBlankAt : List ℕ → List ℕ → List ℕ → List ℕ → List ℕ → ℕ → Bool
+edgeBlankAt tails heads texts acyclic flows i =
+    both (eqb (getD tails i 0) 0) (both (eqb (getD heads i 0) 0) (both (eqb (getD texts i 0) 0) (both (eqb (getD acyclic i 0) 0) (eqb (getD flows i 0) 0))))
+
+abbrev pub terminalBlankAt : List ℕ → List ℕ → List ℕ → ℕ → Bool
+terminalBlankAt homes demands places j = both (eqb (getD homes j 0) 0) (both (eqb (getD demands j 0) 0) (eqb (getD places j 0) 0))
 
 -- a turn's amount is one that can be taken back
 abbrev pub moveIntact : Move → Bool

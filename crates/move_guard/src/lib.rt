@@ -7,6 +7,7 @@ use board::Network;
 use journal::Table;
 use journal::WORDS;
 ghost use mathlib.Core.Path.{_≡_};
+ghost use Prim.Native.Nat.{_-_, _≤_};
 ghost use lib.ListN.{getD, set};
 ghost use Rattle.board.specs.Record.{blank};
 ghost use Rattle.journal.specs.Words.{wholeOf};
@@ -17,9 +18,13 @@ ghost use Rattle.lists.specs.Lists.{all};
 ghost use Rattle.board.specs.Limits.{maxEdges, maxTerminals, maxTotal};
 ghost use Rattle.move_guard.specs.Guard.{
   edgeNumbersIntact,
+  edgeListsIntact,
   edgeIntactIn,
   terminalNumbersIntact,
+  terminalListsIntact,
   terminalIntactIn,
+  edgeBlankAt,
+  terminalBlankAt,
   moveIntact,
   intactIn,
   intact,
@@ -231,16 +236,143 @@ pub fn playing(board: Board) -> bool
     lists::and(board.stage == Board::PLAY, fits)
 }
 
-// The same of a board whose journal is lent.
+// ---- The same of a board whose journal is lent. The lists are lent, too.
+
+// Whether every number of the places from one on is 0, as past the edges.
+fn edges_blank<'a>(
+    tails: &'a [u32; Board::MAX_EDGES],
+    heads: &'a [u32; Board::MAX_EDGES],
+    texts: &'a [u32; Board::MAX_EDGES],
+    acyclic: &'a [u32; Board::MAX_EDGES],
+    flows: &'a [u32; Board::MAX_EDGES],
+    from: usize,
+) -> bool
+    ensures { λ r. ⌜ r ≡ all (edgeBlankAt (now (tails .entry)) (now (heads .entry)) (now (texts .entry))
+        (now (acyclic .entry)) (now (flows .entry))) from (maxEdges - from) ⌝ }
+{
+    let mut i = from;
+    while i < Board::MAX_EDGES {
+        let flow = lists::and(acyclic[i] == 0, flows[i] == 0);
+        let numbers = lists::and(heads[i] == 0, lists::and(texts[i] == 0, flow));
+        if !lists::and(tails[i] == 0, numbers) {
+            return false;
+        }
+        i += 1;
+    }
+    true
+}
+
+// Whether every edge is intact.
+fn edges_intact_lent<'a>(
+    edges: u32,
+    vertices: u32,
+    tails: &'a [u32; Board::MAX_EDGES],
+    heads: &'a [u32; Board::MAX_EDGES],
+    texts: &'a [u32; Board::MAX_EDGES],
+    acyclic: &'a [u32; Board::MAX_EDGES],
+    flows: &'a [u32; Board::MAX_EDGES],
+) -> bool
+    requires { ⌜ edges ≤ maxEdges ⌝ }
+    ensures { λ r. ⌜ r ≡ all (edgeListsIntact edges vertices (now (tails .entry)) (now (heads .entry))
+        (now (texts .entry)) (now (acyclic .entry)) (now (flows .entry))) 0 maxEdges ⌝ }
+{
+    let mut i: usize = 0;
+    while i < edges as usize {
+        if !edge_intact(
+            true,
+            tails[i],
+            heads[i],
+            texts[i],
+            acyclic[i],
+            flows[i],
+            vertices,
+        ) {
+            return false;
+        }
+        i += 1;
+    }
+    edges_blank(tails, heads, texts, acyclic, flows, i)
+}
+
+// Whether every number of the places from one on is 0, as past the terminals.
+fn terminals_blank<'a>(
+    homes: &'a [u32; Board::MAX_TERMINALS],
+    demands: &'a [u32; Board::MAX_TERMINALS],
+    places: &'a [u32; Board::MAX_TERMINALS],
+    from: usize,
+) -> bool
+    ensures { λ r. ⌜ r ≡ all (terminalBlankAt (now (homes .entry)) (now (demands .entry)) (now (places .entry)))
+        from (maxTerminals - from) ⌝ }
+{
+    let mut j = from;
+    while j < Board::MAX_TERMINALS {
+        let numbers = lists::and(demands[j] == 0, places[j] == 0);
+        if !lists::and(homes[j] == 0, numbers) {
+            return false;
+        }
+        j += 1;
+    }
+    true
+}
+
+// Whether every terminal is intact.
+fn terminals_intact_lent<'a>(
+    terminals: u32,
+    vertices: u32,
+    homes: &'a [u32; Board::MAX_TERMINALS],
+    demands: &'a [u32; Board::MAX_TERMINALS],
+    places: &'a [u32; Board::MAX_TERMINALS],
+) -> bool
+    requires { ⌜ terminals ≤ maxTerminals ⌝ }
+    ensures { λ r. ⌜ r ≡ all (terminalListsIntact terminals vertices (now (homes .entry)) (now (demands .entry))
+        (now (places .entry))) 0 maxTerminals ⌝ }
+{
+    let mut j: usize = 0;
+    while j < terminals as usize {
+        if !terminal_intact(true, homes[j], demands[j], places[j], vertices) {
+            return false;
+        }
+        j += 1;
+    }
+    terminals_blank(homes, demands, places, j)
+}
+
+// Whether no number of the board can lead a call astray.
+pub fn intact_lent(board: Table, journal: &[[u64; WORDS]; Board::JOURNAL]) -> bool
+    ensures { λ r. ⌜ r ≡ intact (wholeOf board (now (journal .entry))) ⌝ }
+{
+    let vertices = board.network.vertices;
+    let edges = board.network.edges;
+    let terminals = board.network.terminals;
+    if !text_judge::counts_fit_in(vertices, edges, terminals, board.network.source) {
+        return false;
+    }
+    let edges_fit = edges_intact_lent(
+        edges,
+        vertices,
+        &board.network.tails,
+        &board.network.heads,
+        &board.network.flows,
+        &board.acyclic,
+        &board.flows,
+    );
+    let terminals_fit = terminals_intact_lent(
+        terminals,
+        vertices,
+        &board.network.homes,
+        &board.network.demands,
+        &board.places,
+    );
+    let last = journal::last_entry(journal, board.moves);
+    let step = last.step;
+    let room = lists::and(board.moves <= Board::JOURNAL as u32, move_intact(step));
+    lists::and(edges_fit, lists::and(terminals_fit, room))
+}
+
+// Whether the board is in play.
 pub fn playing_lent(board: Table, journal: &[[u64; WORDS]; Board::JOURNAL]) -> bool
     ensures { λ r. ⌜ r ≡ playing (wholeOf board (now (journal .entry))) ⌝ }
 {
-    let net = board.network;
-    let acyclic = board.acyclic;
-    let flows = board.flows;
-    let places = board.places;
-    let last = journal::last_entry(journal, board.moves);
-    let step = last.step;
-    let fits = intact_in(net, acyclic, flows, places, board.moves, step);
+    let fits = intact_lent(board, journal);
     lists::and(board.stage == Board::PLAY, fits)
 }

@@ -1,1 +1,2 @@
 pub mod Through
+pub mod Lent

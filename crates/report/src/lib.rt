@@ -237,13 +237,7 @@ pub fn sheet(board: Board, buf: &mut [u8]) -> Written
 fn loaded_lent(board: Table, journal: &[[u64; WORDS]; Board::JOURNAL]) -> bool
     ensures { λ r. ⌜ r ≡ loaded (wholeOf board (now (journal .entry))) ⌝ }
 {
-    let net = board.network;
-    let acyclic = board.acyclic;
-    let flows = board.flows;
-    let places = board.places;
-    let last = journal::last_entry(journal, board.moves);
-    let step = last.step;
-    let sound = move_guard::intact_in(net, acyclic, flows, places, board.moves, step);
+    let sound = move_guard::intact_lent(board, journal);
     loaded_in(board.stage, sound)
 }
 

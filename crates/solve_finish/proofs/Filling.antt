@@ -14,6 +14,7 @@ use Rattle.board.specs.Limits.{maxMoves}
 use Rattle.board.specs.Record.{blank}
 use Rattle.board.specs.declared.Entry.{Entry}
 use Rattle.journal.specs.Words.{packed, unpacked, blankWords, entriesOf, journalOf, standing, isZeros, isBlankAt, blankFrom, packedOn}
+use Rattle.solve_finish.specs.Run.{Filled}
 use Rattle.journal.proofs.Laws.{add-standing, length-standing}
 use Rattle.journal.proofs.Places.{packedOn-same, packedOn-other, wiped-back}
 
@@ -32,13 +33,6 @@ not-blank (suc k) j at w h n = both-not (blankFrom k at w) (isBlankAt w (at + k)
     go : (j < k) ⊎ (k ≤ j) → (j < k → blankFrom k at w ≡ false) → (blankFrom k at w ≡ false) ⊎ (isBlankAt w (at + k) ≡ false)
     go (inl l) ih = inl (ih l)
     go (inr l) ih = let e : j ≡ k = omega arith in inr (rw e at n)
-
--- so many moves stand, of them those from `from` on made by this finish, and so many may be left of its run
-pub record Filled (from moves left : ℕ) (old words : List (List ℕ)) : Type 0 where
-  pub behind : from ≤ moves
-  pub few : (moves - from) + left ≤ maxMoves
-  pub blanks : blankFrom (moves - from) from old ≡ true
-  pub packs : words ≡ packedOn (moves - from) from (journalOf moves words) old
 
 pub filled-none : (from : ℕ) (w : List (List ℕ)) → Filled from from maxMoves w w
 unfolding blankFrom packedOn

@@ -1,7 +1,7 @@
 -- A finish over lent words. The moves of a run fill the places behind the standing moves and change no other; so a finish of words that are those of the
 -- board's journal, place by place, is that of the board, and leaves such words. And the answer on any words, by its tests one after the other.
 use mathlib.Core.Path.{_≡_, refl, sym, ap, _∙_}
-use mathlib.Core.Bool.{true, false}
+use mathlib.Core.Bool.{Bool, true, false}
 use mathlib.Core.List.{List}
 use mathlib.Core.Logic.{_⊎_, inl, inr, _≢_}
 use Prim.Native.Nat.{ℕ, zero, suc, _+_, _-_, _<_, _≤_}
@@ -9,8 +9,8 @@ use native.Mathlib.Omega.{arith}
 use lib.Dec.{eqb}
 use lib.ListN.{length, getD, set, length-set}
 use lib.Seq.{getD-set-other}
-use Rattle.lists.specs.Choice.{pick}
-use Rattle.lists.proofs.Laws.{Known, was-true, was-false, known, eq-or-ne, pick-yes, pick-no}
+use Rattle.lists.specs.Choice.{pick, both}
+use Rattle.lists.proofs.Laws.{Known, was-true, was-false, known, eq-or-ne, pick-yes, pick-no, both-left, both-right}
 use Rattle.board.specs.Limits.{maxMoves}
 use Rattle.board.specs.Record.{blank}
 use Rattle.board.specs.declared.Board.{Board}
@@ -23,11 +23,15 @@ use Rattle.journal.proofs.After.{after-none, after-many}
 use Rattle.move_guard.proofs.Answers.{answered-yes, answered-no}
 use Rattle.move_carry.specs.Carries.{carried}
 use Rattle.move_turn.specs.Turns.{turned}
-use Rattle.solve_next.specs.Choosing.{Act, relocate, augment, allHome, judge, acted, nextAct}
+use Rattle.solve_next.specs.Choosing.{Act, relocate, augment, allHome, judge, acted, nextAct, allHomeIn}
+use Rattle.solve_next.proofs.Advised.{home-same}
+use Rattle.move_guard.specs.Guard.{playing}
+use Rattle.solve_finish.specs.declared.Ran.{Ran}
+use Rattle.solve_finish.specs.Run.{ranTo, RanOut}
 use Rattle.solve_finish.specs.declared.Finished.{Finished}
 use Rattle.solve_finish.specs.Finishes.{stepped, steppedOn, playedOut, finishRefusal, ended, finishCall}
 use Rattle.solve_finish.specs.Lent.{finishOn}
-use Rattle.solve_finish.proofs.Stepping.{away}
+use Rattle.solve_finish.proofs.Stepping.{away, finish-stuck, finish-made}
 use Rattle.solve_finish.proofs.Making.{home-stops, on-stops}
 
 -- one more move stands
@@ -159,3 +163,38 @@ module _ (t : Table) (w : List (List ℕ)) where
   pub words-made : (r : Finished) (v : List (List ℕ)) → r ≡ finishOn t w → t .moves ≤ r .board .moves
       → v ≡ packedOn (r .board .moves - t .moves) (t .moves) (r .board .journal) w → v ≡ wordsAfter (t .moves) (finishOn t w .board) w
   words-made r v e more h = rw (← e) (h ∙ sym (after-many (t .moves) (r .board) w more))
+
+-- the answer by how the run ended, and whether every terminal is at the source then
+module _ (t : Table) (w words : List (List ℕ)) (flows places : List ℕ) (ran : Ran) (r : RanOut t w words flows places ran) (play : playing (wholeOf t w) ≡ true)
+    (home : Bool) (h : home ≡ allHomeIn (t .network .terminals) (t .network .source) places) where
+  abbrev last : Board
+  last = ranTo t words flows (ran .marks) places (ran .moves)
+
+  at-home : home ≡ allHome last
+  at-home = h ∙ home-same last
+
+  pub ran-refused : (good : Bool) → good ≡ both (ran .blank) home → good ≡ false → record { answer = 20; count = 0; board = wholeOf t w } ≡ finishOn t w
+  unfolding both
+  ran-refused good g f = go (known (ran .blank))
+    where
+      go : Known (ran .blank) → record { answer = 20; count = 0; board = wholeOf t w } ≡ finishOn t w
+      go (was-false n) = on-blocked t w (r .blocked n)
+      go (was-true y) =
+          let away : home ≡ false = (rw y at (sym g)) ∙ f in
+          on-refused t w (finish-stuck (wholeOf t w) play (ap allHome (sym (r .over y)) ∙ sym at-home ∙ away))
+
+  pub ran-made : (good : Bool) (count : ℕ) → good ≡ both (ran .blank) home → good ≡ true → count ≡ ran .moves - t .moves
+      → (record { answer = 0; count = count; board = ended (t .moves) (ranTo t words flows (ran .marks) places (ran .moves)) } ≡ finishOn t w)
+      × (words ≡ wordsAfter (t .moves) (finishOn t w .board) w)
+  ran-made good count g y c = (e, words-made t w _ words e (r .fills .behind) (r .fills .packs))
+    where
+      over : last ≡ playedOut (wholeOf t w)
+      over = r .over (both-left (ran .blank) home (sym g ∙ y))
+
+      moves : ran .moves ≡ playedOut (wholeOf t w) .moves
+      moves = ap (λ (b : Board). b .moves) over
+
+      e : record { answer = 0; count = count; board = ended (t .moves) (ranTo t words flows (ran .marks) places (ran .moves)) } ≡ finishOn t w
+      e =
+          on-made t w _ (rw moves at (r .fills .blanks))
+          (finish-made (wholeOf t w) last _ count play over (sym at-home ∙ both-right (ran .blank) home (sym g ∙ y)) c refl)

@@ -66,6 +66,11 @@ unfolding playedOut
 run-starts b play long short sized =
     record { run = refl; play = λ n. play; network = refl; long = long; short = short; sized = sized; room = refl }
 
+-- the same parts under other names
+pub run-same : (whole : Board) (net : Network) (last : Board) (flows flows' : List ℕ) (marks : ℕ) (places places' : List ℕ) (moves left : ℕ)
+    → flows' ≡ flows → places' ≡ places → Run whole net last flows marks places moves left → Run whole net last flows' marks places' moves left
+run-same whole net last flows flows' marks places places' moves left f p r = rw (f, p) r
+
 -- the next move of the run, where one is left
 pub record Next (net : Network) (flows : List ℕ) (marks : ℕ) (places : List ℕ) (left : ℕ) (made : Made) : Type 0 where
   pub makes : left ≢ 0 → Makes (stepChange net flows marks places) made

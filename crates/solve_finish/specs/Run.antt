@@ -3,7 +3,7 @@
 use mathlib.Core.Path.{_≡_}
 use mathlib.Core.Bool.{Bool, true, false}
 use mathlib.Core.List.{List}
-use Prim.Native.Nat.{ℕ, _-_}
+use Prim.Native.Nat.{ℕ, _+_, _-_, _≤_}
 use lib.Dec.{leb, ltb, eqb}
 use lib.ListN.{length, getD}
 use Rattle.lists.specs.Choice.{pick, both}
@@ -21,7 +21,16 @@ use Rattle.move_turn.specs.Turns.{turnChange}
 use Rattle.solve_walk.specs.Walk.{cycleOf}
 use Rattle.solve_carry.specs.Search.{hasOpenAt, chosenEdgeIn}
 use Rattle.solve_next.specs.Choosing.{allHomeIn}
+use Rattle.move_edges.specs.Incidence.{Incident}
+use Rattle.move_turn.specs.declared.Frame.{Frame}
+use Rattle.move_turn.specs.Lent.{netOf, bareOf}
+use Rattle.board.specs.Record.{blank}
+use Rattle.journal.specs.Words.{wholeOf, journalOf, blankFrom, packedOn}
+use Rattle.journal.specs.declared.Table.{Table}
+use Rattle.solve_finish.specs.Finishes.{playedOut}
+use Rattle.solve_finish.specs.declared.Ran.{Ran}
 use Rattle.solve_finish.specs.declared.Made.{Made}
+use Rattle.solve_finish.specs.declared.Progress.{Progress}
 
 -- no flow is above what the terminals need together at most
 unfoldable pub allSmall : List ℕ → Bool
@@ -81,3 +90,52 @@ pub record Makes (change : Change) (made : Made) : Type 0 where
 -- the moves that are left of a run where the board is in play after one of them, else none
 unfoldable pub leftAfter : ℕ → ℕ → Bool → ℕ
 leftAfter left moves small = pick (both (leb moves maxMoves) small) (left - 1) 0
+
+-- a move on lists that are lent, with the flows and places after it
+abbrev pub madeOf : Progress → List ℕ → List ℕ → Made
+madeOf r flows places = record {
+  change = record { answer = r .answer; flows = flows; marks = r .marks; places = places; entry = r .entry };
+  positive = r .positive;
+  small = r .small;
+}
+
+-- no move
+abbrev pub haltedWith : ℕ → Frame → Progress
+haltedWith answer frame = record { answer = answer; entry = blank; marks = frame .marks; positive = frame .positive; small = true }
+
+-- the lists are those of a board in play, and the sets those of its network
+pub record Going (frame : Frame) (tails heads demands leaving entering flows places : List ℕ) : Type 0 where
+  pub net : Network
+  pub bare : bareOf net ≡ netOf frame tails heads demands
+  pub in-play : InPlay net flows (frame .marks) places
+  pub leave : Incident (net .tails) leaving
+  pub enter : Incident (net .heads) entering
+  pub is-positive : PositiveSet flows (frame .positive)
+
+-- so many moves stand, of them those from `from` on made by this finish, and so many may be left of its run
+pub record Filled (from moves left : ℕ) (old words : List (List ℕ)) : Type 0 where
+  pub behind : from ≤ moves
+  pub few : (moves - from) + left ≤ maxMoves
+  pub blanks : blankFrom (moves - from) from old ≡ true
+  pub packs : words ≡ packedOn (moves - from) from (journalOf moves words) old
+
+-- the board of a table that a run has come to
+abbrev pub ranTo : Table → List (List ℕ) → List ℕ → ℕ → List ℕ → ℕ → Board
+ranTo t words flows marks places moves = record {
+  stage = t .stage;
+  network = t .network;
+  acyclic = t .acyclic;
+  flows = flows;
+  marks = marks;
+  places = places;
+  journal = journalOf moves words;
+  moves = moves;
+  «finish_from» = t .«finish_from»;
+}
+
+-- a run that found every place blank has come to the end of the board; one that did not has come before a place that was not blank
+pub record RanOut (t : Table) (old words : List (List ℕ)) (flows places : List ℕ) (r : Ran) : Type 0 where
+  pub fills : Filled (t .moves) (r .moves) 0 old words
+  pub short : length places ≡ maxTerminals
+  pub over : r .blank ≡ true → ranTo t words flows (r .marks) places (r .moves) ≡ playedOut (wholeOf t old)
+  pub blocked : r .blank ≡ false → blankFrom (playedOut (wholeOf t old) .moves - t .moves) (t .moves) old ≡ false

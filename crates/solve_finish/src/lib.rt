@@ -8,11 +8,17 @@ use board::Relocation;
 use journal::Table;
 use journal::WORDS;
 use move_guard::Change;
+use move_turn::Frame;
 ghost use mathlib.Core.Path.{_≡_};
 ghost use mathlib.Core.Bool.{true};
 ghost use Rattle.move_edges.specs.Incidence.{Incident, PositiveSet};
 ghost use Rattle.move_guard.specs.Moved.{unchanged};
-ghost use Rattle.journal.specs.Words.{wordsAfter};
+ghost use Rattle.move_guard.specs.Guard.{playing};
+ghost use Rattle.move_turn.specs.Lent.{netOf};
+ghost use mathlib.Core.List.{[]};
+ghost use lib.ListN.{length};
+ghost use Rattle.board.specs.Limits.{maxEdges};
+ghost use Rattle.journal.specs.Words.{wholeOf, wordsAfter};
 ghost use Rattle.solve_finish.specs.Finishes.{finishCall};
 ghost use Rattle.solve_finish.specs.Lent.{endedOf, finishOn};
 ghost use Rattle.solve_finish.specs.Run.{
@@ -24,6 +30,10 @@ ghost use Rattle.solve_finish.specs.Run.{
   InPlay,
   Makes,
   leftAfter,
+  madeOf,
+  haltedWith,
+  Going,
+  RanOut,
 };
 
 // What a finish gives: 0, how many moves it made, and the board at the end; or the number that it is refused with, and
@@ -39,6 +49,23 @@ pub struct Ended {
     pub answer: u32,
     pub count: u32,
     pub board: Table,
+}
+
+// A move of the solver on lists that are lent: its number, and where that is 0 its entry, the marks and the positive
+// edges after it, and whether the flows are small then.
+pub struct Progress {
+    pub answer: u32,
+    pub entry: Entry,
+    pub marks: EdgeSet,
+    pub positive: EdgeSet,
+    pub small: bool,
+}
+
+// How a run ended: whether every place that it came to was blank, and the marks and the count of moves then.
+pub struct Ran {
+    pub blank: bool,
+    pub marks: EdgeSet,
+    pub moves: u32,
 }
 
 // A move of the solver: what it changes, the positive edges after it, and whether the flows are small then.
@@ -334,8 +361,253 @@ pub fn finish(board: Board) -> Finished
     }
 }
 
-// Plays to the end, and answers how many moves that took. A move is stored into a blank place alone. Where a place is
-// not blank, or the run ends with a terminal away, the places that were filled are blanked again.
+// Whether no flow is above what the terminals need together at most.
+fn all_small_lent(flows: &[u32; Board::MAX_EDGES]) -> bool
+    ensures { λ r. ⌜ r ≡ allSmall (now (flows .entry)) ⌝ }
+{
+    let mut e: usize = 0;
+    while e < Board::MAX_EDGES {
+        if Board::MAX_TOTAL < flows[e] {
+            return false;
+        }
+        e += 1;
+    }
+    true
+}
+
+// No move.
+fn halted(answer: u32, frame: Frame) -> Progress
+    ensures { λ r. ⌜ r ≡ haltedWith answer frame ⌝ }
+{
+    let entry = Entry::blank();
+    Progress {
+        answer: answer,
+        entry: entry,
+        marks: frame.marks,
+        positive: frame.positive,
+        small: true,
+    }
+}
+
+// Relocates terminal i over edge e.
+fn carry_on<'a>(
+    frame: Frame,
+    tails: &'a [u32; Board::MAX_EDGES],
+    demands: &'a [u32; Board::MAX_TERMINALS],
+    i: u32,
+    e: u32,
+    flows: &mut [u32; Board::MAX_EDGES],
+    places: &mut [u32; Board::MAX_TERMINALS],
+) -> Progress
+    requires { ⌜ PositiveSet (now flows) (frame .positive) ⌝ }
+    requires { ⌜ allSmall (now flows) ≡ true ⌝ }
+    requires { ⌜ length (now flows) ≡ maxEdges ⌝ }
+    ensures { λ r. ⌜ Makes (carryStep (netOf frame (now (tails .entry)) [] (now (demands .entry)))
+        (now (flows .entry)) (frame .marks) (now (places .entry)) i e)
+        (madeOf r (now (flows .exit)) (now (places .exit))) ⌝ }
+{
+    let place = lists::word_at(places, i as usize);
+    if place == frame.source {
+        return halted(21, frame);
+    }
+    let demand = lists::word_at(demands, i as usize);
+    let flow = lists::word_at(flows, e as usize);
+    let tail = lists::word_at(tails, e as usize);
+    let rest = lists::minus(flow, demand);
+    lists::put_word(flows, e as usize, rest);
+    lists::put_word(places, i as usize, tail);
+    let after = positive_after(frame.positive, rest, e);
+    Progress {
+        answer: 0,
+        entry: Entry {
+            step: Move::Carry(Relocation {
+                terminal: i,
+                edge: e,
+            }),
+        },
+        marks: frame.marks,
+        positive: after,
+        small: true,
+    }
+}
+
+// Augments along the solver's cycle.
+fn turn_on<'a>(
+    frame: Frame,
+    tails: &'a [u32; Board::MAX_EDGES],
+    heads: &'a [u32; Board::MAX_EDGES],
+    demands: &'a [u32; Board::MAX_TERMINALS],
+    leaving: &'a [EdgeSet],
+    entering: &'a [EdgeSet],
+    flows: &mut [u32; Board::MAX_EDGES],
+    places: &'a [u32; Board::MAX_TERMINALS],
+) -> Progress
+    requires { ⌜ Going frame (now tails) (now heads) (now demands) (now leaving) (now entering) (now flows)
+        (now places) ⌝ }
+    ensures { λ r. ⌜ Makes (turnStep
+        (netOf frame (now (tails .entry)) (now (heads .entry)) (now (demands .entry)))
+        (now (flows .entry)) (frame .marks) (now (places .entry)))
+        (madeOf r (now (flows .exit)) (now (places .entry))) ⌝ }
+{
+    if solve_next::all_home(places, frame.terminals, frame.source) {
+        return halted(28, frame);
+    }
+    let walk = solve_walk::cycle(
+        tails,
+        heads,
+        leaving,
+        entering,
+        frame.positive,
+        flows,
+        frame.vertices,
+        frame.source,
+    );
+    let steps = walk.steps;
+    let count = walk.count as usize;
+    let made = move_turn::change_lent(
+        false,
+        frame,
+        tails,
+        heads,
+        demands,
+        leaving,
+        places,
+        &steps[..count],
+        flows,
+    );
+    let entry = made.entry;
+    let after = move_edges::positive_lent(flows);
+    let small = all_small_lent(flows);
+    Progress {
+        answer: made.answer,
+        entry: entry,
+        marks: made.marks,
+        positive: after,
+        small: small,
+    }
+}
+
+// Makes the solver's next move on the lists of a board in play.
+fn advance_lent<'a>(
+    frame: Frame,
+    tails: &'a [u32; Board::MAX_EDGES],
+    heads: &'a [u32; Board::MAX_EDGES],
+    demands: &'a [u32; Board::MAX_TERMINALS],
+    leaving: &'a [EdgeSet],
+    entering: &'a [EdgeSet],
+    flows: &mut [u32; Board::MAX_EDGES],
+    places: &mut [u32; Board::MAX_TERMINALS],
+) -> Progress
+    requires { ⌜ Going frame (now tails) (now heads) (now demands) (now leaving) (now entering) (now flows)
+        (now places) ⌝ }
+    ensures { λ r. ⌜ Makes (stepChange
+        (netOf frame (now (tails .entry)) (now (heads .entry)) (now (demands .entry)))
+        (now (flows .entry)) (frame .marks) (now (places .entry)))
+        (madeOf r (now (flows .exit)) (now (places .exit))) ⌝ }
+{
+    let found = solve_carry::open_carry(
+        heads,
+        entering,
+        demands,
+        frame.terminals,
+        frame.edges,
+        flows,
+        frame.positive,
+        frame.marks,
+        places,
+    );
+    if found.terminal < frame.terminals {
+        return carry_on(
+            frame,
+            tails,
+            demands,
+            found.terminal,
+            found.edge,
+            flows,
+            places,
+        );
+    }
+    turn_on(
+        frame,
+        tails,
+        heads,
+        demands,
+        leaving,
+        entering,
+        flows,
+        places,
+    )
+}
+
+// Plays on as long as a move is accepted and the place of the journal for it is blank.
+fn play_out(
+    board: Table,
+    journal: &mut [[u64; WORDS]; Board::JOURNAL],
+    flows: &mut [u32; Board::MAX_EDGES],
+    places: &mut [u32; Board::MAX_TERMINALS],
+) -> Ran
+    requires { ⌜ playing (wholeOf board (now journal)) ≡ true ⌝ }
+    requires { ⌜ (now flows ≡ board .flows) × (now places ≡ board .places) ⌝ }
+    ensures { λ r. ⌜ RanOut board (now (journal .entry)) (now (journal .exit)) (now (flows .exit))
+        (now (places .exit)) r ⌝ }
+{
+    let net = board.network;
+    let tails = net.tails;
+    let heads = net.heads;
+    let demands = net.demands;
+    let leaving = move_edges::at_vertices(tails);
+    let entering = move_edges::at_vertices(heads);
+    let mut marks = board.marks;
+    let mut positive = move_edges::positive_lent(flows);
+    let mut moves = board.moves;
+    let mut left = Board::JOURNAL as u32;
+    while left != 0 {
+        let frame = Frame {
+            vertices: board.network.vertices,
+            edges: board.network.edges,
+            terminals: board.network.terminals,
+            source: board.network.source,
+            marks: marks,
+            positive: positive,
+        };
+        let made = advance_lent(
+            frame,
+            &tails,
+            &heads,
+            &demands,
+            &leaving,
+            &entering,
+            flows,
+            places,
+        );
+        if made.answer != 0 {
+            left = 0;
+            continue;
+        }
+        let m = moves as usize;
+        if !journal::is_blank(journal, m) {
+            return Ran {
+                blank: false,
+                marks: marks,
+                moves: moves,
+            };
+        }
+        let entry = made.entry;
+        journal::put_entry(journal, m, entry);
+        marks = made.marks;
+        positive = made.positive;
+        moves += 1;
+        left = left_after(left, moves, made.small);
+    }
+    Ran {
+        blank: true,
+        marks: marks,
+        moves: moves,
+    }
+}
+
+// Plays to the end, and answers how many moves that took. Where a place of the journal is not blank, or the run ends
+// with a terminal away, the places that were filled are blanked again.
 pub fn finish_lent(board: Table, journal: &mut [[u64; WORDS]; Board::JOURNAL]) -> Ended
     ensures { λ r. ⌜ endedOf r (now (journal .exit)) ≡ finishOn board (now (journal .entry)) ⌝ }
     ensures { λ _. ⌜ now (journal .exit) ≡
@@ -349,47 +621,13 @@ pub fn finish_lent(board: Table, journal: &mut [[u64; WORDS]; Board::JOURNAL]) -
         };
     }
     let net = board.network;
-    let mut flows = board.flows;
-    let mut marks = board.marks;
-    let mut places = board.places;
     let from = board.moves;
-    let tails = net.tails;
-    let heads = net.heads;
-    let leaving = move_edges::at_vertices(tails);
-    let entering = move_edges::at_vertices(heads);
-    let mut moves = from;
-    let mut positive = move_edges::positive(flows);
-    let mut left = Board::JOURNAL as u32;
-    while left != 0 {
-        let made = advance(net, &leaving, &entering, flows, marks, places, positive);
-        let change = made.change;
-        if change.answer != 0 {
-            left = 0;
-            continue;
-        }
-        let m = moves as usize;
-        if !journal::is_blank(journal, m) {
-            let count = lists::minus(moves, from);
-            journal::wipe(journal, from as usize, count as usize);
-            return Ended {
-                answer: 20,
-                count: 0,
-                board: board,
-            };
-        }
-        let entry = change.entry;
-        journal::put_entry(journal, m, entry);
-        let new_flows = change.flows;
-        let new_places = change.places;
-        flows = new_flows;
-        marks = change.marks;
-        places = new_places;
-        positive = made.positive;
-        moves += 1;
-        left = left_after(left, moves, made.small);
-    }
-    let count = lists::minus(moves, from);
-    if !solve_next::all_home(&places, net.terminals, net.source) {
+    let mut flows = board.flows;
+    let mut places = board.places;
+    let ran = play_out(board, journal, &mut flows, &mut places);
+    let home = solve_next::all_home(&places, net.terminals, net.source);
+    let count = lists::minus(ran.moves, from);
+    if !lists::and(ran.blank, home) {
         journal::wipe(journal, from as usize, count as usize);
         return Ended {
             answer: 20,
@@ -399,9 +637,9 @@ pub fn finish_lent(board: Table, journal: &mut [[u64; WORDS]; Board::JOURNAL]) -
     }
     let mut last = board;
     last.flows = flows;
-    last.marks = marks;
+    last.marks = ran.marks;
     last.places = places;
-    last.moves = moves;
+    last.moves = ran.moves;
     last.stage = Board::FINISHED;
     last.finish_from = from;
     Ended {

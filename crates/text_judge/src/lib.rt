@@ -10,7 +10,7 @@ ghost use lib.ListN.{length, getD, set};
 ghost use Rattle.lists.specs.Choice.{both};
 ghost use Rattle.lists.specs.Lists.{all, sumAt};
 ghost use Rattle.board.specs.Limits.{maxVertices};
-ghost use Rattle.text_rules.specs.Rules.{keeps, balanced, judged, countsFit, lawful};
+ghost use Rattle.text_rules.specs.Rules.{keeps, balanced, judged, countsFitIn, countsFit, lawful};
 ghost use Rattle.text_judge.specs.Sums.{differAt, awayAt, evenAt};
 
 // Whether the first n places keep a rule.
@@ -141,14 +141,24 @@ fn between(low: u32, n: u32, high: u32) -> bool
 }
 
 // Whether the counts and the source are in their ranges.
+pub fn counts_fit_in(vertices: u32, edges: u32, terminals: u32, source: u32) -> bool
+    ensures { λ r. ⌜ r ≡ countsFitIn vertices edges terminals source ⌝ }
+{
+    let vertices_fit = between(2, vertices, Board::MAX_VERTICES);
+    let edges_fit = between(1, edges, Board::MAX_EDGES as u32);
+    let terminals_fit = between(1, terminals, Board::MAX_TERMINALS as u32);
+    let source_fits = source < vertices;
+    lists::and(
+        vertices_fit,
+        lists::and(edges_fit, lists::and(terminals_fit, source_fits)),
+    )
+}
+
+// The same of a network.
 pub fn counts_fit(net: Network) -> bool
     ensures { λ r. ⌜ r ≡ countsFit net ⌝ }
 {
-    let vertices = between(2, net.vertices, Board::MAX_VERTICES);
-    let edges = between(1, net.edges, Board::MAX_EDGES as u32);
-    let terminals = between(1, net.terminals, Board::MAX_TERMINALS as u32);
-    let source = net.source < net.vertices;
-    lists::and(vertices, lists::and(edges, lists::and(terminals, source)))
+    counts_fit_in(net.vertices, net.edges, net.terminals, net.source)
 }
 
 // Whether a network is one that an accepted text gives.

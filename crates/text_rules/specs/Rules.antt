@@ -68,11 +68,14 @@ judged net =
     3
 
 -- 2: the counts and the source are in their ranges
+abbrev pub countsFitIn : ℕ → ℕ → ℕ → ℕ → Bool
+countsFitIn vertices edges terminals source =
+    both (both (leb 2 vertices) (leb vertices maxVertices))
+    (both (both (leb 1 edges) (leb edges maxEdges)) (both (both (leb 1 terminals) (leb terminals maxTerminals)) (ltb source vertices)))
+
+-- the same of a network
 abbrev pub countsFit : Network → Bool
-countsFit net =
-    both (both (leb 2 (net .vertices)) (leb (net .vertices) maxVertices))
-    (both (both (leb 1 (net .edges)) (leb (net .edges) maxEdges))
-    (both (both (leb 1 (net .terminals)) (leb (net .terminals) maxTerminals)) (ltb (net .source) (net .vertices))))
+countsFit net = countsFitIn (net .vertices) (net .edges) (net .terminals) (net .source)
 
 -- a network such as an accepted text gives
 unfoldable pub lawful : Network → Bool

@@ -29,6 +29,7 @@ use Rattle.theorem_keep.proofs.Standing.{Standing, standing-playing}
 use Rattle.move_list.specs.Calls.{Call, carry, turn, undo, hint, made, played, answers, hintedBy, hintsOf}
 use Rattle.journal.specs.Words.{noWords, packedAll}
 use Rattle.move_list.specs.Words.{wordsPlayed}
+use Rattle.solve_finish.proofs.Lent.{finish-packed}
 use Rattle.theorem_list.specs.Player.{listedAll, afresh, saysTo, standingAfter, standingMoves, says, suggests}
 use Rattle.theorem_list.specs.Faithful.{Faithful}
 use Rattle.theorem_list.proofs.Finish.{finish-completes, hint-taken}
@@ -215,6 +216,7 @@ module _ (text : List ℕ) (loads : loadText text .answer ≡ 0) where
         same-answers = same-answers [] cs none;
         same-hints = same-hints [] cs none;
         finish = finish-completes (afresh text (standingMoves text [] cs)) (f .standing);
+        finish-words = finish-packed (afresh text (standingMoves text [] cs)) (wordsPlayed (loadText text .board) cs noWords) (words cs);
       }
 
 pub every-list : (text : List ℕ) (cs : List Call) → loadText text .answer ≡ 0 → Faithful text cs (played (loadText text .board) cs)

@@ -8,7 +8,7 @@ use Rattle.lists.specs.Members.{has}
 use Rattle.board.specs.Limits.{maxMoves}
 use Rattle.board.specs.Record.{blank}
 use Rattle.board.specs.declared.Board.{Board}
-use Rattle.journal.specs.Words.{blankWords, noWords, packedAll}
+use Rattle.journal.specs.Words.{blankWords, noWords, wordsAfter, packedAll}
 use Rattle.load.specs.Load.{loadText}
 use Rattle.move_guard.specs.Guard.{playing}
 use Rattle.solve_finish.specs.Finishes.{finishCall}
@@ -43,5 +43,6 @@ pub record Faithful (text : List ℕ) (cs : List Call) (b : Board) : Type 0 wher
   -- "Each carry, turn and undo answered this player's number"; each hint was that of "this player's board at that point"
   pub same-answers : answers (loadText text .board) cs ≡ says text [] cs
   pub same-hints : hintsOf (loadText text .board) cs ≡ suggests text [] cs
-  -- finish completes the board
+  -- finish completes the board, and its moves are packed into the words behind those that stood
   pub finish : Complete b (finishCall b)
+  pub finish-words : wordsAfter (b .moves) (finishCall b .board) (wordsPlayed (loadText text .board) cs noWords) ≡ packedAll (finishCall b .board .journal)

@@ -1,20 +1,21 @@
--- `boundary::last_board` meets its contract: the board as it is, or what the finish ensures.
-use mathlib.Core.Path.{sym, ap, _∙_}
-use borrow.Author.Tests.{eq-eqb, ne-eqb}
-use Rattle.lists.proofs.Laws.{pick-yes, pick-no}
-use Rattle.solve_finish.specs.declared.Finished.{Finished}
+-- The board as it is, or what the finish ensures: of words that are those of the journal it is the board's own.
+use Rattle.boundary.proofs.Words.{last-same, last-finished}
 use borrow.Author.Needs.{needs}
 use Rattle.boundary.proofs.last_board.Statement.{statement}
 use Rattle.boundary.proofs.last_board.Tie as tie
 
 returns : tie.Need-returns
-returns c = sym (pick-yes _ _ _ (eq-eqb _ _ (c .if1 .taken)))
+returns c = λ kept. last-same _ (c .before .args .board) _ kept (c .if1 .taken)
 
-finish-requires : tie.Need-finish-requires
-finish-requires c κs = search needs
+finish-lent-requires : tie.Need-finish-lent-requires
+finish-lent-requires c κs = search needs
 
 returns-2 : tie.Need-returns-2
-returns-2 c = ap (λ (f : Finished). f .board) (c .before .finish .ensures) ∙ sym (pick-no _ _ _ (ne-eqb _ _ (c .before .before .if1 .left)))
+returns-2 c =
+    let finishing = c .before in
+    let other = finishing .before .before in
+    let gave = finishing .finish-lent .ensures in
+    λ kept. last-finished _ (other .before .args .board) _ kept (finishing .finish-lent .result) _ (other .if1 .left) (gave .0) (gave .1)
 
 pub last-board-spec : {M : Type 1} → statement M
-last-board-spec = tie.close (tie.spec returns finish-requires returns-2)
+last-board-spec = tie.close (tie.spec returns finish-lent-requires returns-2)

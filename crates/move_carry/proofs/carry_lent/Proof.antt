@@ -7,6 +7,8 @@ use native.Mathlib.Omega.{arith}
 use denote.Ref.{now}
 use lib.ListN.{set}
 use Rattle.board.specs.Limits.{maxEdges, maxTerminals, maxMoves}
+use Rattle.board.specs.declared.Entry.{Entry}
+use Rattle.journal.specs.Words.{packed, entriesOf}
 use Rattle.journal.specs.declared.Table.{Table}
 use Rattle.move_carry.specs.Carries.{carryRefusalIn}
 use Rattle.move_carry.proofs.Lent.{numbers-same, room-edge, room-terminal, room-move, lent-accepted, lent-refused}
@@ -19,6 +21,7 @@ use Rattle.journal.proofs.put_entry.Reads as put-entry-reads
 use Rattle.lists.proofs.and.Reads as and-reads
 use Rattle.lists.proofs.minus.Reads as minus-reads
 use Rattle.lists.proofs.word_at.Reads as word-at-reads
+use Rattle.move_carry.proofs.entry_of.Reads as entry-of-reads
 use Rattle.move_carry.proofs.number_at.Reads as number-at-reads
 use Rattle.move_guard.proofs.playing_lent.Reads as playing-lent-reads
 use Rattle.sets.proofs.has.Reads as has-reads
@@ -37,6 +40,8 @@ cs = (
   number-at-reads.Learnt,
   minus-reads.Asked,
   minus-reads.Learnt,
+  entry-of-reads.Asked,
+  entry-of-reads.Learnt,
   put-entry-reads.Asked,
   put-entry-reads.Learnt,
 )
@@ -147,12 +152,16 @@ add-board c =
     let accepted = c .before .before .before .before .before in
     omega (arith, room (accepted .before) (accepted .if1 .taken))
 
+entry-of-requires : tie.Need-entry-of-requires
+entry-of-requires c κs = search needs
+
 put-entry-requires : tie.Need-put-entry-requires
 put-entry-requires c κs = search needs
 
 returns : tie.Need-returns
 returns c =
-    let at-rest = c .before .before in
+    let at-entry = c .before in
+    let at-rest = at-entry .before .before in
     let at-tail = at-rest .before in
     let accepted = at-tail .before .before .before .before in
     let judge = accepted .before in
@@ -160,7 +169,9 @@ returns c =
     let at-flow = at-demand .before .before .before .before in
     lent-accepted (table judge) (words judge) (start judge .args .i) (start judge .args .e) _ _ (tested judge .playing-lent .ensures) (judged judge) _ _ _ (accepted .if1 .taken)
     (ap (set (table judge .flows) (start judge .args .e)) (at-rest .minus .ensures ∙ ap₂ (λ (a b : ℕ). a - b) (at-flow .word-at3 .ensures) (at-demand .word-at4 .ensures)))
-    (ap (set (table judge .places) (start judge .args .i)) (at-tail .word-at5 .ensures)) (c .put-entry .ensures .0) (c .put-entry .ensures .1)
+    (ap (set (table judge .places) (start judge .args .i)) (at-tail .word-at5 .ensures))
+    (c .put-entry .ensures .0 ∙ ap (λ (x : Entry). set (words judge) (table judge .moves) (packed x)) (at-entry .entry-of .ensures))
+    (c .put-entry .ensures .1 ∙ ap (λ (x : Entry). set (entriesOf (words judge)) (table judge .moves) x) (at-entry .entry-of .ensures))
 
 returns-2 : tie.Need-returns-2
 returns-2 c =
@@ -187,6 +198,7 @@ carry-lent-spec =
     mul-board-2
     element-write-board-2
     add-board
+    entry-of-requires
     put-entry-requires
     returns
     returns-2)

@@ -1,66 +1,75 @@
--- What is left of the run over the edges, from the flows so far, is the whole run, and the flows that are left to change are as they were.
-use mathlib.Core.Path.{_≡_, refl, ap, _∙_}
-use Prim.Native.Nat.{ℕ, _-_, _≤_}
-use lib.ListN.{length, getD, length-set}
-use lib.Seq.{getD-set-other}
-use Rattle.move_cycle.specs.Shifts.{shiftFrom, shifted, shiftedAt}
-use Rattle.move_cycle.proofs.Shifting.{shift-turn, shift-end}
+-- The edges of what is left of the two sets have their old flow, and all others their new one. No old flow is large, so the sums do not wrap.
+use mathlib.Core.Path.{_∙_, ap}
+use Rattle.sets.proofs.Scan.{dropped-less}
+use Rattle.move_cycle.specs.Shifts.{shiftedAt}
+use Rattle.move_cycle.proofs.Shifting.{lowest-in, ShiftedBut, but-both, but-one, but-none}
 use borrow.Author.Needs.{needs}
-use native.Mathlib.Nat.{sub-zero}
-use native.Mathlib.Omega.{arith}
 use Rattle.move_cycle.proofs.shift.Statement.{statement}
 use Rattle.move_cycle.proofs.shift.Tie as tie
 
 abbrev Inv-loop : tie.InvT-loop
-Inv-loop x downs ups flows₀ e₀ flows e =
-    (length flows ≡ length flows₀) × (shiftFrom x downs ups flows₀ flows e (length flows₀ - e) ≡ shifted x downs ups flows₀)
-    × ((k : ℕ) → e ≤ k → getD flows k 0 ≡ getD flows₀ k 0)
+Inv-loop x downs ups flows₀ rest₀ flows rest = ShiftedBut x downs ups flows₀ flows rest
 
 abbrev μ-loop : tie.MeasureT-loop
-μ-loop x downs ups flows₀ e₀ flows e = length flows₀ - e
+μ-loop x downs ups flows₀ rest₀ flows rest = rest
+
+joined-requires : tie.Need-joined-requires Inv-loop μ-loop
+joined-requires c κs = search needs
 
 loop-holds : tie.Need-loop-holds Inv-loop μ-loop
-unfolding shifted
-loop-holds c = (refl, rw sub-zero refl, λ k h. refl)
+loop-holds c = but-both _ _ _ _ _ (search needs) (c .joined .ensures)
 
-mul-shifted-at : tie.Need-mul-shifted-at Inv-loop μ-loop
-mul-shifted-at c = search needs
+lowest-requires : tie.Need-lowest-requires Inv-loop μ-loop
+lowest-requires c κs = search needs
 
-slice-read-shifted-at : tie.Need-slice-read-shifted-at Inv-loop μ-loop
-slice-read-shifted-at c = search needs
+cast-word-at : tie.Need-cast-word-at Inv-loop μ-loop
+cast-word-at c = search needs
+
+word-at-requires : tie.Need-word-at-requires Inv-loop μ-loop
+word-at-requires c κs = search needs
+
+cast-shifted-at : tie.Need-cast-shifted-at Inv-loop μ-loop
+cast-shifted-at c = search needs
 
 shifted-at-requires : tie.Need-shifted-at-requires Inv-loop μ-loop
 shifted-at-requires c κs =
-    let loop = c .before .before .loop in
-    let pre = c .before .before .before .before .pre in
-    (pre .0, rw (loop .inv .2 (loop .e) (omega arith)) (pre .1 (loop .e)))
+    let at-lowest = c .before .before in
+    let at-loop = at-lowest .before .before in
+    let pre = at-loop .before .before .before .pre in
+    let has = lowest-in _ _ (at-lowest .lowest .ensures) (at-loop .loop .inv .fits) (at-lowest .before .loop-test .taken) in
+    (pre .0, rw (c .word-at .ensures, at-loop .loop .inv .old _ has) (pre .1 (at-lowest .lowest .result)))
 
-mul-flows : tie.Need-mul-flows Inv-loop μ-loop
-mul-flows c = search needs
+cast-put-word : tie.Need-cast-put-word Inv-loop μ-loop
+cast-put-word c = search needs
 
-slice-write-flows : tie.Need-slice-write-flows Inv-loop μ-loop
-slice-write-flows c = search needs
+put-word-requires : tie.Need-put-word-requires Inv-loop μ-loop
+put-word-requires c κs = search needs
 
-add-e : tie.Need-add-e Inv-loop μ-loop
-add-e c = omega arith
+drop-requires : tie.Need-drop-requires Inv-loop μ-loop
+drop-requires c κs = search needs
 
 loop-less : tie.Need-loop-less Inv-loop μ-loop
-loop-less c = omega arith
+loop-less c =
+    let at-lowest = c .before .before .before .before .before .before .before .before in
+    let at-loop = at-lowest .before .before in
+    rw (c .drop .ensures) (dropped-less _ _ (lowest-in _ _ (at-lowest .lowest .ensures) (at-loop .loop .inv .fits) (at-lowest .before .loop-test .taken)))
 
 loop-again : tie.Need-loop-again Inv-loop μ-loop
 loop-again c =
-    let test = c .before .before .loop-test in
-    let loop = c .before .before .before .loop in (
-      length-set (loop .flows) (loop .e) (c .shifted-at .result) ∙ loop .inv .0,
-      shift-turn _ _ _ _ _ _ _ _ _ (omega (arith, loop .inv .0, test .taken)) (c .shifted-at .ensures ∙ ap (shiftedAt _ _ _ _) (loop .inv .2 (loop .e) (omega arith))) (loop .inv .1),
-      λ k h. getD-set-other (loop .flows) (loop .e) k _ 0 (λ q. omega (arith, q, h)) ∙ loop .inv .2 k (omega (arith, h)),
-    )
+    let at-put = c .before .before .before in
+    let at-shifted = at-put .before .before in
+    let at-word = at-shifted .before in
+    let at-lowest = at-word .before .before in
+    let at-loop = at-lowest .before .before in
+    let has = lowest-in _ _ (at-lowest .lowest .ensures) (at-loop .loop .inv .fits) (at-lowest .before .loop-test .taken) in
+    rw (c .drop .ensures, at-put .put-word .ensures)
+    (but-one _ _ _ _ _ _ _ _ has (at-shifted .shifted-at .ensures ∙ ap (shiftedAt _ _ _ _) (at-word .word-at .ensures)) (at-loop .loop .inv))
 
 same-length : tie.Need-same-length Inv-loop μ-loop
-same-length c = c .before .loop .inv .0
+same-length c = c .before .loop .inv .long
 
 returns : tie.Need-returns Inv-loop μ-loop
-returns c = shift-end _ _ _ _ _ _ _ _ (omega (arith, c .before .loop .inv .0, c .loop-test .left)) (c .before .loop .inv .1)
+returns c = but-none _ _ _ _ _ _ (c .loop-test .left) (c .before .loop .inv)
 
 pub shift-spec : {M : Type 1} → statement M
 shift-spec =
@@ -68,13 +77,16 @@ shift-spec =
     (tie.spec
     Inv-loop
     μ-loop
+    joined-requires
     loop-holds
-    mul-shifted-at
-    slice-read-shifted-at
+    lowest-requires
+    cast-word-at
+    word-at-requires
+    cast-shifted-at
     shifted-at-requires
-    mul-flows
-    slice-write-flows
-    add-e
+    cast-put-word
+    put-word-requires
+    drop-requires
     loop-less
     loop-again
     same-length

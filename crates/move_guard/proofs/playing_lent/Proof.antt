@@ -1,16 +1,13 @@
--- The entry that the code reads is the board's last, so its test of the parts is the test of the board.
+-- The stage of play is within the stages of a loaded board, so the tests of the stage and of the board are the definition's.
 use denote.Ref.{now}
 use Rattle.journal.specs.Words.{wholeOf}
-use Rattle.move_guard.proofs.Parts.{in-play}
+use Rattle.move_guard.proofs.Parts.{staged}
 use borrow.Author.Needs.{needs}
 use Rattle.move_guard.proofs.playing_lent.Statement.{statement}
 use Rattle.move_guard.proofs.playing_lent.Tie as tie
 
-last-entry-requires : tie.Need-last-entry-requires
-last-entry-requires c κs = search needs
-
-intact-in-requires : tie.Need-intact-in-requires
-intact-in-requires c κs = search needs
+intact-lent-requires : tie.Need-intact-lent-requires
+intact-lent-requires c κs = search needs
 
 and-requires : tie.Need-and-requires
 and-requires c κs = search needs
@@ -18,10 +15,8 @@ and-requires c κs = search needs
 returns : tie.Need-returns
 returns c =
     let tested = c .before .before in
-    let read = tested .before in
-    let start = read .before .before .before .before .before .before in
-    in-play (wholeOf (start .args .board) (now (start .args .journal))) _ _ _ (read .last-entry .ensures) (tested .intact-in .ensures) (c .and .ensures)
+    let start = tested .before in
+    staged (wholeOf (start .args .board) (now (start .args .journal))) _ _ (tested .intact-lent .ensures) (c .and .ensures)
 
 pub playing-lent-spec : {M : Type 1} → statement M
-playing-lent-spec =
-    tie.close (tie.spec last-entry-requires intact-in-requires and-requires returns)
+playing-lent-spec = tie.close (tie.spec intact-lent-requires and-requires returns)

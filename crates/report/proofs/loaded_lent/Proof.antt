@@ -1,27 +1,20 @@
--- The entry that the code reads is the board's last, so its test of the parts is the test of the board.
-use denote.Ref.{now}
-use Rattle.journal.specs.Words.{wholeOf}
-use Rattle.report.proofs.Answers.{loaded-made}
+-- The test of the stages and the test of the board are the definition's.
+use mathlib.Core.Path.{ap, _∙_}
 use borrow.Author.Needs.{needs}
+use Rattle.lists.specs.Choice.{both}
+use Rattle.move_guard.specs.Guard.{loaded}
 use Rattle.report.proofs.loaded_lent.Statement.{statement}
 use Rattle.report.proofs.loaded_lent.Tie as tie
 
-last-entry-requires : tie.Need-last-entry-requires
-last-entry-requires c κs = search needs
-
-intact-in-requires : tie.Need-intact-in-requires
-intact-in-requires c κs = search needs
+intact-lent-requires : tie.Need-intact-lent-requires
+intact-lent-requires c κs = search needs
 
 loaded-in-requires : tie.Need-loaded-in-requires
 loaded-in-requires c κs = search needs
 
 returns : tie.Need-returns
-returns c =
-    let tested = c .before in
-    let read = tested .before in
-    let start = read .before .before .before .before .before .before in
-    loaded-made (wholeOf (start .args .board) (now (start .args .journal))) _ _ _ (read .last-entry .ensures) (tested .intact-in .ensures) (c .loaded-in .ensures)
+unfolding loaded
+returns c = c .loaded-in .ensures ∙ ap (both _) (c .before .intact-lent .ensures)
 
 pub loaded-lent-spec : {M : Type 1} → statement M
-loaded-lent-spec =
-    tie.close (tie.spec last-entry-requires intact-in-requires loaded-in-requires returns)
+loaded-lent-spec = tie.close (tie.spec intact-lent-requires loaded-in-requires returns)

@@ -82,7 +82,7 @@ struct Buffers {
 
 impl Buffers {
     fn new() -> Buffers {
-        Buffers { board: Board::closed(), flows: [0; EDGES], end: End::unwritten(0), given: vec![0; 2 * PAIRS], report: vec![0; 4_096] }
+        Buffers { board: Board::closed(), flows: [0; EDGES], end: End::unwritten(), given: vec![0; 2 * PAIRS], report: vec![0; 4_096] }
     }
 }
 
@@ -91,9 +91,9 @@ fn by_engine(buffers: &mut Buffers, operation: &str, sample: &Sample) -> usize {
     let text = black_box(&sample.text[..]);
     let (mut count, mut used) = (0, 0);
     let answer = match operation {
-        "load" => engine::acyclic(text, &mut buffers.flows),
-        "finish" => engine::solve(text, &mut count),
-        "report" => engine::sheet(text, (&[], &[]), true, &mut buffers.report, &mut used),
+        "load" => engine::acyclic(text, &mut buffers.flows, &mut buffers.end.journal),
+        "finish" => engine::solve(text, &mut count, &mut buffers.end.journal),
+        "report" => engine::sheet(text, (&[], &[]), true, &mut buffers.report, &mut used, &mut buffers.end.journal),
         _ => {
             let (terminal, edge) = sample.carry;
             let codes = [0, terminal, edge, 2, 0, 0].repeat(PAIRS);

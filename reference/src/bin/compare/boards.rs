@@ -5,7 +5,7 @@ use crate::report::Answered;
 use crate::{same, Tally};
 use reference::boards::random_board;
 use reference::encoded::{number, ENTRY};
-use reference::engine::{self, End, EDGES, TERMINALS};
+use reference::engine::{self, unwritten_journal, End, EDGES, TERMINALS};
 use reference::fast::{Board, Entry};
 use reference::player::Player;
 use reference::random::Random;
@@ -42,7 +42,8 @@ fn compare_board(fast: &mut Board, text: &[u8], tally: &mut Tally) -> Result<(),
     let mut buffer = vec![0; report.len()];
     let length = fast.report(&mut buffer).map_err(|refusal| format!("the fast program refuses a report with {refusal}"))?;
     same(text, &report[..], &buffer[..length])?;
-    let reported = Answered::by_engine(vec![0; report.len()], |buffer, used| engine::sheet(text, (&[], &[]), true, buffer, used));
+    let reported =
+        Answered::by_engine(vec![0; report.len()], |buffer, used| engine::sheet(text, (&[], &[]), true, buffer, used, &mut unwritten_journal()));
     same(text, &report, &reported.buffer)?;
     *tally.entry("boards".into()).or_default() += 1;
     *tally.entry("moves of finishes".into()).or_default() += u64::from(finished.count);

@@ -11,14 +11,14 @@ mod report;
 use boards::compare_boards;
 use catalog::compare_catalog;
 use hinted::compare_hinted;
-use play::compare_play;
+use play::{compare_play, journal_of};
 use reference::boards::random_board;
 use reference::cancelling::acyclic_flows;
 use reference::cases::{longest_cycle, texts, DOWN_AGAIN, MISFIT, S, T, TAIL};
 use reference::catalog::BOARDS as CATALOG;
 use reference::damage::{at_every_field, damaged, every_start, surplus};
 use reference::encoded::{random_list, EngineCall};
-use reference::engine::{self, EDGES};
+use reference::engine::{self, unwritten_journal, Journal, EDGES};
 use reference::player::Player;
 use reference::random::Random;
 use reference::text::{flows, read, write};
@@ -44,12 +44,14 @@ struct Copied {
     writing: u32,
     used: usize,
     buffer: Vec<u8>,
+    journal: Box<Journal>,
 }
 
 fn copied_by_engine(text: &[u8], mut buffer: Vec<u8>) -> Copied {
     let (mut writing, mut used) = (u32::MAX, usize::MAX);
-    let loading = engine::copy(text, &mut buffer, &mut writing, &mut used);
-    Copied { loading, writing, used, buffer }
+    let mut journal = unwritten_journal();
+    let loading = engine::copy(text, &mut buffer, &mut writing, &mut used, &mut journal);
+    Copied { loading, writing, used, buffer, journal }
 }
 
 fn copied_by_reference(text: &[u8], mut buffer: Vec<u8>) -> Copied {
@@ -58,7 +60,7 @@ fn copied_by_reference(text: &[u8], mut buffer: Vec<u8>) -> Copied {
         Ok(used) => (0, used),
         Err(refusal) => (refusal, 0),
     };
-    Copied { loading, writing, used, buffer }
+    Copied { loading, writing, used, buffer, journal: journal_of(&player) }
 }
 
 /// The answer of a load, and the acyclic flows of the board that it gave.
@@ -70,7 +72,7 @@ struct Cancelled {
 
 fn cancelled_by_engine(text: &[u8]) -> Cancelled {
     let mut flows = [u32::MAX; EDGES];
-    let loading = engine::acyclic(text, &mut flows);
+    let loading = engine::acyclic(text, &mut flows, &mut unwritten_journal());
     Cancelled { loading, flows }
 }
 

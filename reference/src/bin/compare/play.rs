@@ -4,7 +4,7 @@
 use crate::report::compare_texts;
 use crate::{same, Tally};
 use reference::encoded::{call_by_reference, codes_of, engine_call, entries, number, set_of, EngineCall, ENTRY};
-use reference::engine::{self, End, EDGES, MOVES, TERMINALS};
+use reference::engine::{self, End, Journal, EDGES, MOVES, TERMINALS};
 use reference::moves::Move;
 use reference::player::{Call, Player};
 
@@ -29,11 +29,6 @@ fn turn_advice(steps: &[u8]) -> Advice {
     advice
 }
 
-/// A board with the whole journal, not yet written.
-fn unwritten() -> End {
-    End::unwritten(MOVES * ENTRY)
-}
-
 /// What a list of calls answered, and the board at the end.
 #[derive(Debug, PartialEq, Eq)]
 struct Played {
@@ -54,7 +49,7 @@ pub struct Finished {
 /// The list of calls, and the buffer with the moves of its hints.
 fn played_by_engine(text: &[u8], calls: &[EngineCall]) -> (Played, Vec<u32>) {
     let (codes, steps) = codes_of(calls);
-    let mut played = Played { loading: u32::MAX, given: vec![u32::MAX; calls.len()], end: unwritten() };
+    let mut played = Played { loading: u32::MAX, given: vec![u32::MAX; calls.len()], end: End::unwritten() };
     let mut hints = vec![UNWRITTEN; calls.len() * ADVICE];
     played.loading = engine::play(text, (&codes, &steps), &mut played.given, &mut hints, &mut played.end);
     (played, hints)
@@ -62,7 +57,7 @@ fn played_by_engine(text: &[u8], calls: &[EngineCall]) -> (Played, Vec<u32>) {
 
 pub fn finished_by_engine(text: &[u8], calls: &[EngineCall]) -> (Finished, Vec<u32>) {
     let (codes, steps) = codes_of(calls);
-    let mut finished = Finished { given: vec![u32::MAX; calls.len()], answer: u32::MAX, count: u32::MAX, end: unwritten() };
+    let mut finished = Finished { given: vec![u32::MAX; calls.len()], answer: u32::MAX, count: u32::MAX, end: End::unwritten() };
     let mut hints = vec![UNWRITTEN; calls.len() * ADVICE];
     let Finished { given, count, end, .. } = &mut finished;
     finished.answer = engine::finish(text, (&codes, &steps), given, &mut hints, count, end);
@@ -70,11 +65,16 @@ pub fn finished_by_engine(text: &[u8], calls: &[EngineCall]) -> (Finished, Vec<u
 }
 
 /// The engine's journal: the moves, and blanks.
-pub fn journal_of_entries(entries: impl Iterator<Item = [u64; ENTRY]>) -> Vec<u64> {
-    let mut journal: Vec<u64> = entries.flatten().collect();
+pub fn journal_of_entries(entries: impl Iterator<Item = [u64; ENTRY]>) -> Box<Journal> {
     // The blank is the carry of terminal 0 over edge 0.
-    journal.resize(MOVES * ENTRY, 0);
+    let mut journal = Box::new([[0; ENTRY]; MOVES]);
+    journal.iter_mut().zip(entries).for_each(|(place, entry)| *place = entry);
     journal
+}
+
+/// The journal of the player's board.
+pub fn journal_of(player: &Player) -> Box<Journal> {
+    journal_of_entries(entries(player).into_iter())
 }
 
 fn end_by_reference(player: &Player) -> End {
@@ -85,7 +85,7 @@ fn end_by_reference(player: &Player) -> End {
         marks = set_of(board.marks.iter().copied());
     }
     let moves = player.standing().len() + player.finishing().len();
-    End { flows, places, marks, moves: number(moves), journal: journal_of_entries(entries(player).into_iter()) }
+    End { flows, places, marks, moves: number(moves), journal: journal_of(player) }
 }
 
 fn played_by_reference(text: &[u8], calls: &[EngineCall]) -> Played {

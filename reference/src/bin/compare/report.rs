@@ -1,12 +1,13 @@
 //! The route report and the board text of a board that a list of calls leads to, before a finish and after it, through engine and reference; and
 //! inputs through the programs `sheet` and `play` themselves.
 
+use crate::play::journal_of;
 use crate::{same, Tally};
 use reference::boards::random_board;
 use reference::calls::random_input;
 use reference::damage::damaged;
 use reference::encoded::{call_by_reference, codes_of, EngineCall};
-use reference::engine;
+use reference::engine::{self, unwritten_journal, Journal};
 use reference::old_sheets::old_sheets;
 use reference::player::{Player, Written};
 use reference::programs::{play, sheet};
@@ -42,7 +43,7 @@ impl Answered {
 /// A call that writes a text of a board: its name, the engine's function and the reference's.
 struct Writer {
     name: &'static str,
-    engine: fn(&[u8], engine::Calls, bool, &mut [u8], &mut usize) -> u32,
+    engine: fn(&[u8], engine::Calls, bool, &mut [u8], &mut usize, &mut Journal) -> u32,
     reference: fn(&Player, &mut [u8]) -> Written,
 }
 
@@ -63,8 +64,10 @@ impl Reached<'_> {
         let Reached { text, calls, finishes, player } = *self;
         let buffer: Vec<u8> = (0..length).map(|at| at as u8 ^ 0xa5).collect();
         let by_reference = Answered::by_reference(buffer.clone(), |buffer| (writer.reference)(player, buffer));
-        let by_engine = Answered::by_engine(buffer, |buffer, used| (writer.engine)(text, calls, finishes, buffer, used));
+        let mut journal = unwritten_journal();
+        let by_engine = Answered::by_engine(buffer, |buffer, used| (writer.engine)(text, calls, finishes, buffer, used, &mut journal));
         let answered = same(text, by_reference, by_engine)?;
+        same(text, journal_of(player), journal)?;
         let behind = if finishes { "a finish" } else { "calls" };
         *tally.entry(format!("{} after {behind} {}", writer.name, answered.answer)).or_default() += 1;
         Ok(answered)
@@ -106,9 +109,9 @@ pub fn compare_texts(text: &[u8], calls: &[EngineCall], tally: &mut Tally) -> Re
 /// The stack that each program is run in, in KiB.
 fn stack(program: &str) -> usize {
     if program == "sheet" {
-        256
+        128
     } else {
-        576
+        160
     }
 }
 

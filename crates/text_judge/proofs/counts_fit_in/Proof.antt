@@ -1,8 +1,8 @@
 -- The three ranges and the test of the source are joined in the definition's order; each call gives its part.
 use mathlib.Core.Path.{_∙_}
 use borrow.Author.Needs.{needs}
-use Rattle.text_judge.proofs.counts_fit.Statement.{statement}
-use Rattle.text_judge.proofs.counts_fit.Tie as tie
+use Rattle.text_judge.proofs.counts_fit_in.Statement.{statement}
+use Rattle.text_judge.proofs.counts_fit_in.Tie as tie
 
 between-requires : tie.Need-between-requires
 between-requires c κs = search needs
@@ -29,10 +29,14 @@ and-requires-3 : tie.Need-and-requires-3
 and-requires-3 c κs = search needs
 
 returns : tie.Need-returns
-returns c = c .and3 .ensures ∙ rw (c .before .and2 .ensures, c .before .before .and .ensures, c .before .before .before .before .between3 .ensures, c .before .before .before .before .before .between2 .ensures, c .before .before .before .before .before .before .between .ensures)
+returns c =
+    let joined = c .before .before in
+    let ranged = joined .before in
+    c .and3 .ensures
+    ∙ rw (c .before .and2 .ensures, joined .and .ensures, ranged .between3 .ensures, ranged .before .between2 .ensures, ranged .before .before .between .ensures)
 
-pub counts-fit-spec : {M : Type 1} → statement M
-counts-fit-spec =
+pub counts-fit-in-spec : {M : Type 1} → statement M
+counts-fit-in-spec =
     tie.close
     (tie.spec
     between-requires

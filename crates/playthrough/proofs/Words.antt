@@ -1,0 +1,113 @@
+-- A whole play over lent words: the words that the load cleared stay those of the journal through the calls, so that the finish is that of the board; and what it
+-- stores behind the standing moves leaves the board before it as it was.
+use mathlib.Core.Path.{_≡_, refl, sym, ap, _∙_}
+use mathlib.Core.List.{List}
+use Prim.Native.Nat.{ℕ, zero, suc, _+_, _-_, _≤_}
+use native.Mathlib.Omega.{arith}
+use lib.ListN.{length, getD, set}
+use lib.Dec.{eqb}
+use Rattle.lists.proofs.Laws.{Known, was-true, was-false, known, pick-yes, pick-no}
+use Rattle.board.specs.Record.{blank}
+use Rattle.board.specs.declared.Board.{Board}
+use Rattle.board.specs.declared.Entry.{Entry}
+use Rattle.journal.specs.Words.{packed, unpacked, entriesOf, standing, wholeOf, noWords, packedOn, wordsAfter, packedAll}
+use Rattle.journal.specs.declared.Table.{Table}
+use Rattle.journal.proofs.Laws.{map-set, keep-standing}
+use Rattle.journal.proofs.After.{after-many}
+use Rattle.load.specs.Load.{loadText}
+use Rattle.load.specs.Lent.{loadedOf}
+use Rattle.load.specs.declared.Loaded.{Loaded}
+use Rattle.load.specs.declared.Opened.{Opened}
+use Rattle.solve_finish.specs.declared.Finished.{Finished}
+use Rattle.solve_finish.specs.declared.Ended.{Ended}
+use Rattle.solve_finish.specs.Finishes.{playedOut, finishRefusal, ended, finishCall}
+use Rattle.solve_finish.specs.Lent.{endedOf, finishOn}
+use Rattle.solve_finish.proofs.Lent.{Further, further-out, finish-on-packed, finish-packed}
+use Rattle.move_list.specs.Calls.{Call, played}
+use Rattle.move_list.specs.Words.{wordsPlayed}
+use Rattle.move_list.proofs.Worded.{Kept}
+use Rattle.theorem_list.proofs.Words.{calls-kept}
+use Rattle.playthrough.specs.declared.Gone.{Gone}
+use Rattle.playthrough.specs.Through.{outcome}
+use Rattle.playthrough.specs.Lent.{outcomeOf}
+
+-- places behind the standing moves are no part of the board
+standing-kept : (m k : ℕ) (es : List Entry) (w : List (List ℕ)) → standing m (entriesOf (packedOn k m es w)) ≡ standing m (entriesOf w)
+unfolding packedOn
+standing-kept m zero es w = refl
+standing-kept m (suc k) es w =
+    ap (standing m) (map-set unpacked (packedOn k m es w) (m + k) (packed (getD es (m + k) blank)))
+    ∙ keep-standing m (m + k) (entriesOf (packedOn k m es w)) _ (omega arith) ∙ standing-kept m k es w
+
+whole-kept : (t : Table) (b : Board) (w : List (List ℕ)) → t .moves ≤ b .moves → wholeOf t (wordsAfter (t .moves) b w) ≡ wholeOf t w
+whole-kept t b w more =
+    ap withEntries
+    (ap (λ (v : List (List ℕ)). standing (t .moves) (entriesOf v)) (after-many (t .moves) b w more)
+    ∙ standing-kept (t .moves) (b .moves - t .moves) (b .journal) w)
+  where
+    withEntries : List Entry → Board
+    withEntries es = record {
+      stage = t .stage;
+      network = t .network;
+      acyclic = t .acyclic;
+      flows = t .flows;
+      marks = t .marks;
+      places = t .places;
+      journal = es;
+      moves = t .moves;
+      «finish_from» = t .«finish_from»;
+    }
+
+-- a finish takes no move back
+finish-moves : (b : Board) → b .moves ≤ finishCall b .board .moves
+unfolding finishCall
+finish-moves b = go (known (eqb (finishRefusal b) 0))
+  where
+    last : Board
+    last = ended (b .moves) (playedOut b)
+
+    go : Known (eqb (finishRefusal b) 0) → b .moves ≤ finishCall b .board .moves
+    go (was-true y) =
+        let e : finishCall b ≡ record { answer = 0; count = playedOut b .moves - b .moves; board = last } = pick-yes {A = Finished} _ _ _ y in
+        rw e (further-out b .moves)
+    go (was-false n) =
+        let e : finishCall b ≡ record { answer = finishRefusal b; count = 0; board = b } = pick-no {A = Finished} _ _ _ n in
+        rw e (omega arith)
+
+-- what load, the calls and finish gave, each from what the one before gave, and the words after each
+module _ (text : List ℕ) (cs : List Call) (l : Opened) (w₁ : List (List ℕ)) (loads : loadedOf l w₁ ≡ loadText text) (empty : w₁ ≡ noWords) (t : Table)
+    (w₂ : List (List ℕ)) (plays : wholeOf t w₂ ≡ played (wholeOf (l .board) w₁) cs) (packs : w₂ ≡ wordsPlayed (wholeOf (l .board) w₁) cs w₁) where
+  start : wholeOf (l .board) w₁ ≡ loadText text .board
+  start = ap (λ (x : Loaded). x .board) loads
+
+  pub after-calls : wholeOf t w₂ ≡ played (loadText text .board) cs
+  after-calls = plays ∙ ap (λ (b : Board). played b cs) start
+
+  pub kept : Kept (wholeOf t w₂) w₂
+  kept =
+      packs ∙ ap (λ (b : Board). wordsPlayed b cs w₁) start ∙ ap (wordsPlayed (loadText text .board) cs) empty ∙ calls-kept text cs
+      ∙ ap (λ (b : Board). packedAll (b .journal)) (sym after-calls)
+
+  pub from-load : {A : Type 0} (f : Board → A) → f (wholeOf (l .board) w₁) ≡ f (loadText text .board)
+  from-load f = ap f start
+
+  module _ (e : Ended) (w₃ : List (List ℕ)) (ends : endedOf e w₃ ≡ finishOn t w₂) (stores : w₃ ≡ wordsAfter (t .moves) (finishOn t w₂ .board) w₂) where
+    on : finishOn t w₂ ≡ finishCall (played (loadText text .board) cs)
+    on = finish-on-packed t w₂ kept ∙ ap finishCall after-calls
+
+    pub words-after : w₃ ≡ packedAll (outcome text cs .finish .board .journal)
+    words-after =
+        stores ∙ ap (λ (f : Finished). wordsAfter (t .moves) (f .board) w₂) (finish-on-packed t w₂ kept) ∙ finish-packed (wholeOf t w₂) w₂ kept
+        ∙ ap (λ (b : Board). packedAll (finishCall b .board .journal)) after-calls
+
+    before : wholeOf t w₃ ≡ wholeOf t w₂
+    before =
+        let more : t .moves ≤ finishOn t w₂ .board .moves = rw (finish-on-packed t w₂ kept) (finish-moves (wholeOf t w₂)) in
+        ap (wholeOf t) stores ∙ whole-kept t (finishOn t w₂ .board) w₂ more
+
+    pub gathered : outcomeOf (record { loading = l .answer; board = t; finish = e }) w₃ ≡ outcome text cs
+    gathered = λ i. record {
+      loading = ap (λ (x : Loaded). x .answer) loads i;
+      board = (before ∙ after-calls) i;
+      finish = (ends ∙ on) i;
+    }

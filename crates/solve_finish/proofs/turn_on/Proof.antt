@@ -1,0 +1,85 @@
+-- With every terminal at the source it halts with 28. Else the lists are those of a board in play, which is what the walk and the turn lean on; the turn along
+-- the cycle found is the solver's.
+use mathlib.Core.Path.{sym}
+use lib.Seq.{length-take-le}
+use Rattle.solve_finish.proofs.Ready.{turn-stopped}
+use Rattle.solve_finish.proofs.InPlace.{halts, going-small, going-turns, going-charted, going-vertices, going-source, going-fits, going-turned}
+use borrow.Author.Needs.{needs}
+use Rattle.solve_finish.proofs.turn_on.Statement.{statement}
+use Rattle.solve_finish.proofs.turn_on.Tie as tie
+
+all-home-requires : tie.Need-all-home-requires
+all-home-requires c κs = search needs
+
+halted-requires : tie.Need-halted-requires
+halted-requires c κs = search needs
+
+returns : tie.Need-returns
+returns c =
+    let at-home = c .before .before in
+    let start = at-home .before .before .before .before in
+    let g = start .pre in
+    turn-stopped _ _ _ _ _ _ (at-home .all-home .ensures) (c .before .if1 .taken)
+    (halts _ (start .args .frame) _ _ _ (g .is-positive) (going-small _ _ _ _ _ _ _ _ g) (c .halted .ensures))
+
+cycle-requires : tie.Need-cycle-requires
+cycle-requires c κs =
+    let g = c .before .before .before .before .before .before .before .before .before .pre in
+    (going-vertices _ _ _ _ _ _ _ _ g, (going-charted _ _ _ _ _ _ _ _ g, going-source _ _ _ _ _ _ _ _ g))
+
+cast-count : tie.Need-cast-count
+cast-count c = search needs
+
+array-share-prefix-steps : tie.Need-array-share-prefix-steps
+array-share-prefix-steps c =
+    let at-cycle = c .before .before in
+    let g = at-cycle .before .before .before .before .before .before .before .before .before .before .pre in
+    going-fits _ _ _ _ _ _ _ _ g _ (at-cycle .cycle .ensures)
+
+slice-aggregate-change-lent : tie.Need-slice-aggregate-change-lent
+slice-aggregate-change-lent c =
+    let at-cycle = c .before .before .before in
+    let g = at-cycle .before .before .before .before .before .before .before .before .before .before .pre in
+    sym (length-take-le _ _ (going-fits _ _ _ _ _ _ _ _ g _ (at-cycle .cycle .ensures)))
+
+change-lent-requires : tie.Need-change-lent-requires
+change-lent-requires c κs =
+    let at-cycle = c .before .before .before .before in
+    let g = at-cycle .before .before .before .before .before .before .before .before .before .before .pre in
+    going-turns _ _ _ _ _ _ _ _ g
+
+positive-lent-requires : tie.Need-positive-lent-requires
+positive-lent-requires c κs = search needs
+
+all-small-lent-requires : tie.Need-all-small-lent-requires
+all-small-lent-requires c κs = search needs
+
+returns-2 : tie.Need-returns-2
+returns-2 c =
+    let at-positive = c .before .before in
+    let at-change = at-positive .before .before .before in
+    let at-cycle = at-change .before .before .before .before .before in
+    let at-if1 = at-cycle .before .before .before .before .before in
+    let at-home = at-if1 .before in
+    let g = at-home .before .before .before .before .pre in
+    record {
+      changes = going-turned _ _ _ _ _ _ _ _ g _ (at-cycle .cycle .ensures) _ _ (at-home .all-home .ensures) (at-if1 .if1 .left) (at-change .change-lent .ensures);
+      is-positive = at-positive .positive-lent .ensures;
+      smalls = c .all-small-lent .ensures;
+    }
+
+pub turn-on-spec : {M : Type 1} → statement M
+turn-on-spec =
+    tie.close
+    (tie.spec
+    all-home-requires
+    halted-requires
+    returns
+    cycle-requires
+    cast-count
+    array-share-prefix-steps
+    slice-aggregate-change-lent
+    change-lent-requires
+    positive-lent-requires
+    all-small-lent-requires
+    returns-2)
