@@ -2,7 +2,7 @@
 use Prim.Native.Nat.{ℕ}
 use lib.ListN.{replicate}
 use Rattle.board.specs.Limits.{maxEdges, maxTerminals, maxMoves}
-use Rattle.board.specs.declared.Board.{Board}
+use Rattle.board.specs.Whole.{Board, Table}
 use Rattle.board.specs.declared.Network.{Network}
 use Rattle.board.specs.declared.Entry.{Entry}
 use Rattle.board.specs.declared.Move.the-variants.{Carry}
@@ -45,6 +45,19 @@ closedBoard = record {
   marks = 0;
   places = replicate maxTerminals 0;
   journal = replicate maxMoves blank;
+  moves = 0;
+  «finish_from» = 0;
+}
+
+-- the same without its journal, as the code has it
+unfoldable pub closedTable : Table
+closedTable = record {
+  stage = closedStage;
+  network = emptyNetwork;
+  acyclic = replicate maxEdges 0;
+  flows = replicate maxEdges 0;
+  marks = 0;
+  places = replicate maxTerminals 0;
   moves = 0;
   «finish_from» = 0;
 }

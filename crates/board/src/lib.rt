@@ -1,6 +1,6 @@
 // The board record and its limits.
 ghost use mathlib.Core.Path.{_≡_};
-ghost use Rattle.board.specs.Record.{blank, emptyNetwork, closedBoard};
+ghost use Rattle.board.specs.Record.{blank, emptyNetwork, closedTable};
 
 // A set of edges: edge e is in it where bit e is set.
 pub type EdgeSet = u64;
@@ -44,7 +44,7 @@ pub struct Network {
 }
 
 // A board in play: the network, the flow without its cycles, the flow now, the marked edges, where each terminal is,
-// and the standing moves.
+// and how many moves stand. The moves are in the journal, which is lent beside it (crates/journal).
 pub struct Board {
     pub stage: u32,
     pub network: Network,
@@ -52,7 +52,6 @@ pub struct Board {
     pub flows: [u32; Board::MAX_EDGES],
     pub marks: EdgeSet,
     pub places: [u32; Board::MAX_TERMINALS],
-    pub journal: [Entry; Board::JOURNAL],
     pub moves: u32,
     // How many moves stood when a finish was accepted; 0 before.
     pub finish_from: u32,
@@ -88,10 +87,9 @@ impl Board {
 
     // The closed board: no vertices, and no call but load takes it.
     pub fn closed() -> Board
-        ensures { λ r. ⌜ r ≡ closedBoard ⌝ }
+        ensures { λ r. ⌜ r ≡ closedTable ⌝ }
     {
         let network = Network::empty();
-        let journal = [Entry::blank(); Board::JOURNAL];
         Board {
             stage: Board::CLOSED,
             network: network,
@@ -99,7 +97,6 @@ impl Board {
             flows: [0; Board::MAX_EDGES],
             marks: 0,
             places: [0; Board::MAX_TERMINALS],
-            journal: journal,
             moves: 0,
             finish_from: 0,
         }

@@ -3,15 +3,13 @@ use mathlib.Core.Path.{_≡_, sym, ap, _∙_}
 use mathlib.Core.List.{List}
 use mathlib.Core.Logic.{_≢_}
 use Prim.Native.Nat.{ℕ}
-use lib.Dec.{eqb}
 use borrow.Author.Tests.{eq-eqb, ne-eqb}
-use Rattle.lists.specs.Choice.{pick}
 use Rattle.lists.proofs.Laws.{pick-yes, pick-no}
-use Rattle.board.specs.declared.Board.{Board}
+use Rattle.board.specs.Whole.{Board}
 use Rattle.journal.specs.Words.{wholeOf, wordsAfter, packedAll}
-use Rattle.journal.specs.declared.Table.{Table}
-use Rattle.solve_finish.specs.declared.Ended.{Ended}
-use Rattle.solve_finish.specs.declared.Finished.{Finished}
+use Rattle.board.specs.Whole.{Table}
+use Rattle.solve_finish.specs.Lent.{Ended}
+use Rattle.solve_finish.specs.Finishes.{Finished}
 use Rattle.solve_finish.specs.Finishes.{finishCall}
 use Rattle.solve_finish.specs.Lent.{endedOf, finishOn}
 use Rattle.solve_finish.proofs.Lent.{finish-on-packed, finish-packed}

@@ -1,6 +1,5 @@
 // The engine as C and Rust link it: numbers and slices alone.
 use board::Board;
-use journal::Table;
 use journal::WORDS;
 ghost use mathlib.Core.Path.{_≡_};
 ghost use lib.ListN.{length};
@@ -34,9 +33,9 @@ pub extern "C" fn vulprow_copy(
     ensures { λ _. ⌜ now (buf .exit) ≡ written (loadText (now (text .entry)) .board) (now (buf .entry)) ⌝ }
     ensures { λ _. ⌜ now (journal .exit) ≡ noWords ⌝ }
 {
-    let loaded = load::load_lent(text, journal);
+    let loaded = load::load(text, journal);
     let board = loaded.board;
-    let w = text_writer::write_lent(board, buf);
+    let w = text_writer::write(board, buf);
     *writing = w.answer;
     *used = w.used;
     loaded.answer
@@ -54,7 +53,7 @@ pub extern "C" fn vulprow_acyclic(
     ensures { λ _. ⌜ now (flows .exit) ≡ loadText (now (text .entry)) .board .acyclic ⌝ }
     ensures { λ _. ⌜ now (journal .exit) ≡ noWords ⌝ }
 {
-    let loaded = load::load_lent(text, journal);
+    let loaded = load::load(text, journal);
     let board = loaded.board;
     let acyclic = board.acyclic;
     let answer = loaded.answer;
@@ -93,10 +92,10 @@ pub extern "C" fn vulprow_play(
     ensures { λ _. ⌜ now (journal .exit) ≡
         packedAll (after (now (text .entry)) (now (steps .entry)) (now (codes .entry)) .journal) ⌝ }
 {
-    let loaded = load::load_lent(text, journal);
+    let loaded = load::load(text, journal);
     let board = loaded.board;
     let loading = loaded.answer;
-    let end = move_list::run_lent(board, journal, codes, steps, given, hints);
+    let end = move_list::run(board, journal, codes, steps, given, hints);
     let end_flows = end.flows;
     let end_places = end.places;
     *flows = end_flows;
@@ -143,7 +142,7 @@ pub extern "C" fn vulprow_finish(
     ensures { λ _. ⌜ now (journal .exit) ≡
         packedAll (finished (now (text .entry)) (now (steps .entry)) (now (codes .entry)) .board .journal) ⌝ }
 {
-    let through = playthrough::play_through_lent(text, codes, steps, given, hints, journal);
+    let through = playthrough::play_through(text, codes, steps, given, hints, journal);
     let finish = through.finish;
     let last = finish.board;
     let answer = finish.answer;
@@ -169,22 +168,22 @@ pub extern "C" fn vulprow_solve(
     ensures { λ _. ⌜ now (count .exit) ≡ finishCall (loadText (now (text .entry)) .board) .count ⌝ }
     ensures { λ _. ⌜ now (journal .exit) ≡ packedAll (finishCall (loadText (now (text .entry)) .board) .board .journal) ⌝ }
 {
-    let loaded = load::load_lent(text, journal);
+    let loaded = load::load(text, journal);
     let board = loaded.board;
-    let solved = solve_finish::finish_lent(board, journal);
+    let solved = solve_finish::finish(board, journal);
     *count = solved.count;
     solved.answer
 }
 
 // The board, or where `finishes` is not 0 the board that a finish gives.
-fn last_board(board: Table, journal: &mut [[u64; WORDS]; Board::JOURNAL], finishes: u32) -> Table
+fn last_board(board: Board, journal: &mut [[u64; WORDS]; Board::JOURNAL], finishes: u32) -> Board
     ensures { λ r. ⌜ (now (journal .entry) ≡ packedAll (wholeOf board (now (journal .entry)) .journal) →
         LastOf finishes (wholeOf board (now (journal .entry))) r (now (journal .exit))) ⌝ }
 {
     if finishes == 0 {
         return board;
     }
-    let finish = solve_finish::finish_lent(board, journal);
+    let finish = solve_finish::finish(board, journal);
     finish.board
 }
 
@@ -212,13 +211,13 @@ pub extern "C" fn vulprow_sheet(
     ensures { λ _. ⌜ now (journal .exit) ≡ packedAll
         (lastBoard finishes (after (now (text .entry)) (now (steps .entry)) (now (codes .entry))) .journal) ⌝ }
 {
-    let loaded = load::load_lent(text, journal);
+    let loaded = load::load(text, journal);
     let start = loaded.board;
     let mut given = [0u32; 1];
     let mut hints = [0u32; 1];
-    let board = move_list::run_lent(start, journal, codes, steps, &mut given, &mut hints);
+    let board = move_list::run(start, journal, codes, steps, &mut given, &mut hints);
     let last = last_board(board, journal, finishes);
-    let written = report::sheet_lent(last, journal, buf);
+    let written = report::sheet(last, journal, buf);
     *used = written.used;
     written.answer
 }
@@ -247,13 +246,13 @@ pub extern "C" fn vulprow_write(
     ensures { λ _. ⌜ now (journal .exit) ≡ packedAll
         (lastBoard finishes (after (now (text .entry)) (now (steps .entry)) (now (codes .entry))) .journal) ⌝ }
 {
-    let loaded = load::load_lent(text, journal);
+    let loaded = load::load(text, journal);
     let start = loaded.board;
     let mut given = [0u32; 1];
     let mut hints = [0u32; 1];
-    let board = move_list::run_lent(start, journal, codes, steps, &mut given, &mut hints);
+    let board = move_list::run(start, journal, codes, steps, &mut given, &mut hints);
     let last = last_board(board, journal, finishes);
-    let board_text = text_writer::write_lent(last, buf);
+    let board_text = text_writer::write(last, buf);
     *used = board_text.used;
     board_text.answer
 }

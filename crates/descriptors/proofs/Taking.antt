@@ -10,10 +10,10 @@ use native.Mathlib.Omega.{arith}
 use lib.Dec.{eqb}
 use lib.ListN.{length, take, drop, length-take, length-drop}
 use lib.Seq.{length-take-le, take-all, take-take, take-add, drop-drop, drop-at}
-use borrow.Author.Tests.{ltb-true, ltb-false, lt-ltb}
+use borrow.Author.Tests.{ltb-true, lt-ltb}
 use Rattle.lists.specs.Lists.{indexOf}
 use Rattle.lists.proofs.Laws.{Known, was-true, was-false, known, pick-yes, pick-no}
-use Rattle.play_session.specs.declared.Session.{Session}
+use Rattle.play_session.specs.Machine.{Session}
 use Rattle.play_session.specs.Machine.{grown, lineEnded, hasLine, takenOf, fedSession}
 use Rattle.descriptors.specs.Serving.{servedLines, servedOver}
 

@@ -1,11 +1,11 @@
 -- The words after a call, by the count of moves: none more or less, one more, one less, or more.
-use mathlib.Core.Path.{_≡_, refl, ap, _∙_}
+use mathlib.Core.Path.{_≡_, ap, _∙_}
 use mathlib.Core.List.{List}
 use Prim.Native.Nat.{ℕ, _+_, _-_, _≤_}
 use native.Mathlib.Omega.{arith}
-use lib.ListN.{length, getD, set}
+use lib.ListN.{getD, set}
 use Rattle.board.specs.Record.{blank}
-use Rattle.board.specs.declared.Board.{Board}
+use Rattle.board.specs.Whole.{Board}
 use Rattle.journal.specs.Words.{packed, packedOn, wordsAfter}
 
 module _ (m : ℕ) (b : Board) (w : List (List ℕ)) where

@@ -1,8 +1,8 @@
 -- Words that were packed stand for the entry that was packed; a store of packed words is a store of the entry.
-use mathlib.Core.Path.{_≡_, refl, sym, ap, _∙_}
+use mathlib.Core.Path.{_≡_, refl, sym, ap}
 use mathlib.Core.Bool.{Bool, true, false}
 use mathlib.Core.List.{List, [], _∷_, map}
-use Prim.Native.Nat.{ℕ, zero, suc, _+_, _<_, _≤_, _%_}
+use Prim.Native.Nat.{ℕ, zero, suc, _<_, _≤_}
 use native.Mathlib.Omega.{arith}
 use native.Mathlib.Nat.{mod-eq-of-lt}
 use lib.Seq.{set-out}
@@ -13,7 +13,7 @@ use Rattle.board.specs.Record.{blank}
 use Rattle.board.specs.declared.Entry.{Entry}
 use Rattle.board.specs.declared.Move.{Move}
 use Rattle.board.specs.declared.Move.the-variants.{Carry, Turn}
-use Rattle.journal.specs.Words.{packed, unpacked, carryOf, turnOf, entriesOf, entryOf, standing, blankWords, isZeros, isBlankAt}
+use Rattle.journal.specs.Words.{packed, unpacked, entriesOf, entryOf, standing, blankWords, isZeros, isBlankAt}
 
 -- the numbers of a move are numbers of 32 bits
 abbrev pub Fits : Move → Type 0

@@ -5,15 +5,15 @@ use Prim.Native.Nat.{ℕ, zero, suc, _+_, _-_, _%_}
 use lib.Dec.{eqb}
 use lib.ListN.{getD, set, replicate}
 use Rattle.lists.specs.Choice.{pick, both}
-use Rattle.board.specs.Limits.{maxEdges, maxTerminals, maxMoves}
-use Rattle.board.specs.Record.{blank, closedStage, emptyNetwork}
-use Rattle.board.specs.declared.Board.{Board}
-use Rattle.board.specs.declared.Played.{Played}
+use Rattle.board.specs.Limits.{maxMoves}
+use Rattle.board.specs.Record.{blank}
+use Rattle.board.specs.Whole.{Board}
+use Rattle.board.specs.Whole.{Played}
 use Rattle.board.specs.declared.Entry.{Entry}
 use Rattle.board.specs.declared.Move.{Move}
 use Rattle.board.specs.declared.Move.the-variants.{Carry, Turn}
-use Rattle.journal.specs.declared.Table.{Table}
-use Rattle.journal.specs.declared.Done.{Done}
+use Rattle.board.specs.Whole.{Table}
+use Rattle.board.specs.Whole.{Done}
 
 -- a move in words: 0, the terminal, the edge, 0, 0; or 1, the amount, and the sets of edges that fell, rose and were marked
 abbrev pub moveWords : Move → List ℕ
@@ -75,19 +75,6 @@ givenOf d words = record { answer = d .answer; board = wholeOf (d .board) words 
 -- the words of an empty journal
 abbrev pub noWords : List (List ℕ)
 noWords = replicate maxMoves blankWords
-
--- the closed board without its journal
-unfoldable pub closedTable : Table
-closedTable = record {
-  stage = closedStage;
-  network = emptyNetwork;
-  acyclic = replicate maxEdges 0;
-  flows = replicate maxEdges 0;
-  marks = 0;
-  places = replicate maxTerminals 0;
-  moves = 0;
-  «finish_from» = 0;
-}
 
 -- just so many zeros
 unfoldable pub isZeros : ℕ → List ℕ → Bool

@@ -1,10 +1,8 @@
-// The journal as words that the caller lends, and the board without it.
+// The journal as words that the caller lends.
 use board::Augmentation;
 use board::Board;
-use board::EdgeSet;
 use board::Entry;
 use board::Move;
-use board::Network;
 use board::Relocation;
 ghost use mathlib.Core.Path.{_≡_};
 ghost use mathlib.Core.List.{[]};
@@ -22,50 +20,10 @@ ghost use Rattle.journal.specs.Words.{
   isZeros,
   isBlankAt,
   packedOn,
-  closedTable,
 };
 
 // How many words a place of the journal has.
 pub const WORDS: usize = 5;
-
-// A board without its journal.
-pub struct Table {
-    pub stage: u32,
-    pub network: Network,
-    pub acyclic: [u32; Board::MAX_EDGES],
-    pub flows: [u32; Board::MAX_EDGES],
-    pub marks: EdgeSet,
-    pub places: [u32; Board::MAX_TERMINALS],
-    pub moves: u32,
-    // How many moves stood when a finish was accepted; 0 before.
-    pub finish_from: u32,
-}
-
-// What a call on a board gives: 0 and the board after it; or the number that the call is refused with, and the board as
-// it was.
-pub struct Done {
-    pub answer: u32,
-    pub board: Table,
-}
-
-impl Table {
-    // The closed board: no vertices, and no call but load takes it.
-    pub fn closed() -> Table
-        ensures { λ r. ⌜ r ≡ closedTable ⌝ }
-    {
-        let network = Network::empty();
-        Table {
-            stage: Board::CLOSED,
-            network: network,
-            acyclic: [0; Board::MAX_EDGES],
-            flows: [0; Board::MAX_EDGES],
-            marks: 0,
-            places: [0; Board::MAX_TERMINALS],
-            moves: 0,
-            finish_from: 0,
-        }
-    }
-}
 
 // An entry in words.
 pub fn pack(entry: Entry) -> [u64; WORDS]

@@ -7,8 +7,9 @@ use Rattle.board.specs.Limits.{maxMoves}
 use Rattle.board.specs.Record.{blank, closedBoard}
 use Rattle.board.specs.declared.Entry.{Entry}
 use Rattle.board.specs.declared.Network.{Network}
-use Rattle.journal.specs.Words.{blankWords, unpacked, standing, journalOf, wholeOf, noWords, closedTable}
-use Rattle.journal.specs.declared.Table.{Table}
+use Rattle.journal.specs.Words.{blankWords, unpacked, standing, journalOf, wholeOf, noWords}
+use Rattle.board.specs.Record.{closedTable}
+use Rattle.board.specs.Whole.{Table}
 use Rattle.text.specs.declared.Reading.{Reading}
 use Rattle.text.specs.Results.{readText}
 use Rattle.load.specs.Load.{acyclicOf, opened, loadText}

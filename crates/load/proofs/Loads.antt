@@ -9,14 +9,14 @@ use Rattle.lists.specs.Choice.{pick}
 use Rattle.lists.proofs.Laws.{Known, was-true, was-false, known, pick-yes, pick-no}
 use Rattle.board.specs.Limits.{maxVertices}
 use Rattle.board.specs.Record.{closedBoard}
-use Rattle.board.specs.declared.Board.{Board}
+use Rattle.board.specs.Whole.{Board}
 use Rattle.board.specs.declared.Network.{Network}
 use Rattle.text_rules.specs.Rules.{Lawful}
 use Rattle.text.specs.declared.Reading.{Reading}
 use Rattle.text.specs.Text.{textOf}
 use Rattle.text.specs.Results.{readText}
 use Rattle.text.proofs.Accepted.{acceptedAs, accepted-text, accepts}
-use Rattle.load.specs.declared.Loaded.{Loaded}
+use Rattle.load.specs.Load.{Loaded}
 use Rattle.load.specs.Load.{acyclicOf, opened, loadText}
 
 -- a reading that answered 0 is an accepted one

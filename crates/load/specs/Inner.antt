@@ -3,7 +3,7 @@ use mathlib.Core.List.{List}
 use Prim.Native.Nat.{ℕ}
 use Rattle.board.specs.Record.{playStage}
 use Rattle.board.specs.declared.Network.{Network}
-use Rattle.journal.specs.declared.Table.{Table}
+use Rattle.board.specs.Whole.{Table}
 
 abbrev pub openedTable : Network → List ℕ → Table
 openedTable net flows = record {

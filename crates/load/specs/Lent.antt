@@ -2,8 +2,12 @@
 use mathlib.Core.List.{List}
 use Prim.Native.Nat.{ℕ}
 use Rattle.journal.specs.Words.{wholeOf}
-use Rattle.load.specs.declared.Loaded.{Loaded}
-use Rattle.load.specs.declared.Opened.{Opened}
+use Rattle.load.specs.Load.{Loaded}
+use Rattle.load.specs.declared.Loaded as code
+
+-- the code's `Loaded`: its board is without the journal
+abbrev pub Opened : Type 0
+Opened = code.Loaded
 
 -- what a load gave, as a number and a board
 abbrev pub loadedOf : Opened → List (List ℕ) → Loaded

@@ -7,10 +7,14 @@ use Rattle.lists.specs.Choice.{pick}
 use Rattle.board.specs.Limits.{maxMoves}
 use Rattle.board.specs.Record.{playStage, blank, closedBoard}
 use Rattle.board.specs.declared.Network.{Network}
-use Rattle.board.specs.declared.Board.{Board}
+use Rattle.board.specs.Whole.{Board}
 use Rattle.graph_cancel.specs.Cancelling.{acyclicFlows}
 use Rattle.text.specs.Results.{readText}
-use Rattle.load.specs.declared.Loaded.{Loaded}
+
+-- what a load gives: 0 and the board, ready to be played; or the number that the text is refused with, and the closed board
+pub record Loaded : Type 0 where
+  pub answer : ℕ
+  pub board : Board
 
 -- the flows of the text with its cycles cancelled
 abbrev pub acyclicOf : Network → List ℕ

@@ -12,13 +12,13 @@ use Rattle.lists.specs.Choice.{both}
 use Rattle.sets.specs.Sets.{hasBit}
 use Rattle.lists.proofs.Laws.{pick-yes, pick-no, pick-passed, both-left, both-right}
 use Rattle.board.specs.Limits.{maxEdges, maxTerminals, maxMoves}
-use Rattle.board.specs.declared.Board.{Board}
+use Rattle.board.specs.Whole.{Board}
 use Rattle.board.specs.declared.Network.{Network}
-use Rattle.board.specs.declared.Played.{Played}
+use Rattle.board.specs.Whole.{Played}
 use Rattle.journal.specs.Words.{packed, entriesOf, standing, journalOf, wholeOf, wordsAfter}
-use Rattle.journal.specs.declared.Table.{Table}
+use Rattle.board.specs.Whole.{Table}
 use Rattle.journal.proofs.Laws.{add-standing}
-use Rattle.move_guard.specs.declared.Change.{Change}
+use Rattle.move_guard.specs.Moved.{Change}
 use Rattle.move_guard.specs.Moved.{unchanged, changed}
 use Rattle.move_guard.specs.Guard.{playing}
 use Rattle.move_guard.proofs.Facts.{intact-terminals, playing-intact, playing-edges, playing-moves}

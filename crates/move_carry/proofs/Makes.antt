@@ -2,21 +2,19 @@
 use mathlib.Core.Path.{_≡_, refl, sym, ap, _∙_}
 use mathlib.Core.Bool.{Bool, true}
 use mathlib.Core.List.{List}
-use Prim.Native.Nat.{ℕ, _-_, _≤_}
+use Prim.Native.Nat.{ℕ, _-_}
 use lib.Dec.{eqb}
 use lib.ListN.{getD, set}
 use borrow.Author.Tests.{eqb-true, eqb-false}
 use Rattle.lists.specs.Choice.{pick}
 use Rattle.lists.proofs.Laws.{Known, was-true, was-false, known, pick-yes, pick-no, pick-passed}
-use Rattle.board.specs.Limits.{maxMoves}
-use Rattle.board.specs.declared.Board.{Board}
+use Rattle.board.specs.Whole.{Board}
 use Rattle.board.specs.declared.Network.{Network}
 use Rattle.board.specs.declared.Move.the-variants.{Carry}
-use Rattle.move_guard.specs.declared.Change.{Change}
+use Rattle.move_guard.specs.Moved.{Change}
 use Rattle.move_guard.specs.Moved.{answered, unchanged, changed}
 use Rattle.move_guard.proofs.Answers.{answered-yes, answered-no}
 use Rattle.move_guard.specs.Guard.{playing}
-use Rattle.move_guard.proofs.Facts.{playing-moves}
 use Rattle.move_carry.specs.Opens.{enters}
 use Rattle.move_carry.specs.Carries.{onBoard, carryRefusal, carried, carryCall, carryRefusalIn, carriedIn, carryChange}
 
@@ -63,6 +61,3 @@ change-in-play p net flows marks places i e h = go (known (eqb (carryRefusalIn p
 module _ (b : Board) (i e : ℕ) (p : Bool) (c : Change) (ep : p ≡ playing b) (ec : c ≡ carryChange p (b .network) (b .flows) (b .marks) (b .places) i e) where
   pub carry-by-change : changed b c ≡ carryCall b i e
   carry-by-change = rw (ec, ep) (sym (carry-changes b i e))
-
-  pub carry-room : c .answer ≡ 0 → b .moves ≤ maxMoves
-  carry-room h = playing-moves b (sym ep ∙ change-in-play p _ _ _ _ i e (sym (ap (λ (c : Change). c .answer) ec) ∙ h))

@@ -3,7 +3,7 @@ use mathlib.Core.Path.{_≡_, refl, ap, ap₂}
 use Prim.Native.Nat.{ℕ}
 use lib.Dec.{ltb}
 use Rattle.lists.specs.Lists.{lowest}
-use Rattle.board.specs.declared.Board.{Board}
+use Rattle.board.specs.Whole.{Board}
 use Rattle.move_guard.specs.Parts.{demand, place}
 use Rattle.move_carry.specs.Opens.{enters, isOpen, openEdge, hasOpen, openTerminal, someOpen, isOpenAt, hasOpenIn, someOpenIn}
 

@@ -6,14 +6,14 @@ use lib.Dec.{ltb, eqb}
 use lib.ListN.{getD, set}
 use Rattle.lists.specs.Choice.{pick, both}
 use Rattle.sets.specs.Sets.{hasBit}
-use Rattle.board.specs.declared.Board.{Board}
+use Rattle.board.specs.Whole.{Board}
 use Rattle.board.specs.declared.Network.{Network}
-use Rattle.board.specs.declared.Played.{Played}
+use Rattle.board.specs.Whole.{Played}
 use Rattle.board.specs.declared.Move.the-variants.{Carry}
 use Rattle.move_guard.specs.Parts.{flow, tail, marked, demand, place}
 use Rattle.move_guard.specs.Guard.{playing}
 use Rattle.move_carry.specs.Opens.{flowFits, enters}
-use Rattle.move_guard.specs.declared.Change.{Change}
+use Rattle.move_guard.specs.Moved.{Change}
 use Rattle.move_guard.specs.Moved.{moved, answered, unchanged}
 
 -- a mill and a channel that the board has

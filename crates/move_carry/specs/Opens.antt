@@ -7,7 +7,7 @@ use lib.ListN.{getD}
 use Rattle.lists.specs.Choice.{pick, both}
 use Rattle.lists.specs.Lists.{lowest}
 use Rattle.sets.specs.Sets.{hasBit}
-use Rattle.board.specs.declared.Board.{Board}
+use Rattle.board.specs.Whole.{Board}
 use Rattle.board.specs.declared.Network.{Network}
 use Rattle.move_guard.specs.Parts.{flow, head, marked, demand, place}
 

@@ -6,18 +6,14 @@ use board::Move;
 use board::Network;
 use board::Played;
 use board::Relocation;
-use journal::Done;
-use journal::Table;
 use journal::WORDS;
-use move_guard::Change;
 ghost use mathlib.Core.Path.{_≡_};
 ghost use lib.Dec.{ltb};
 ghost use lib.ListN.{getD};
 ghost use Rattle.lists.specs.Lists.{lowest};
 ghost use Rattle.journal.specs.Words.{wholeOf, givenOf, wordsAfter};
 ghost use Rattle.move_carry.specs.Opens.{flowFits, isOpenAt, hasOpenIn, someOpenIn};
-ghost use Rattle.move_guard.specs.Moved.{unchanged};
-ghost use Rattle.move_carry.specs.Carries.{carryRefusal, carryCall, carryRefusalIn, carriedIn, carryChange};
+ghost use Rattle.move_carry.specs.Carries.{carryCall, carryRefusalIn};
 ghost use Rattle.move_carry.specs.Numbers.{numberAt, carryEntry};
 
 // ---- Which carries are open.
@@ -112,162 +108,6 @@ pub fn some_open_in<'a>(net: Network, flows: &'a [u32], marks: EdgeSet, places: 
 
 // ---- The call `carry`.
 
-// 20, 6, 21, 22 or 23, in this order; 0 where the carry is accepted.
-fn refusal(
-    in_play: bool,
-    net: Network,
-    flows: [u32; Board::MAX_EDGES],
-    marks: EdgeSet,
-    places: [u32; Board::MAX_TERMINALS],
-    i: u32,
-    e: u32,
-) -> u32
-    ensures { λ r. ⌜ r ≡ carryRefusalIn «in_play» net flows marks places i e ⌝ }
-{
-    if !in_play {
-        return 20;
-    }
-    let on_board = lists::and(i < net.terminals, e < net.edges);
-    if !on_board {
-        return 6;
-    }
-    let place = lists::word_at(&places, i as usize);
-    if place == net.source {
-        return 21;
-    }
-    let head = lists::word_at(&net.heads, e as usize);
-    if head != place {
-        return 22;
-    }
-    let mark = sets::has(marks, e as usize);
-    let flow = lists::word_at(&flows, e as usize);
-    let demand = lists::word_at(&net.demands, i as usize);
-    if !flow_fits(mark, flow, demand) {
-        return 23;
-    }
-    0
-}
-
-// What a refused carry changes: nothing.
-fn refused(
-    number: u32,
-    flows: [u32; Board::MAX_EDGES],
-    marks: EdgeSet,
-    places: [u32; Board::MAX_TERMINALS],
-) -> Change
-    ensures { λ r. ⌜ r ≡ unchanged number flows marks places ⌝ }
-{
-    let entry = Entry::blank();
-    Change {
-        answer: number,
-        flows: flows,
-        marks: marks,
-        places: places,
-        entry: entry,
-    }
-}
-
-// What an accepted carry changes.
-fn carried(
-    net: Network,
-    flows: [u32; Board::MAX_EDGES],
-    marks: EdgeSet,
-    places: [u32; Board::MAX_TERMINALS],
-    i: u32,
-    e: u32,
-) -> Change
-    ensures { λ r. ⌜ r ≡ carriedIn net flows marks places i e ⌝ }
-{
-    let flow = lists::word_at(&flows, e as usize);
-    let demand = lists::word_at(&net.demands, i as usize);
-    let tail = lists::word_at(&net.tails, e as usize);
-    let rest = lists::minus(flow, demand);
-    let new_flows = move_guard::put_flow(flows, e as usize, rest);
-    let new_places = move_guard::put_place(places, i as usize, tail);
-    let entry = Entry {
-        step: Move::Carry(Relocation {
-            terminal: i,
-            edge: e,
-        }),
-    };
-    Change {
-        answer: 0,
-        flows: new_flows,
-        marks: marks,
-        places: new_places,
-        entry: entry,
-    }
-}
-
-// What a carry of terminal i over edge e would change, on a board with these parts.
-pub fn change(
-    in_play: bool,
-    net: Network,
-    flows: [u32; Board::MAX_EDGES],
-    marks: EdgeSet,
-    places: [u32; Board::MAX_TERMINALS],
-    i: u32,
-    e: u32,
-) -> Change
-    ensures { λ r. ⌜ r ≡ carryChange «in_play» net flows marks places i e ⌝ }
-{
-    let number = refusal(in_play, net, flows, marks, places, i, e);
-    if number != 0 {
-        return refused(number, flows, marks, places);
-    }
-    carried(net, flows, marks, places, i, e)
-}
-
-// 20, 6, 21, 22 or 23, in this order; 0 where the carry is accepted.
-pub fn carry_refusal(board: Board, i: u32, e: u32) -> u32
-    ensures { λ r. ⌜ r ≡ carryRefusal board i e ⌝ }
-{
-    let net = board.network;
-    let flows = board.flows;
-    let places = board.places;
-    let in_play = move_guard::playing(board);
-    refusal(in_play, net, flows, board.marks, places, i, e)
-}
-
-// Relocates terminal i over edge e, to its tail.
-pub fn carry(board: Board, i: u32, e: u32) -> Played
-    ensures { λ r. ⌜ r ≡ carryCall board i e ⌝ }
-{
-    let mut next = board;
-    let net = next.network;
-    let acyclic = next.acyclic;
-    let flows = next.flows;
-    let places = next.places;
-    let k = lists::minus(next.moves, 1) as usize;
-    let mut last = Entry::blank();
-    if k < Board::JOURNAL {
-        last = next.journal[k];
-    }
-    let step = last.step;
-    let fits = move_guard::intact_in(net, acyclic, flows, places, next.moves, step);
-    let in_play = lists::and(next.stage == Board::PLAY, fits);
-    let c = change(in_play, net, flows, next.marks, places, i, e);
-    if c.answer == 0 {
-        let new_flows = c.flows;
-        let new_places = c.places;
-        let entry = c.entry;
-        let m = next.moves as usize;
-        next.flows = new_flows;
-        next.marks = c.marks;
-        next.places = new_places;
-        next.moves = next.moves + 1;
-        if m < Board::JOURNAL {
-            next.journal[m] = entry;
-        }
-    }
-    Played {
-        answer: c.answer,
-        board: next,
-    }
-}
-
-// ---- The call `carry` with the journal lent.
-
 // 20, 6, 21, 22 or 23, in this order; 0 where the carry is accepted: by the numbers of the terminal and of the edge.
 fn number_at(
     in_play: bool,
@@ -334,18 +174,18 @@ fn entry_of(i: u32, e: u32) -> Entry
 }
 
 // Relocates terminal i over edge e, to its tail.
-pub fn carry_lent(
-    mut board: Table,
+pub fn carry(
+    mut board: Board,
     journal: &mut [[u64; WORDS]; Board::JOURNAL],
     i: u32,
     e: u32,
-) -> Done
+) -> Played
     ensures { λ r. ⌜ givenOf r (now (journal .exit)) ≡ carryCall (wholeOf board (now (journal .entry))) i e ⌝ }
     ensures { λ _. ⌜ now (journal .exit) ≡
         wordsAfter (board .moves) (carryCall (wholeOf board (now (journal .entry))) i e .board)
         (now (journal .entry)) ⌝ }
 {
-    let in_play = move_guard::playing_lent(board, journal);
+    let in_play = move_guard::playing(board, journal);
     let terminal = i as usize;
     let edge = e as usize;
     let on_board = lists::and(i < board.network.terminals, e < board.network.edges);
@@ -365,7 +205,7 @@ pub fn carry_lent(
         board.moves = board.moves + 1;
         journal::put_entry(journal, m, entry_of(i, e));
     }
-    Done {
+    Played {
         answer: number,
         board: board,
     }

@@ -5,7 +5,7 @@ use Prim.Native.Nat.{ℕ, zero, suc, _-_}
 use lib.Dec.{ltb, eqb}
 use lib.ListN.{getD}
 use Rattle.lists.specs.Choice.{pick, both}
-use Rattle.board.specs.declared.Board.{Board}
+use Rattle.board.specs.Whole.{Board}
 use Rattle.graph_flows.specs.Trails.{Step, down, up}
 use Rattle.move_guard.specs.Parts.{flow, head, demand, place}
 

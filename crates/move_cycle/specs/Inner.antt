@@ -2,7 +2,7 @@
 use mathlib.Core.List.{List}
 use Prim.Native.Nat.{ℕ, _≤_, _<_}
 use lib.ListN.{getD, length}
-use Rattle.board.specs.declared.Board.{Board}
+use Rattle.board.specs.Whole.{Board}
 use Rattle.graph_flows.specs.Trails.{Step, down, up, edgeOf}
 use Rattle.move_guard.specs.Parts.{flow}
 use Rattle.sets.specs.Inner.{setWidth}

@@ -10,7 +10,7 @@ use Rattle.lists.specs.Lists.{lowest}
 use Rattle.sets.specs.Sets.{hasBit, collect}
 use Rattle.sets.specs.Inner.{setWidth, dropped}
 use Rattle.move_edges.specs.Singular.{straight}
-use Rattle.board.specs.declared.Board.{Board}
+use Rattle.board.specs.Whole.{Board}
 use Rattle.move_edges.specs.Incidence.{touchingAt}
 
 -- "A channel is single when its head, and every pool that can be reached from the head over wet channels, has at most one wet channel leaving"

@@ -36,20 +36,7 @@ pub fn at_vertices(ends: [u32; Board::MAX_EDGES]) -> [EdgeSet; Board::MAX_VERTIC
 }
 
 // The set of the positive edges.
-pub fn positive(flows: [u32; Board::MAX_EDGES]) -> EdgeSet
-    ensures { λ r. ⌜ PositiveSet flows r ⌝ }
-{
-    let mut m: EdgeSet = 0;
-    let mut e: usize = 0;
-    while e < Board::MAX_EDGES {
-        m = sets::with(m, 0 < flows[e], e);
-        e += 1;
-    }
-    m
-}
-
-// The same of flows that are lent.
-pub fn positive_lent(flows: &[u32; Board::MAX_EDGES]) -> EdgeSet
+pub fn positive(flows: &[u32; Board::MAX_EDGES]) -> EdgeSet
     ensures { λ r. ⌜ PositiveSet (now (flows .entry)) r ⌝ }
 {
     let mut m: EdgeSet = 0;

@@ -13,7 +13,7 @@ use Rattle.lists.specs.Lists.{all}
 use Rattle.lists.proofs.Laws.{Known, was-true, was-false, known, lt-or-ge, pick-yes, pick-no, both-left, both-right, all-from}
 use Rattle.board.specs.Limits.{maxVertices, maxEdges, maxTerminals, maxMoves, maxFlow, maxTotal}
 use Rattle.board.specs.Record.{playStage}
-use Rattle.board.specs.declared.Board.{Board}
+use Rattle.board.specs.Whole.{Board}
 use Rattle.text_rules.specs.Rules.{countsFit}
 use Rattle.move_guard.specs.Moved.{lastEntry}
 use Rattle.move_guard.specs.Parts.{flow, tail, head, demand}

@@ -3,20 +3,20 @@
 use mathlib.Core.Path.{_≡_, refl, sym, ap, _∙_}
 use mathlib.Core.List.{List}
 use mathlib.Core.Logic.{_≢_, _⊎_, inl, inr}
-use Prim.Native.Nat.{ℕ, suc, _+_, _-_, _<_, _≤_}
+use Prim.Native.Nat.{ℕ, _-_, _<_, _≤_}
 use native.Mathlib.Omega.{arith}
 use lib.ListN.{length, getD, set, length-map, List·getD-eq-default}
 use lib.Seq.{set-out, getD-set-same}
 use Rattle.lists.proofs.Laws.{lt-or-ge}
 use Rattle.board.specs.Record.{blank}
-use Rattle.board.specs.declared.Board.{Board}
+use Rattle.board.specs.Whole.{Board}
 use Rattle.board.specs.declared.Entry.{Entry}
-use Rattle.board.specs.declared.Played.{Played}
-use Rattle.journal.specs.Words.{packed, unpacked, entriesOf, standing, wholeOf, wordsAfter}
-use Rattle.journal.specs.declared.Table.{Table}
+use Rattle.board.specs.Whole.{Played}
+use Rattle.journal.specs.Words.{packed, unpacked, entriesOf, wholeOf, wordsAfter}
+use Rattle.board.specs.Whole.{Table}
 use Rattle.journal.proofs.Laws.{length-standing}
 use Rattle.journal.proofs.After.{after-none, after-one, after-back}
-use Rattle.move_guard.specs.declared.Change.{Change}
+use Rattle.move_guard.specs.Moved.{Change}
 use Rattle.move_guard.specs.Moved.{moved, movedBack, changed, changedBack}
 use Rattle.move_guard.proofs.Answers.{answered-yes, answered-no}
 

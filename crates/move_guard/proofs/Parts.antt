@@ -1,28 +1,17 @@
 -- The last entry of a board and its test by the parts: the entry that the code reads is the last one, so its test of the parts is the test of the board.
-use mathlib.Core.Path.{_≡_, refl, sym, _∙_}
+use mathlib.Core.Path.{_≡_, sym, _∙_}
 use mathlib.Core.Bool.{Bool, true, false}
-use mathlib.Core.List.{List, [], _∷_}
-use mathlib.Core.Logic.{_⊎_, inl, inr}
-use Prim.Native.Nat.{ℕ, zero, suc, _-_, _<_, _≤_}
-use native.Mathlib.Omega.{arith}
 use lib.Dec.{leb, eqb}
-use lib.ListN.{length, getD, List·getD-eq-default}
 use Rattle.lists.specs.Choice.{both}
 use Rattle.lists.specs.Lists.{all}
 use Rattle.board.specs.Limits.{maxEdges, maxTerminals, maxMoves}
-use Rattle.board.specs.Record.{blank, playStage}
-use Rattle.board.specs.declared.Board.{Board}
+use Rattle.board.specs.Record.{playStage}
+use Rattle.board.specs.Whole.{Board}
 use Rattle.board.specs.declared.Entry.{Entry}
 use Rattle.text_rules.specs.Rules.{countsFit}
 use Rattle.move_guard.specs.Moved.{lastEntry}
-use Rattle.move_guard.specs.Guard.{edgeIntact, terminalIntact, moveIntact, intactIn, intact, playing}
+use Rattle.move_guard.specs.Guard.{edgeIntact, terminalIntact, moveIntact, intact, playing}
 use Rattle.move_guard.proofs.Facts.{playing-staged}
-
--- inside a list it does not matter what is past its end
-inside : (l : List Entry) (k : ℕ) (a d : Entry) → k < length l → getD l k a ≡ getD l k d
-inside [] k a d h = absurd (omega arith)
-inside (x ∷ l) zero a d h = refl
-inside (x ∷ l) (suc k) a d h = inside l k a d (omega arith)
 
 both-yes : (a c : Bool) → a ≡ true → both a c ≡ c
 unfolding both
@@ -33,16 +22,6 @@ unfolding both
 both-no a c h = rw h
 
 module _ (b : Board) where
-  pub last-read : (k : ℕ) (last z : Entry) → length (b .journal) ≡ maxMoves → k ≡ b .moves - 1
-      → ((k < maxMoves) × (last ≡ getD (b .journal) k z)) ⊎ ((maxMoves ≤ k) × (last ≡ blank)) → last ≡ lastEntry b
-  last-read k last z long e (inl (h, r)) = rw (← e) (r ∙ inside (b .journal) k z blank (omega arith))
-  last-read k last z long e (inr (h, r)) = rw (← e) (r ∙ sym (List·getD-eq-default (b .journal) blank (omega (arith, long))))
-
-  pub in-play : (last : Entry) (fits inPlay : Bool) → last ≡ lastEntry b → fits ≡ intactIn (b .network) (b .acyclic) (b .flows) (b .places) (b .moves) (last .step)
-      → inPlay ≡ both (eqb (b .stage) playStage) fits → inPlay ≡ playing b
-  unfolding intact
-  in-play last fits inPlay el ef ep = rw (playing-staged b, ep, ef, el)
-
   -- a test that stops at the counts, and one that goes on to the lists and the last entry
   pub counts-wrong : countsFit (b .network) ≡ false → false ≡ intact b
   unfolding intact

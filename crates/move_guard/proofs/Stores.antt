@@ -1,15 +1,14 @@
 -- A call by the parts of its board: what the code stores is the board that the change names. A store past the end of the journal changes nothing.
-use mathlib.Core.Path.{_≡_, refl, sym, ap, _∙_}
+use mathlib.Core.Path.{_≡_, refl, sym}
 use mathlib.Core.List.{List}
 use mathlib.Core.Logic.{_≢_}
-use Prim.Native.Nat.{ℕ, _+_, _-_, _≤_}
-use lib.ListN.{length, set}
-use lib.Seq.{set-out}
+use Prim.Native.Nat.{ℕ, _+_, _-_}
+use lib.ListN.{set}
 use Rattle.board.specs.Record.{blank}
-use Rattle.board.specs.declared.Board.{Board}
+use Rattle.board.specs.Whole.{Board}
 use Rattle.board.specs.declared.Entry.{Entry}
-use Rattle.board.specs.declared.Played.{Played}
-use Rattle.move_guard.specs.declared.Change.{Change}
+use Rattle.board.specs.Whole.{Played}
+use Rattle.move_guard.specs.Moved.{Change}
 use Rattle.move_guard.specs.Moved.{moved, changed, changedBack}
 use Rattle.move_guard.proofs.Answers.{answered-yes, answered-no}
 
@@ -40,9 +39,6 @@ module _ (b : Board) (c : Change) where
   pub change-stored : c .answer ≡ 0 → numbered c (stored b c (moved b (c .flows) (c .marks) (c .places) (c .entry) .journal) (b .moves + 1)) ≡ changed b c
   change-stored h = rw h (sym (answered-yes 0 b _ refl))
 
-  pub change-past : c .answer ≡ 0 → length (b .journal) ≤ b .moves → numbered c (stored b c (b .journal) (b .moves + 1)) ≡ changed b c
-  change-past h past = ap (λ (journal : List Entry). numbered c (stored b c journal (b .moves + 1))) (sym (set-out (b .journal) (b .moves) (c .entry) past)) ∙ change-stored h
-
   pub change-refused : c .answer ≢ 0 → numbered c b ≡ changed b c
   change-refused h = sym (answered-no (c .answer) b _ h)
 
@@ -50,9 +46,6 @@ module _ (b : Board) (c : Change) where
   module _ (rest : ℕ) (nothing : Entry) (er : rest ≡ b .moves - 1) (en : nothing ≡ blank) (h : c .answer ≡ 0) where
     pub back-stored : numbered c (stored b c (set (b .journal) rest nothing) rest) ≡ changedBack b c
     back-stored = rw (er, en, h) (sym (answered-yes 0 b _ refl))
-
-    pub back-past : length (b .journal) ≤ rest → numbered c (stored b c (b .journal) rest) ≡ changedBack b c
-    back-past past = ap (λ (journal : List Entry). numbered c (stored b c journal rest)) (sym (set-out (b .journal) rest nothing past)) ∙ back-stored
 
   pub back-refused : c .answer ≢ 0 → numbered c b ≡ changedBack b c
   back-refused h = sym (answered-no (c .answer) b _ h)

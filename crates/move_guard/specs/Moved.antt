@@ -5,10 +5,17 @@ use lib.Dec.{eqb}
 use lib.ListN.{getD, set}
 use Rattle.lists.specs.Choice.{pick}
 use Rattle.board.specs.Record.{blank}
-use Rattle.board.specs.declared.Board.{Board}
+use Rattle.board.specs.Whole.{Board}
 use Rattle.board.specs.declared.Entry.{Entry}
-use Rattle.board.specs.declared.Played.{Played}
-use Rattle.move_guard.specs.declared.Change.{Change}
+use Rattle.board.specs.Whole.{Played}
+
+-- what a call would change: its number, and where that is 0 the new flows, marks and places, and the entry of its move
+pub record Change : Type 0 where
+  pub answer : ℕ
+  pub flows : List ℕ
+  pub marks : ℕ
+  pub places : List ℕ
+  pub entry : Entry
 
 -- the last standing move
 abbrev pub lastEntry : Board → Entry

@@ -3,7 +3,7 @@ use mathlib.Core.Bool.{Bool}
 use Prim.Native.Nat.{ℕ}
 use lib.ListN.{getD}
 use Rattle.sets.specs.Sets.{hasBit}
-use Rattle.board.specs.declared.Board.{Board}
+use Rattle.board.specs.Whole.{Board}
 
 -- an edge's flow now and without cycles, its ends, and whether it is marked
 abbrev pub flow : Board → ℕ → ℕ

@@ -1,92 +1,17 @@
 // Which boards a call of play works on, and what a change stores.
 use board::Board;
-use board::EdgeSet;
-use board::Entry;
 use board::Move;
-use board::Network;
-use journal::Table;
 use journal::WORDS;
 ghost use mathlib.Core.Path.{_≡_};
 ghost use Prim.Native.Nat.{_-_, _≤_};
-ghost use lib.ListN.{getD, set};
-ghost use Rattle.board.specs.Record.{blank};
 ghost use Rattle.journal.specs.Words.{wholeOf};
-ghost use Rattle.move_guard.specs.Moved.{lastEntry};
 ghost use lib.Dec.{leb, ltb, eqb};
 ghost use Rattle.lists.specs.Choice.{pick};
 ghost use Rattle.lists.specs.Lists.{all};
 ghost use Rattle.board.specs.Limits.{maxEdges, maxTerminals, maxTotal};
-ghost use Rattle.move_guard.specs.Guard.{
-  edgeNumbersIntact,
-  edgeListsIntact,
-  edgeIntactIn,
-  terminalNumbersIntact,
-  terminalListsIntact,
-  terminalIntactIn,
-  edgeBlankAt,
-  terminalBlankAt,
-  moveIntact,
-  intactIn,
-  intact,
-  playing,
-};
+ghost use Rattle.move_guard.specs.Guard.{edgeNumbersIntact, edgeListsIntact, terminalNumbersIntact, terminalListsIntact, edgeBlankAt, terminalBlankAt, moveIntact, intact, playing};
 
 // ---- What a call changes, and the journal of standing moves.
-
-// What a call would change: its number, and where that is 0 the new flows, marks and places, and the entry of its move.
-// Small beside a board, so it is what is handed on where many calls are made.
-pub struct Change {
-    pub answer: u32,
-    pub flows: [u32; Board::MAX_EDGES],
-    pub marks: EdgeSet,
-    pub places: [u32; Board::MAX_TERMINALS],
-    pub entry: Entry,
-}
-
-// The flows with another one at e.
-pub fn put_flow(flows: [u32; Board::MAX_EDGES], e: usize, flow: u32) -> [u32; Board::MAX_EDGES]
-    ensures { λ r. ⌜ r ≡ set flows e flow ⌝ }
-{
-    let mut next = flows;
-    if e < Board::MAX_EDGES {
-        next[e] = flow;
-    }
-    next
-}
-
-// The places with another one at i.
-pub fn put_place(
-    places: [u32; Board::MAX_TERMINALS],
-    i: usize,
-    place: u32,
-) -> [u32; Board::MAX_TERMINALS]
-    ensures { λ r. ⌜ r ≡ set places i place ⌝ }
-{
-    let mut next = places;
-    if i < Board::MAX_TERMINALS {
-        next[i] = place;
-    }
-    next
-}
-
-// The entry at i, or the blank.
-fn entry_at(journal: [Entry; Board::JOURNAL], i: usize) -> Entry
-    ensures { λ r. ⌜ r ≡ getD journal i blank ⌝ }
-{
-    if i < Board::JOURNAL {
-        return journal[i];
-    }
-    Entry::blank()
-}
-
-// The last standing move, or the blank.
-fn last_entry(board: Board) -> Entry
-    ensures { λ r. ⌜ r ≡ lastEntry board ⌝ }
-{
-    let i = lists::minus(board.moves, 1) as usize;
-    let journal = board.journal;
-    entry_at(journal, i)
-}
 
 // ---- Which boards the calls work on.
 
@@ -118,33 +43,6 @@ fn edge_intact(
     lists::and(fits, lists::and(acyclic <= text, small))
 }
 
-// Whether every edge is intact.
-fn edges_intact(
-    net: Network,
-    acyclic: [u32; Board::MAX_EDGES],
-    flows: [u32; Board::MAX_EDGES],
-) -> bool
-    ensures { λ r. ⌜ r ≡ all (edgeIntactIn net acyclic flows) 0 maxEdges ⌝ }
-{
-    let mut i: usize = 0;
-    while i < Board::MAX_EDGES {
-        let is_edge = i < net.edges as usize;
-        if !edge_intact(
-            is_edge,
-            net.tails[i],
-            net.heads[i],
-            net.flows[i],
-            acyclic[i],
-            flows[i],
-            net.vertices,
-        ) {
-            return false;
-        }
-        i += 1;
-    }
-    true
-}
-
 // Whether a terminal is at a vertex, and a place past the terminals holds 0.
 fn placed(is_terminal: bool, place: u32, vertices: u32) -> bool
     ensures { λ r. ⌜ r ≡ pick «is_terminal» (ltb place vertices) (eqb place 0) ⌝ }
@@ -165,27 +63,6 @@ fn terminal_intact(is_terminal: bool, home: u32, demand: u32, place: u32, vertic
     lists::and(fits, there)
 }
 
-// Whether every terminal is intact.
-fn terminals_intact(net: Network, places: [u32; Board::MAX_TERMINALS]) -> bool
-    ensures { λ r. ⌜ r ≡ all (terminalIntactIn net places) 0 maxTerminals ⌝ }
-{
-    let mut j: usize = 0;
-    while j < Board::MAX_TERMINALS {
-        let is_terminal = j < net.terminals as usize;
-        if !terminal_intact(
-            is_terminal,
-            net.homes[j],
-            net.demands[j],
-            places[j],
-            net.vertices,
-        ) {
-            return false;
-        }
-        j += 1;
-    }
-    true
-}
-
 // Whether a move's amount is one that can be taken back.
 fn move_intact(step: Move) -> bool
     ensures { λ r. ⌜ r ≡ moveIntact step ⌝ }
@@ -195,48 +72,6 @@ fn move_intact(step: Move) -> bool
         Move::Turn(turn) => turn.amount <= Board::MAX_TOTAL,
     }
 }
-
-// Whether no number of the parts of a board can lead a call astray; `last` is its last standing move.
-pub fn intact_in(
-    net: Network,
-    acyclic: [u32; Board::MAX_EDGES],
-    flows: [u32; Board::MAX_EDGES],
-    places: [u32; Board::MAX_TERMINALS],
-    moves: u32,
-    last: Move,
-) -> bool
-    ensures { λ r. ⌜ r ≡ intactIn net acyclic flows places moves last ⌝ }
-{
-    let counts = text_judge::counts_fit(net);
-    let edges = edges_intact(net, acyclic, flows);
-    let terminals = terminals_intact(net, places);
-    let small = move_intact(last);
-    let room = lists::and(moves <= Board::JOURNAL as u32, small);
-    lists::and(counts, lists::and(edges, lists::and(terminals, room)))
-}
-
-// The same of a board.
-fn intact(board: Board) -> bool
-    ensures { λ r. ⌜ r ≡ intact board ⌝ }
-{
-    let net = board.network;
-    let acyclic = board.acyclic;
-    let flows = board.flows;
-    let places = board.places;
-    let last = last_entry(board);
-    let step = last.step;
-    intact_in(net, acyclic, flows, places, board.moves, step)
-}
-
-// Whether the board is in play.
-pub fn playing(board: Board) -> bool
-    ensures { λ r. ⌜ r ≡ playing board ⌝ }
-{
-    let fits = intact(board);
-    lists::and(board.stage == Board::PLAY, fits)
-}
-
-// ---- The same of a board whose journal is lent. The lists are lent, too.
 
 // Whether every number of the places from one on is 0, as past the edges.
 fn edges_blank<'a>(
@@ -263,7 +98,7 @@ fn edges_blank<'a>(
 }
 
 // Whether every edge is intact.
-fn edges_intact_lent<'a>(
+fn edges_intact<'a>(
     edges: u32,
     vertices: u32,
     tails: &'a [u32; Board::MAX_EDGES],
@@ -316,7 +151,7 @@ fn terminals_blank<'a>(
 }
 
 // Whether every terminal is intact.
-fn terminals_intact_lent<'a>(
+fn terminals_intact<'a>(
     terminals: u32,
     vertices: u32,
     homes: &'a [u32; Board::MAX_TERMINALS],
@@ -338,7 +173,7 @@ fn terminals_intact_lent<'a>(
 }
 
 // Whether no number of the board can lead a call astray.
-pub fn intact_lent(board: Table, journal: &[[u64; WORDS]; Board::JOURNAL]) -> bool
+pub fn intact(board: Board, journal: &[[u64; WORDS]; Board::JOURNAL]) -> bool
     ensures { λ r. ⌜ r ≡ intact (wholeOf board (now (journal .entry))) ⌝ }
 {
     let vertices = board.network.vertices;
@@ -347,7 +182,7 @@ pub fn intact_lent(board: Table, journal: &[[u64; WORDS]; Board::JOURNAL]) -> bo
     if !text_judge::counts_fit_in(vertices, edges, terminals, board.network.source) {
         return false;
     }
-    let edges_fit = edges_intact_lent(
+    let edges_fit = edges_intact(
         edges,
         vertices,
         &board.network.tails,
@@ -356,7 +191,7 @@ pub fn intact_lent(board: Table, journal: &[[u64; WORDS]; Board::JOURNAL]) -> bo
         &board.acyclic,
         &board.flows,
     );
-    let terminals_fit = terminals_intact_lent(
+    let terminals_fit = terminals_intact(
         terminals,
         vertices,
         &board.network.homes,
@@ -370,9 +205,9 @@ pub fn intact_lent(board: Table, journal: &[[u64; WORDS]; Board::JOURNAL]) -> bo
 }
 
 // Whether the board is in play.
-pub fn playing_lent(board: Table, journal: &[[u64; WORDS]; Board::JOURNAL]) -> bool
+pub fn playing(board: Board, journal: &[[u64; WORDS]; Board::JOURNAL]) -> bool
     ensures { λ r. ⌜ r ≡ playing (wholeOf board (now (journal .entry))) ⌝ }
 {
-    let fits = intact_lent(board, journal);
+    let fits = intact(board, journal);
     lists::and(board.stage == Board::PLAY, fits)
 }

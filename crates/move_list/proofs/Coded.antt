@@ -8,19 +8,18 @@ use native.Mathlib.Numerals.{add-one}
 use native.Mathlib.Omega.{arith}
 use lib.Dec.{leb, ltb}
 use borrow.Author.Tests.{leb-true, lt-ltb, le-ltb}
-use lib.ListN.{length, getD, take, drop, set, length-drop, drop-of-length-le}
+use lib.ListN.{length, getD, take, drop, set, length-drop}
 use lib.Seq.{drop-cons, sets}
 use Rattle.lists.specs.Choice.{both}
 use Rattle.lists.proofs.Laws.{pick-yes, pick-no, both-left, both-right}
 use Rattle.lists.proofs.Stored.{stored-turn, stored-past}
-use Rattle.board.specs.declared.Board.{Board}
-use Rattle.board.specs.declared.Entry.{Entry}
-use Rattle.board.specs.declared.Played.{Played}
+use Rattle.board.specs.Whole.{Board}
+use Rattle.board.specs.Whole.{Played}
 use Rattle.solve_next.specs.declared.Advice.{Advice}
 use Rattle.solve_next.specs.declared.Suggestion.{Suggestion}
 use Rattle.solve_next.specs.Hints.{hintCall}
 use Rattle.move_list.specs.Calls.{Call, hint, made, played, answers, hintedBy, hintsOf, adviceCode, adviceWidth, behind, noted}
-use Rattle.move_list.specs.Codes.{part, callOf, callsOf, moveCode, journalCoded}
+use Rattle.move_list.specs.Codes.{part, callOf, callsOf}
 
 -- the steps of a turn
 module _ (steps : List ℕ) (a c : ℕ) where
@@ -119,23 +118,6 @@ module _ (steps codes : List ℕ) (left : ℕ) where
 pub all-left : (codes : List ℕ) → drop (length codes - length codes) codes ≡ codes
 all-left codes = let none : length codes - length codes ≡ 0 = omega arith in rw none
 
--- five numbers, stored one after the other
-pub five-stored : (buf : List ℕ) (k : ℕ) (code b1 b2 b3 b4 b5 : List ℕ) → length code ≡ 5 → b1 ≡ set buf k (getD code 0 0)
-    → b2 ≡ set b1 (k + 1) (getD code 1 0) → b3 ≡ set b2 (k + 2) (getD code 2 0) → b4 ≡ set b3 (k + 3) (getD code 3 0)
-    → b5 ≡ set b4 (k + 4) (getD code 4 0) → b5 ≡ sets buf k code
-five-stored buf k (a ∷ b ∷ c ∷ d ∷ e ∷ []) b1 b2 b3 b4 b5 n e1 e2 e3 e4 e5 =
-    let one : k + 1 ≡ suc k = omega arith in
-    let two : k + 2 ≡ suc (suc k) = omega arith in
-    let three : k + 3 ≡ suc (suc (suc k)) = omega arith in
-    let four : k + 4 ≡ suc (suc (suc (suc k))) = omega arith in
-    rw (e5, e4, e3, e2, e1, one, two, three, four)
-five-stored buf k [] b1 b2 b3 b4 b5 n e1 e2 e3 e4 e5 = absurd (omega arith)
-five-stored buf k (a ∷ []) b1 b2 b3 b4 b5 n e1 e2 e3 e4 e5 = absurd (omega arith)
-five-stored buf k (a ∷ b ∷ []) b1 b2 b3 b4 b5 n e1 e2 e3 e4 e5 = absurd (omega arith)
-five-stored buf k (a ∷ b ∷ c ∷ []) b1 b2 b3 b4 b5 n e1 e2 e3 e4 e5 = absurd (omega arith)
-five-stored buf k (a ∷ b ∷ c ∷ d ∷ []) b1 b2 b3 b4 b5 n e1 e2 e3 e4 e5 = absurd (omega arith)
-five-stored buf k (a ∷ b ∷ c ∷ d ∷ e ∷ f ∷ code) b1 b2 b3 b4 b5 n e1 e2 e3 e4 e5 = absurd (omega arith)
-
 -- numbers stored one after the other, from place k on, i of them so far
 module _ (buf xs : List ℕ) (k : ℕ) where
   pub sets-start : sets buf (k + 0) (drop 0 xs) ≡ sets buf k xs
@@ -165,16 +147,3 @@ module _ (buf : List ℕ) (k : ℕ) where
   pub one-noted : k < length buf → k + adviceWidth ≡ behind buf k
   unfolding behind
   one-noted h = sym (pick-yes (ltb k (length buf)) _ _ (lt-ltb k (length buf) h))
-
--- the entries from place i on
-module _ (js : List Entry) (i k : ℕ) (buf : List ℕ) where
-  pub journal-coded-turn : (m z : Entry) (code r : List ℕ) → i < length js → m ≡ getD js i z → code ≡ moveCode (m .step) → r ≡ sets buf k code
-      → journalCoded r (k + 5) (drop (i + 1) js) ≡ journalCoded buf k (drop i js)
-  unfolding journalCoded
-  journal-coded-turn m z code r h em ec er =
-      let five : k + 5 ≡ suc (suc (suc (suc (suc k)))) = omega arith in
-      rw (er, ec, em, five, drop-cons js i z h, add-one i)
-
-  pub journal-coded-end : length js ≤ i → buf ≡ journalCoded buf k (drop i js)
-  unfolding journalCoded
-  journal-coded-end h = rw (drop-of-length-le js h)

@@ -9,14 +9,14 @@ use lib.Seq.{sets, length-sets}
 use borrow.Author.Tests.{eq-eqb, ne-eqb}
 use mathlib.Core.Logic.{_⊎_, inl, inr, _≢_}
 use Rattle.lists.proofs.Laws.{eq-or-ne, pick-yes, pick-no}
-use Rattle.board.specs.declared.Board.{Board}
-use Rattle.board.specs.declared.Played.{Played}
+use Rattle.board.specs.Whole.{Board}
+use Rattle.board.specs.Whole.{Played}
 use Rattle.journal.specs.Words.{wordsAfter}
 use Rattle.journal.proofs.After.{after-none}
 use Rattle.move_cycle.specs.Steps.{stepsOf}
 use Rattle.solve_next.specs.declared.Suggestion.{Suggestion}
 use Rattle.solve_next.specs.Hints.{hintCall}
-use Rattle.move_list.specs.Calls.{Call, carry, turn, undo, hint, made, played, answers, hintedBy, hintsOf, adviceCode, behind, noted}
+use Rattle.move_list.specs.Calls.{carry, turn, undo, hint, made, played, answers, hintedBy, hintsOf, adviceCode, behind, noted}
 use Rattle.move_list.specs.Codes.{part, callOf, callsOf}
 use Rattle.move_list.specs.Words.{wordsPlayed}
 use Rattle.move_list.proofs.Coded.{calls, calls-none, calls-turn, played-turn, answers-turn, hints-turn, none-hinted, one-hinted}

@@ -1,4 +1,3 @@
 pub mod Coded
-pub mod Moving
 pub mod Worded
 pub mod Going

@@ -5,15 +5,14 @@ use mathlib.Core.Logic.{_≢_, _⊎_, inl, inr}
 use Prim.Native.Nat.{ℕ, _+_, _-_, _<_, _≤_}
 use native.Mathlib.Omega.{arith}
 use lib.Dec.{eqb}
-use lib.ListN.{length, getD, set, length-set}
+use lib.ListN.{getD, set, length-set}
 use lib.Seq.{getD-set-other}
-use Rattle.lists.specs.Choice.{pick}
 use Rattle.lists.proofs.Laws.{eq-or-ne, pick-passed, pick-avoided}
 use borrow.Author.Tests.{eqb-false}
 use Rattle.board.specs.Record.{blank}
-use Rattle.board.specs.declared.Board.{Board}
+use Rattle.board.specs.Whole.{Board}
 use Rattle.board.specs.declared.Entry.{Entry}
-use Rattle.board.specs.declared.Played.{Played}
+use Rattle.board.specs.Whole.{Played}
 use Rattle.board.specs.declared.Move.{Move}
 use Rattle.board.specs.declared.Move.the-variants.{Carry, Turn}
 use Rattle.journal.specs.Words.{packedOn, packedAll, wordsAfter}

@@ -6,8 +6,8 @@ use lib.ListN.{length}
 use Rattle.lists.specs.Choice.{pick}
 use lib.Seq.{sets}
 use Rattle.board.specs.Limits.{maxEdges}
-use Rattle.board.specs.declared.Board.{Board}
-use Rattle.board.specs.declared.Played.{Played}
+use Rattle.board.specs.Whole.{Board}
+use Rattle.board.specs.Whole.{Played}
 use Rattle.graph_flows.specs.Trails.{Step}
 use Rattle.move_carry.specs.Carries.{carryCall}
 use Rattle.move_turn.specs.Turns.{turnCall}

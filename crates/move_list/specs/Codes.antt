@@ -1,13 +1,9 @@
 -- Lists of calls in numbers, and answers and journals written into buffers of numbers: how other programs drive the engine.
 use mathlib.Core.List.{List, [], _∷_}
-use Prim.Native.Nat.{ℕ, suc, _-_}
+use Prim.Native.Nat.{ℕ, _-_}
 use lib.Dec.{leb, eqb}
 use lib.ListN.{length, take, drop}
 use Rattle.lists.specs.Choice.{pick, both}
-use lib.Seq.{sets}
-use Rattle.board.specs.declared.Entry.{Entry}
-use Rattle.board.specs.declared.Move.{Move}
-use Rattle.board.specs.declared.Move.the-variants.{Carry, Turn}
 use Rattle.move_cycle.specs.Steps.{stepsOf}
 use Rattle.move_list.specs.Calls.{Call, carry, turn, undo, hint}
 
@@ -25,13 +21,3 @@ callsOf steps [] = []
 callsOf steps (k ∷ []) = []
 callsOf steps (k ∷ a ∷ []) = []
 callsOf steps (k ∷ a ∷ c ∷ codes) = callOf steps k a c ∷ callsOf steps codes
-
--- a move in five numbers: 0, the terminal, the edge, 0, 0; or 1, the amount, and the sets of edges that fell, rose and were marked
-abbrev pub moveCode : Move → List ℕ
-moveCode (Carry r) = 0 ∷ r .terminal ∷ r .edge ∷ 0 ∷ 0 ∷ []
-moveCode (Turn a) = 1 ∷ a .amount ∷ a .down ∷ a .up ∷ a .marked ∷ []
-
--- the buffer with these entries from place k on
-unfoldable pub journalCoded : List ℕ → ℕ → List Entry → List ℕ
-journalCoded buf k [] = buf
-journalCoded buf k (m ∷ ms) = journalCoded (sets buf k (moveCode (m .step))) (suc (suc (suc (suc (suc k))))) ms

@@ -1,7 +1,7 @@
 -- The words of a lent journal after a list of calls.
 use mathlib.Core.List.{List, [], _∷_}
 use Prim.Native.Nat.{ℕ}
-use Rattle.board.specs.declared.Board.{Board}
+use Rattle.board.specs.Whole.{Board}
 use Rattle.journal.specs.Words.{wordsAfter}
 use Rattle.move_list.specs.Calls.{Call, made}
 

@@ -1,41 +1,35 @@
 -- What the call `turn` changes, by the parts of a board: the tests and the changes read nothing else of the board, so on its own parts they are the call's.
 -- And what a board in play has that a turn needs: its guard has tested it.
-use mathlib.Core.Path.{_≡_, refl, sym, ap, ap₂, _∙_}
+use mathlib.Core.Path.{_≡_, refl, sym, ap, _∙_}
 use mathlib.Core.Bool.{Bool, true, false}
 use mathlib.Core.Logic.{_⊎_, inl, inr, _≢_}
 use mathlib.Core.List.{List}
-use Prim.Native.Nat.{ℕ, _+_, _-_, _≤_, _<_}
+use Prim.Native.Nat.{ℕ, _+_}
 use native.Mathlib.Omega.{arith}
 use lib.Dec.{leb, eqb}
-use lib.ListN.{length, getD, set}
-use borrow.Author.Tests.{eq-eqb, ne-eqb, lt-leb}
+use lib.ListN.{length, set}
+use borrow.Author.Tests.{eq-eqb, ne-eqb}
 use Rattle.lists.specs.Choice.{pick, both}
-use Rattle.lists.proofs.Laws.{lt-or-ge, eq-or-ne, pick-yes, pick-no, pick-passed}
+use Rattle.lists.proofs.Laws.{eq-or-ne, pick-yes, pick-no, pick-passed}
 use Rattle.board.specs.Limits.{maxEdges, maxMoves}
-use Rattle.board.specs.Record.{blank, playStage}
-use Rattle.board.specs.declared.Board.{Board}
+use Rattle.board.specs.Whole.{Board}
 use Rattle.board.specs.declared.Network.{Network}
 use Rattle.board.specs.declared.Entry.{Entry}
 use Rattle.board.specs.declared.Move.{Move}
 use Rattle.graph_flows.specs.Trails.{Step}
 use Rattle.move_edges.specs.Incidence.{Incident, PositiveSet}
-use Rattle.move_guard.specs.Guard.{intactIn, intact, playing}
-use Rattle.move_guard.proofs.Facts.{playing-staged, playing-edges, playing-head, playing-flow, playing-demand}
-use Rattle.move_guard.specs.declared.Change.{Change}
-use Rattle.move_guard.specs.Moved.{lastEntry, moved, answered, unchanged, changed}
+use Rattle.move_guard.specs.Guard.{intactIn, playing}
+use Rattle.move_guard.proofs.Facts.{playing-edges, playing-head, playing-flow, playing-demand}
+use Rattle.move_guard.specs.Moved.{Change}
+use Rattle.move_guard.specs.Moved.{moved, answered, unchanged, changed}
 use Rattle.move_guard.proofs.Answers.{answered-yes, answered-no}
 use Rattle.move_guard.proofs.Stores.{withParts, numbered}
 use Rattle.move_guard.proofs.Stores as stores
-use Rattle.move_carry.specs.Opens.{someOpen, someOpenIn}
-use Rattle.move_carry.proofs.Same.{some-same}
-use Rattle.move_cycle.specs.Steps.{stepsOf, every}
-use Rattle.move_cycle.specs.Inner.{InSets}
+use Rattle.move_carry.specs.Opens.{someOpen}
 use Rattle.move_edges.specs.Marking.{singular, isFresh, fresh}
 use Rattle.move_edges.specs.Inner.{ChartedOut}
 use Rattle.move_cycle.specs.Amounts.{amountFrom, amount}
-use Rattle.move_turn.proofs.Passing.{in-sets}
-use Rattle.move_turn.specs.declared.StepRule.the-variants.{OnBoard}
-use Rattle.move_turn.specs.Turns.{meetsOn, stepsRefusal, turnRefusalIn, turnRefusal, turned, turnedIn, turnChange, turnCall}
+use Rattle.move_turn.specs.Turns.{stepsRefusal, turnRefusalIn, turnRefusal, turned, turnedIn, turnChange, turnCall}
 use Rattle.move_turn.specs.Inner.{Sound}
 
 -- a board in play is sound
@@ -72,10 +66,6 @@ module _ (play anyOpen : Bool) (net : Network) (flows : List ℕ) (marks : ℕ) 
   unfolding turnChange
   change-refused h = pick-no _ _ _ (ne-eqb _ 0 h)
 
-  pub change-made : (number : ℕ) (entry : Entry) → number ≡ turnRefusalIn play anyOpen net flows w → number ≢ 0 → entry ≡ blank
-      → record { answer = number; flows = flows; marks = marks; places = places; entry = entry } ≡ turnChange play anyOpen net flows marks places w
-  change-made number entry e n b = rw (b, e) (sym (change-refused (λ z. n (e ∙ z))))
-
   -- the number, and the places, which no turn changes
   pub change-answer : turnChange play anyOpen net flows marks places w .answer ≡ turnRefusalIn play anyOpen net flows w
   unfolding turnedIn
@@ -99,13 +89,6 @@ module _ (play anyOpen : Bool) (net : Network) (flows : List ℕ) where
   pub accepted-plays : (w : List Step) → turnRefusalIn play anyOpen net flows w ≡ 0 → play ≡ true
   unfolding turnRefusalIn
   accepted-plays w h = pick-passed play _ 19 h .0
-
-  pub accepted-sets : (s : List ℕ) → turnRefusalIn play anyOpen net flows (stepsOf s) ≡ 0 → (play ≡ true → Sound net flows) → Sound net flows × InSets s
-  unfolding turnRefusalIn stepsRefusal
-  accepted-sets s h sound =
-      let now = sound (accepted-plays (stepsOf s) h) in
-      let on = pick-passed (every (meetsOn OnBoard (net .edges) (net .tails) (net .heads) flows (net .vertices)) (stepsOf s)) _ 5 (pick-passed play _ 19 h .1) .0 in
-      (now, in-sets (net .edges) (net .tails) (net .heads) flows (net .vertices) (now .room) s on)
 
 -- whether a carry is open counts on a board in play alone
 pub refusal-in-play : (play anyOpen : Bool) (net : Network) (flows : List ℕ) (w : List Step)
@@ -149,8 +132,7 @@ module _ (b : Board) (w : List Step) (c : Change) (e : c ≡ turnMade b w) where
   pub turn-refused : c .answer ≢ 0 → numbered c b ≡ turnCall b w
   turn-refused h = stores.change-refused b c h ∙ by-change
 
-  -- a turn keeps the places, so the code stores none
-  pub turn-change-made : c .answer ≡ 0 → numbered c (moved b (c .flows) (c .marks) (b .places) (c .entry)) ≡ turnCall b w
+  turn-change-made : c .answer ≡ 0 → numbered c (moved b (c .flows) (c .marks) (b .places) (c .entry)) ≡ turnCall b w
   turn-change-made h =
       let kept : c .places ≡ b .places = ap (λ (k : Change). k .places) e ∙ change-places _ _ _ _ _ _ _ in
       ap (λ (p : List ℕ). numbered c (moved b (c .flows) (c .marks) p (c .entry))) (sym kept) ∙ stores.change-stored b c h ∙ by-change
@@ -160,34 +142,6 @@ module _ (b : Board) (w : List Step) (c : Change) (e : c ≡ turnMade b w) where
       → numbered c (withParts b (c .flows) (c .marks) (b .places) j (b .moves + 1)) ≡ turnCall b w
   turn-stored j h e = rw e (turn-change-made h)
 
-  pub turn-plays : c .answer ≡ 0 → playing b ≡ true
-  turn-plays h = accepted-plays _ _ _ _ w (sym (ap (λ (k : Change). k .answer) e ∙ change-answer _ _ _ _ _ _ _) ∙ h)
-
 past-room : (net : Network) (acyclic flows places : List ℕ) (moves : ℕ) (x y : Move) → leb moves maxMoves ≡ false → intactIn net acyclic flows places moves x ≡ intactIn net acyclic flows places moves y
 unfolding both
 past-room net acyclic flows places moves x y h = rw h
-
--- the guard's test, with the last move read at a place that is its own where the journal has room for the moves; where it has not, the test fails anyway
-pub play-made : (b : Board) (k : ℕ) (play fits : Bool) → (b .moves ≤ maxMoves → k ≡ b .moves - 1)
-    → fits ≡ intactIn (b .network) (b .acyclic) (b .flows) (b .places) (b .moves) (getD (b .journal) k blank .step)
-    → play ≡ both (eqb (b .stage) playStage) fits → play ≡ playing b
-unfolding intact
-play-made b k play fits hk hf hp = hp ∙ ap (both (eqb (b .stage) playStage)) (hf ∙ go (lt-or-ge maxMoves (b .moves))) ∙ sym (playing-staged b)
-  where
-    at : Entry → Bool
-    at last = intactIn (b .network) (b .acyclic) (b .flows) (b .places) (b .moves) (last .step)
-
-    go : (maxMoves < b .moves) ⊎ (b .moves ≤ maxMoves) → at (getD (b .journal) k blank) ≡ at (lastEntry b)
-    go (inl h) = past-room (b .network) (b .acyclic) (b .flows) (b .places) (b .moves) (getD (b .journal) k blank .step) (lastEntry b .step) (lt-leb (b .moves) maxMoves h)
-    go (inr h) = rw (hk h)
-
--- the change that the code makes of the parts of a board
-pub made-by : (b : Board) (w : List Step) (k : ℕ) (play fits anyOpen : Bool) (c : Change) → (b .moves ≤ maxMoves → k ≡ b .moves - 1)
-    → fits ≡ intactIn (b .network) (b .acyclic) (b .flows) (b .places) (b .moves) (getD (b .journal) k blank .step)
-    → play ≡ both (eqb (b .stage) playStage) fits → anyOpen ≡ both play (someOpenIn (b .network) (b .flows) (b .marks) (b .places))
-    → c ≡ turnChange play anyOpen (b .network) (b .flows) (b .marks) (b .places) w → c ≡ turnMade b w
-made-by b w k play fits anyOpen c hk hf hp ho hc =
-    hc
-    ∙ ap (λ o. turnChange play o (b .network) (b .flows) (b .marks) (b .places) w) ho
-    ∙ change-in-play play (someOpenIn (b .network) (b .flows) (b .marks) (b .places)) _ _ _ _ w
-    ∙ ap₂ (λ p o. turnChange p o (b .network) (b .flows) (b .marks) (b .places) w) (play-made b k play fits hk hf hp) (some-same b)

@@ -13,16 +13,16 @@ use Rattle.sets.specs.Sets.{joined}
 use Rattle.sets.specs.Inner.{setWidth}
 use Rattle.board.specs.Limits.{maxEdges, maxTerminals}
 use Rattle.board.specs.Record.{blank}
-use Rattle.board.specs.declared.Board.{Board}
+use Rattle.board.specs.Whole.{Board}
 use Rattle.board.specs.declared.Entry.{Entry}
 use Rattle.board.specs.declared.Move.the-variants.{Turn}
 use Rattle.board.specs.declared.Network.{Network}
-use Rattle.board.specs.declared.Played.{Played}
+use Rattle.board.specs.Whole.{Played}
 use Rattle.graph_flows.specs.Trails.{Step}
 use Rattle.journal.specs.Words.{packed, wordsAfter}
 use Rattle.move_guard.specs.Guard.{playing}
 use Rattle.move_guard.specs.Moved.{unchanged, changed}
-use Rattle.move_guard.specs.declared.Change.{Change}
+use Rattle.move_guard.specs.Moved.{Change}
 use Rattle.move_guard.proofs.Stores.{withParts, numbered}
 use Rattle.move_guard.proofs.Lent.{words-stored, words-kept}
 use Rattle.move_edges.specs.Incidence.{Incident, PositiveSet}

@@ -8,7 +8,7 @@ use Rattle.board.specs.Limits.{maxEdges, maxTotal}
 use Rattle.board.specs.declared.Network.{Network}
 use Rattle.board.specs.declared.Move.the-variants.{Turn}
 use Rattle.graph_flows.specs.Trails.{Step}
-use Rattle.move_guard.specs.declared.Change.{Change}
+use Rattle.move_guard.specs.Moved.{Change}
 use Rattle.move_edges.specs.Inner.{ChartedOut}
 use Rattle.move_edges.specs.Marking.{isFreshBy}
 use Rattle.move_cycle.specs.Steps.{gather}

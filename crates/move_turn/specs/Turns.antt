@@ -6,13 +6,13 @@ use lib.Dec.{ltb, eqb}
 use lib.ListN.{length, getD}
 use Rattle.lists.specs.Choice.{pick}
 use Rattle.sets.specs.Sets.{joined, collect}
-use Rattle.board.specs.declared.Board.{Board}
+use Rattle.board.specs.Whole.{Board}
 use Rattle.board.specs.declared.Network.{Network}
-use Rattle.board.specs.declared.Played.{Played}
+use Rattle.board.specs.Whole.{Played}
 use Rattle.board.specs.declared.Move.the-variants.{Turn}
 use Rattle.graph_flows.specs.Trails.{Step, edgeOf}
 use Rattle.move_guard.specs.Guard.{playing}
-use Rattle.move_guard.specs.declared.Change.{Change}
+use Rattle.move_guard.specs.Moved.{Change}
 use Rattle.move_guard.specs.Moved.{moved, answered, unchanged}
 use Rattle.move_carry.specs.Opens.{someOpen}
 use Rattle.move_cycle.specs.Steps.{isUp, every, isCycle, gather}

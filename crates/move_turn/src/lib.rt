@@ -6,10 +6,7 @@ use board::Entry;
 use board::Move;
 use board::Network;
 use board::Played;
-use journal::Done;
-use journal::Table;
 use journal::WORDS;
-use move_guard::Change;
 ghost use mathlib.Core.Path.{_≡_};
 ghost use mathlib.Core.Bool.{true};
 ghost use Prim.Native.Nat.{_-_, _≤_, _<_};
@@ -17,22 +14,14 @@ ghost use lib.Dec.{ltb};
 ghost use lib.ListN.{getD};
 ghost use Rattle.lists.specs.Choice.{pick, both};
 ghost use Rattle.graph_flows.specs.Trails.{edgeOf};
-ghost use Rattle.board.specs.Limits.{maxEdges, maxMoves};
+ghost use Rattle.board.specs.Limits.{maxEdges};
 ghost use Rattle.move_carry.specs.Opens.{someOpenIn};
 ghost use Rattle.move_cycle.specs.Steps.{stepOf, stepsOf, isUp, every};
 ghost use Rattle.move_cycle.specs.Inner.{InSets};
 ghost use Rattle.move_edges.specs.Incidence.{Incident, PositiveSet};
 ghost use Rattle.move_edges.specs.Marking.{singularBy};
 ghost use Rattle.move_edges.specs.Inner.{ChartedOut};
-ghost use Rattle.move_turn.specs.Turns.{
-  meetsIn,
-  stepsRefusal,
-  turnRefusalIn,
-  turnRefusal,
-  turnedIn,
-  turnChange,
-  turnCall,
-};
+ghost use Rattle.move_turn.specs.Turns.{meetsIn, stepsRefusal, turnRefusalIn, turnChange, turnCall};
 ghost use Rattle.move_turn.specs.Inner.{Sound};
 ghost use Rattle.move_turn.specs.Lent.{netOf, changeOf, augmentedBy, Turnable};
 ghost use Rattle.journal.specs.Words.{wholeOf, givenOf, wordsAfter};
@@ -263,21 +252,6 @@ fn open_in_play<'a>(
     move_carry::some_open_in(net, flows, marks, places)
 }
 
-// 20, 6, 7, 24, 25 or 26, in this order; 0 where the turn is accepted.
-pub fn turn_refusal(board: Board, steps: &[u8]) -> u32
-    ensures { λ r. ⌜ r ≡ turnRefusal board (stepsOf (now (steps .entry))) ⌝ }
-{
-    let play = move_guard::playing(board);
-    let net = board.network;
-    let flows = board.flows;
-    let places = board.places;
-    let any_open = open_in_play(play, net, &flows, board.marks, &places);
-    let tails = net.tails;
-    let leaving = move_edges::at_vertices(tails);
-    let positive = move_edges::positive(flows);
-    refusal(play, any_open, net, flows, &leaving, positive, steps)
-}
-
 // The same of the parts of a board; `in_play` says whether the board is in play.
 pub fn turn_refusal_in<'a>(
     in_play: bool,
@@ -294,157 +268,8 @@ pub fn turn_refusal_in<'a>(
     let any_open = open_in_play(in_play, net, &flows, marks, places);
     let tails = net.tails;
     let leaving = move_edges::at_vertices(tails);
-    let positive = move_edges::positive(flows);
+    let positive = move_edges::positive(&flows);
     refusal(in_play, any_open, net, flows, &leaving, positive, steps)
-}
-
-// What an accepted turn changes.
-fn turned<'a>(
-    net: Network,
-    flows: [u32; Board::MAX_EDGES],
-    marks: EdgeSet,
-    places: [u32; Board::MAX_TERMINALS],
-    leaving: &'a [EdgeSet],
-    positive: EdgeSet,
-    steps: &'a [u8],
-) -> Change
-    requires { ⌜ Sound net flows ⌝ }
-    requires { ⌜ Incident (net .tails) (now leaving) ⌝ }
-    requires { ⌜ PositiveSet flows positive ⌝ }
-    requires { ⌜ InSets (now steps) ⌝ }
-    ensures { λ r. ⌜ r ≡ turnedIn net flows marks places (stepsOf (now (steps .entry))) ⌝ }
-{
-    let amount = move_cycle::least_allowed(
-        &net.heads,
-        &flows,
-        &places,
-        &net.demands,
-        net.terminals,
-        steps,
-    );
-    let down = move_cycle::gather(false, steps);
-    let up = move_cycle::gather(true, steps);
-    let fresh = move_edges::fresh_by(&net.heads, leaving, positive, net.vertices, marks);
-    let shifted = move_cycle::shifted(amount, down, up, flows);
-    let marks = sets::joined(marks, fresh);
-    let entry = Entry {
-        step: Move::Turn(Augmentation {
-            amount: amount,
-            down: down,
-            up: up,
-            marked: fresh,
-        }),
-    };
-    Change {
-        answer: 0,
-        flows: shifted,
-        marks: marks,
-        places: places,
-        entry: entry,
-    }
-}
-
-// What a turn changes on a board of these parts; `in_play` says whether the board is in play, `any_open` whether a
-// carry is open. `leaving` has for each vertex the set of the edges that leave it, and `positive` is the set of the
-// positive ones.
-pub fn change_by<'a>(
-    in_play: bool,
-    any_open: bool,
-    net: Network,
-    flows: [u32; Board::MAX_EDGES],
-    marks: EdgeSet,
-    places: [u32; Board::MAX_TERMINALS],
-    leaving: &'a [EdgeSet],
-    positive: EdgeSet,
-    steps: &'a [u8],
-) -> Change
-    requires { ⌜ («in_play» ≡ true → Sound net flows) ⌝ }
-    requires { ⌜ Incident (net .tails) (now leaving) ⌝ }
-    requires { ⌜ PositiveSet flows positive ⌝ }
-    ensures { λ r. ⌜ r ≡ turnChange «in_play» «any_open» net flows marks places (stepsOf (now (steps .entry))) ⌝ }
-{
-    let number = refusal(in_play, any_open, net, flows, leaving, positive, steps);
-    if number != 0 {
-        let blank = Entry::blank();
-        return Change {
-            answer: number,
-            flows: flows,
-            marks: marks,
-            places: places,
-            entry: blank,
-        };
-    }
-    turned(net, flows, marks, places, leaving, positive, steps)
-}
-
-// The same, with the sets made here.
-fn change(
-    in_play: bool,
-    any_open: bool,
-    net: Network,
-    flows: [u32; Board::MAX_EDGES],
-    marks: EdgeSet,
-    places: [u32; Board::MAX_TERMINALS],
-    steps: &[u8],
-) -> Change
-    requires { ⌜ («in_play» ≡ true → Sound net flows) ⌝ }
-    ensures { λ r. ⌜ r ≡ turnChange «in_play» «any_open» net flows marks places (stepsOf (now (steps .entry))) ⌝ }
-{
-    let tails = net.tails;
-    let leaving = move_edges::at_vertices(tails);
-    let positive = move_edges::positive(flows);
-    change_by(
-        in_play,
-        any_open,
-        net,
-        flows,
-        marks,
-        places,
-        &leaving,
-        positive,
-        steps,
-    )
-}
-
-// Where the journal has the last of so many moves.
-fn last_place(moves: u32) -> usize
-    ensures { λ r. ⌜ (r < maxMoves) × (moves ≤ maxMoves → r ≡ moves - 1) ⌝ }
-{
-    let k = lists::minus(moves, 1) as usize;
-    if k < Board::JOURNAL { k } else { 0 }
-}
-
-// Augments along the cycle of the steps. The board is changed in place, so that it is copied once.
-pub fn turn(board: Board, steps: &[u8]) -> Played
-    ensures { λ r. ⌜ r ≡ turnCall board (stepsOf (now (steps .entry))) ⌝ }
-{
-    let mut next = board;
-    let net = next.network;
-    let acyclic = next.acyclic;
-    let flows = next.flows;
-    let places = next.places;
-    let k = last_place(next.moves);
-    let last = next.journal[k];
-    let step = last.step;
-    let fits = move_guard::intact_in(net, acyclic, flows, places, next.moves, step);
-    let play = lists::and(next.stage == Board::PLAY, fits);
-    let any_open = open_in_play(play, net, &flows, next.marks, &places);
-    let made = change(play, any_open, net, flows, next.marks, places, steps);
-    if made.answer == 0 {
-        let m = next.moves as usize;
-        let shifted = made.flows;
-        let entry = made.entry;
-        next.flows = shifted;
-        next.marks = made.marks;
-        next.moves = next.moves + 1;
-        if m < Board::JOURNAL {
-            next.journal[m] = entry;
-        }
-    }
-    Played {
-        answer: made.answer,
-        board: next,
-    }
 }
 
 // Makes an accepted turn on the flows.
@@ -486,7 +311,7 @@ fn augment<'a>(
 }
 
 // Makes a turn on the flows of a board in play, where it is accepted; `any_open` says whether a carry is open.
-pub fn change_lent<'a>(
+pub fn change<'a>(
     any_open: bool,
     frame: Frame,
     tails: &'a [u32; Board::MAX_EDGES],
@@ -525,15 +350,15 @@ pub fn change_lent<'a>(
 }
 
 // Augments along the cycle of the steps, on a board whose journal is lent.
-pub fn turn_lent(board: Table, journal: &mut [[u64; WORDS]; Board::JOURNAL], steps: &[u8]) -> Done
+pub fn turn(board: Board, journal: &mut [[u64; WORDS]; Board::JOURNAL], steps: &[u8]) -> Played
     ensures { λ r. ⌜ givenOf r (now (journal .exit)) ≡
         turnCall (wholeOf board (now (journal .entry))) (stepsOf (now (steps .entry))) ⌝ }
     ensures { λ _. ⌜ now (journal .exit) ≡ wordsAfter (board .moves)
         (turnCall (wholeOf board (now (journal .entry))) (stepsOf (now (steps .entry))) .board)
         (now (journal .entry)) ⌝ }
 {
-    if !move_guard::playing_lent(board, journal) {
-        return Done {
+    if !move_guard::playing(board, journal) {
+        return Played {
             answer: 20,
             board: board,
         };
@@ -546,7 +371,7 @@ pub fn turn_lent(board: Table, journal: &mut [[u64; WORDS]; Board::JOURNAL], ste
     let heads = net.heads;
     let demands = net.demands;
     let leaving = move_edges::at_vertices(tails);
-    let positive = move_edges::positive_lent(&flows);
+    let positive = move_edges::positive(&flows);
     let frame = Frame {
         vertices: net.vertices,
         edges: net.edges,
@@ -555,7 +380,7 @@ pub fn turn_lent(board: Table, journal: &mut [[u64; WORDS]; Board::JOURNAL], ste
         marks: board.marks,
         positive: positive,
     };
-    let made = change_lent(
+    let made = change(
         any_open,
         frame,
         &tails,
@@ -567,7 +392,7 @@ pub fn turn_lent(board: Table, journal: &mut [[u64; WORDS]; Board::JOURNAL], ste
         &mut flows,
     );
     if made.answer != 0 {
-        return Done {
+        return Played {
             answer: made.answer,
             board: board,
         };
@@ -578,7 +403,7 @@ pub fn turn_lent(board: Table, journal: &mut [[u64; WORDS]; Board::JOURNAL], ste
     next.flows = flows;
     next.marks = made.marks;
     next.moves = board.moves + 1;
-    Done {
+    Played {
         answer: 0,
         board: next,
     }

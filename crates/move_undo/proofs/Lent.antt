@@ -11,14 +11,14 @@ use borrow.Author.Tests.{eq-eqb, ne-eqb, eqb-false}
 use Rattle.lists.proofs.Laws.{pick-yes, pick-no, pick-passed, pick-avoided}
 use Rattle.board.specs.Limits.{maxEdges, maxTerminals}
 use Rattle.board.specs.Record.{blank}
-use Rattle.board.specs.declared.Board.{Board}
+use Rattle.board.specs.Whole.{Board}
 use Rattle.board.specs.declared.Entry.{Entry}
 use Rattle.board.specs.declared.Move.{Move}
-use Rattle.board.specs.declared.Played.{Played}
+use Rattle.board.specs.Whole.{Played}
 use Rattle.journal.specs.Words.{packed, entriesOf, standing, journalOf, wholeOf, wordsAfter}
-use Rattle.journal.specs.declared.Table.{Table}
+use Rattle.board.specs.Whole.{Table}
 use Rattle.journal.proofs.Laws.{back-standing}
-use Rattle.move_guard.specs.declared.Change.{Change}
+use Rattle.move_guard.specs.Moved.{Change}
 use Rattle.move_guard.specs.Moved.{lastEntry, unchanged, changedBack}
 use Rattle.move_guard.specs.Guard.{playing}
 use Rattle.move_guard.proofs.Stores.{withParts, back-stored, back-refused}

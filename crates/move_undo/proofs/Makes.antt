@@ -2,34 +2,26 @@
 use mathlib.Core.Path.{_≡_, refl, sym, ap, _∙_}
 use mathlib.Core.Bool.{Bool, true}
 use mathlib.Core.List.{List}
-use Prim.Native.Nat.{ℕ, _+_, _≤_}
+use Prim.Native.Nat.{ℕ}
 use lib.Dec.{eqb}
-use lib.ListN.{length, getD, set}
+use lib.ListN.{length}
 use borrow.Author.Tests.{eqb-true, eqb-false}
 use Rattle.lists.specs.Choice.{pick}
 use Rattle.lists.proofs.Laws.{Known, was-true, was-false, known, pick-yes, pick-no, pick-passed}
-use Rattle.board.specs.Limits.{maxEdges, maxTerminals, maxMoves}
+use Rattle.board.specs.Limits.{maxEdges, maxTerminals}
 use Rattle.board.specs.Record.{blank}
-use Rattle.board.specs.declared.Board.{Board}
+use Rattle.board.specs.Whole.{Board}
 use Rattle.board.specs.declared.Network.{Network}
 use Rattle.board.specs.declared.Entry.{Entry}
-use Rattle.board.specs.declared.Relocation.{Relocation}
 use Rattle.board.specs.declared.Move.{Move}
 use Rattle.board.specs.declared.Move.the-variants.{Carry, Turn}
-use Rattle.move_guard.specs.declared.Change.{Change}
+use Rattle.move_guard.specs.Moved.{Change}
 use Rattle.move_guard.specs.Moved.{lastEntry, movedBack, answered, unchanged, changedBack}
 use Rattle.move_guard.proofs.Answers.{answered-yes, answered-no}
 use Rattle.move_guard.specs.Guard.{moveIntact, playing}
-use Rattle.move_guard.proofs.Facts.{playing-moves, playing-flow, playing-demand, playing-last}
-use Rattle.move_undo.specs.Undone.{undoRefusal, undoneMove, undone, undoCall, carryBack, moveBack, undoRefusalIn, undoChange}
+use Rattle.move_guard.proofs.Facts.{playing-flow, playing-demand, playing-last}
+use Rattle.move_undo.specs.Undone.{undoRefusal, undoneMove, undone, undoCall, moveBack, undoRefusalIn, undoChange}
 use Rattle.move_undo.specs.Inner.{Small}
-
--- what the code of a carry taken back computes, number by number
-module _ (net : Network) (flows : List ℕ) (marks : ℕ) (places : List ℕ) (r : Relocation) (f d h : ℕ) (flows' places' : List ℕ) (entry : Entry) where
-  pub makes-carry-back : f ≡ getD flows (r .edge) 0 → d ≡ getD (net .demands) (r .terminal) 0 → h ≡ getD (net .heads) (r .edge) 0
-      → flows' ≡ set flows (r .edge) (f + d) → places' ≡ set places (r .terminal) h → entry ≡ blank
-      → record { answer = 0; flows = flows'; marks = marks; places = places'; entry = entry } ≡ carryBack net flows marks places r
-  makes-carry-back hf hd hh hfs hps he = rw (hfs, hps, hf, hd, hh, he)
 
 -- an accepted undo is of a board in play
 pub undo-plays : (p : Bool) (moves : ℕ) → undoRefusalIn p moves ≡ 0 → p ≡ true
@@ -99,13 +91,6 @@ module _ (b : Board) where
     undo-by-change c ec = rw (ec, ep, el) (sym undo-changes)
 
     -- the journal has room for its moves
-    pub undo-room : (c : Change) → c ≡ undoChange p (b .network) (b .flows) (b .marks) (b .places) (b .moves) (last .step) → c .answer ≡ 0 → b .moves ≤ maxMoves
-    undo-room c ec h = playing-moves b (sym ep ∙ change-in-play p _ _ _ _ _ _ (sym (ap (λ (c : Change). c .answer) ec) ∙ h))
-
-    -- the change names no move
-    pub undo-blanks : (c : Change) → c ≡ undoChange p (b .network) (b .flows) (b .marks) (b .places) (b .moves) (last .step) → c .entry ≡ blank
-    undo-blanks c ec = ap (λ (c : Change). c .entry) ec ∙ change-blank p _ _ _ _ _ _
-
     pub undo-small : length (b .flows) ≡ maxEdges → length (b .network .demands) ≡ maxTerminals → p ≡ true → Small (b .network) (b .flows) (last .step)
     undo-small many-flows many-demands t =
         let play : playing b ≡ true = sym ep ∙ t in

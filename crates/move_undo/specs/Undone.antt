@@ -7,16 +7,16 @@ use lib.ListN.{getD, set}
 use Rattle.lists.specs.Choice.{pick}
 use Rattle.sets.specs.Sets.{without}
 use Rattle.board.specs.Record.{blank}
-use Rattle.board.specs.declared.Board.{Board}
+use Rattle.board.specs.Whole.{Board}
 use Rattle.board.specs.declared.Network.{Network}
 use Rattle.board.specs.declared.Relocation.{Relocation}
 use Rattle.board.specs.declared.Augmentation.{Augmentation}
-use Rattle.board.specs.declared.Played.{Played}
+use Rattle.board.specs.Whole.{Played}
 use Rattle.board.specs.declared.Move.{Move}
 use Rattle.board.specs.declared.Move.the-variants.{Carry, Turn}
 use Rattle.move_guard.specs.Parts.{flow, head, demand}
 use Rattle.move_guard.specs.Guard.{playing}
-use Rattle.move_guard.specs.declared.Change.{Change}
+use Rattle.move_guard.specs.Moved.{Change}
 use Rattle.move_guard.specs.Moved.{lastEntry, movedBack, answered, unchanged}
 use Rattle.move_cycle.specs.Shifts.{shifted}
 

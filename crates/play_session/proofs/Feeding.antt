@@ -9,13 +9,13 @@ use borrow.Author.Tests.{lt-ltb, le-ltb, eq-eqb, ne-eqb}
 use Rattle.lists.specs.Lists.{indexOf}
 use Rattle.lists.specs.Choice.{pick}
 use Rattle.lists.proofs.Laws.{pick-yes, pick-no}
-use Rattle.board.specs.declared.Played.{Played}
-use Rattle.load.specs.declared.Loaded.{Loaded}
+use Rattle.board.specs.Whole.{Played}
+use Rattle.load.specs.Load.{Loaded}
 use Rattle.load.specs.Load.{loadText}
 use Rattle.play_lines.specs.declared.Form.{Form}
 use Rattle.solve_next.specs.Hints.{hintRefusal, hintCall}
 use Rattle.play_lines.specs.Scans.{hintForm, scanned}
-use Rattle.play_session.specs.declared.Session.{Session}
+use Rattle.play_session.specs.Machine.{Session}
 use Rattle.play_session.specs.Machine.{formReplied, suggestionText, playedText, formText, grown, textSoFar, linesLeft, ready, expecting, boardLine, loadTold, boardTold, lineEnded, lineTold, hasLine, takenOf, fedSession, fedTold}
 
 -- ---- a line of the board

@@ -14,8 +14,8 @@ use Rattle.lists.specs.Inner.{Below}
 use Rattle.lists.proofs.Laws.{Known, was-true, was-false, known, lt-or-ge, pick-yes, pick-no, both-left, both-right, both-true}
 use Rattle.lists.proofs.Pigeon.{pigeon}
 use Rattle.board.specs.Limits.{maxEdges}
-use Rattle.board.specs.declared.Board.{Board}
-use Rattle.board.specs.declared.Played.{Played}
+use Rattle.board.specs.Whole.{Board}
+use Rattle.board.specs.Whole.{Played}
 use Rattle.move_guard.specs.Guard.{intact, playing}
 use Rattle.move_guard.proofs.Facts.{playing-intact, playing-edges}
 use Rattle.move_guard.proofs.Answers.{answered-no}

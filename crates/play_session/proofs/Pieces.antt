@@ -14,13 +14,13 @@ use borrow.Author.Tests.{eqb-true, ltb-true, ltb-false}
 use Rattle.lists.specs.Choice.{pick}
 use Rattle.lists.specs.Lists.{indexOf}
 use Rattle.lists.proofs.Laws.{Known, was-true, was-false, known, pick-yes, pick-no, index-le}
-use Rattle.load.specs.declared.Loaded.{Loaded}
+use Rattle.load.specs.Load.{Loaded}
 use Rattle.load.specs.Load.{loadText}
 use Rattle.play_lines.specs.Scans.{scanAll, scanned}
 use Rattle.play_lines.proofs.Exact.{scan-join}
 use Rattle.sheet_output.specs.Inputs.{textSpace, linesWanted}
 use Rattle.sheet_output.proofs.Prefix.{load-prefix, wanted-prefix}
-use Rattle.play_session.specs.declared.Session.{Session}
+use Rattle.play_session.specs.Machine.{Session}
 use Rattle.play_session.specs.Machine.{formReplied, textGrown, scanGrown, grown, textSoFar, linesLeft, ready, expecting, boardLine, boardTold, playedLine, lineEnded, lineTold, endTold, hasLine, takenOf, fedSession, fedTold}
 use Rattle.play_session.specs.Inner.{runs}
 use Rattle.play_session.proofs.Stages.{Stage, reading, playing, over, stageOf, grown-reading, grown-playing, grown-over, told-reading, told-playing, told-over, ended-reading, ended-playing, ended-over, runs-line, runs-byte}

@@ -8,14 +8,14 @@ use lib.Dec.{eqb}
 use lib.ListN.{length}
 use Rattle.lists.specs.Choice.{pick, both}
 use Rattle.lists.proofs.Laws.{Known, was-true, was-false, known, pick-yes, pick-no}
-use Rattle.board.specs.declared.Board.{Board}
-use Rattle.board.specs.declared.Played.{Played}
+use Rattle.board.specs.Whole.{Board}
+use Rattle.board.specs.Whole.{Played}
 use Rattle.play_lines.specs.Orders.{other, orderOf}
 use Rattle.play_lines.specs.Scans.{noScan, scanAll, scanned, isBlank}
 use Rattle.play_lines.specs.Inner.{StandsFor}
 use Rattle.play_lines.proofs.Exact.{line-exact, scan-join, blank-empty}
 use Rattle.sheet_output.specs.Outputs.{numberLine}
-use Rattle.play_session.specs.declared.Session.{Session}
+use Rattle.play_session.specs.Machine.{Session}
 use Rattle.play_session.specs.Replies.{replied, replyText, repliesFrom}
 use Rattle.play_session.specs.Machine.{readingStage, playingStage, overStage, formReplied, scanGrown, playedLine, lineEnded, lineTold, endTold}
 use Rattle.play_session.specs.Inner.{runs}

@@ -11,14 +11,14 @@ use borrow.Author.Tests.{eqb-true, ne-eqb}
 use Rattle.lists.specs.Choice.{pick}
 use Rattle.lists.specs.Lists.{indexOf}
 use Rattle.lists.proofs.Laws.{Known, was-true, was-false, known, pick-yes, pick-no}
-use Rattle.load.specs.declared.Loaded.{Loaded}
+use Rattle.load.specs.Load.{Loaded}
 use Rattle.load.specs.Load.{loadText}
 use Rattle.play_lines.specs.Scans.{scanAll}
 use Rattle.sheet_output.specs.Outputs.{numberLine}
 use Rattle.sheet_output.specs.Inputs.{textSpace, firstLines, linesWanted, boardPart}
 use Rattle.sheet_output.proofs.FirstLines.{index-behind, first-more, first-line, first-all}
 use Rattle.sheet_output.proofs.Prefix.{load-prefix, wanted-prefix}
-use Rattle.play_session.specs.declared.Session.{Session}
+use Rattle.play_session.specs.Machine.{Session}
 use Rattle.play_session.specs.Replies.{repliesFrom, playOutput}
 use Rattle.play_session.specs.Machine.{readingStage, newSession, textGrown, textSoFar, linesLeft, ready, expecting, boardLine, loadTold, boardTold, lineEnded, endTold}
 use Rattle.play_session.specs.Inner.{runs}

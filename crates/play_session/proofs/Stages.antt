@@ -6,7 +6,7 @@ use Prim.Native.Nat.{ℕ}
 use lib.Dec.{eqb}
 use Rattle.lists.proofs.Laws.{Known, was-true, was-false, known, pick-yes, pick-no}
 use Rattle.play_lines.specs.Scans.{scanned}
-use Rattle.play_session.specs.declared.Session.{Session}
+use Rattle.play_session.specs.Machine.{Session}
 use Rattle.play_session.specs.Machine.{readingStage, playingStage, formReplied, formText, textGrown, scanGrown, grown, boardLine, boardTold, playedLine, lineEnded, lineTold}
 use Rattle.play_session.specs.Inner.{runs}
 

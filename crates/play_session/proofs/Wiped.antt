@@ -11,15 +11,14 @@ use lib.ListN.{length}
 use Rattle.lists.specs.Choice.{both}
 use Rattle.lists.proofs.Laws.{Known, was-true, was-false, known, lt-or-ge, pick-yes, pick-no, both-true}
 use Rattle.board.specs.Limits.{maxMoves}
-use Rattle.board.specs.Record.{blank}
-use Rattle.board.specs.declared.Board.{Board}
+use Rattle.board.specs.Whole.{Board}
 use Rattle.board.specs.declared.Entry.{Entry}
-use Rattle.journal.specs.declared.Table.{Table}
+use Rattle.board.specs.Whole.{Table}
 use Rattle.journal.specs.Words.{unpacked, entriesOf, standing, journalOf, wholeOf, blankWords, isZeros, isBlankAt, blankFrom, packedOn, wordsAfter}
 use Rattle.journal.proofs.Laws.{map-set, keep-standing, blank-past}
 use Rattle.journal.proofs.After.{after-none}
 use Rattle.journal.proofs.Places.{packedOn-length, packedOn-at}
-use Rattle.solve_finish.specs.declared.Finished.{Finished}
+use Rattle.solve_finish.specs.Finishes.{Finished}
 use Rattle.solve_finish.specs.Finishes.{playedOut, finishRefusal, finishCall}
 use Rattle.solve_finish.specs.Lent.{finishOn}
 

@@ -3,7 +3,7 @@ use mathlib.Core.Bool.{true, false}
 use mathlib.Core.List.{List, [], _∷_, _++_}
 use Prim.Native.Nat.{ℕ}
 use lib.Dec.{eqb}
-use Rattle.play_session.specs.declared.Session.{Session}
+use Rattle.play_session.specs.Machine.{Session}
 use Rattle.play_session.specs.Machine.{grown, lineEnded, lineTold, endTold}
 
 -- what a session prints for the bytes, and at the end of them

@@ -2,8 +2,12 @@
 use mathlib.Core.List.{List}
 use Prim.Native.Nat.{ℕ}
 use Rattle.journal.specs.Words.{wholeOf}
-use Rattle.play_session.specs.declared.Session.{Session}
-use Rattle.play_session.specs.declared.Sitting.{Sitting}
+use Rattle.play_session.specs.Machine.{Session}
+use Rattle.play_session.specs.declared.Session as code
+
+-- the code's `Session`: its board is without the journal
+abbrev pub Sitting : Type 0
+Sitting = code.Session
 
 abbrev pub sessionOf : Sitting → List (List ℕ) → Session
 sessionOf s words = record {

@@ -9,8 +9,8 @@ use Rattle.lists.specs.Choice.{pick, both}
 use Rattle.lists.specs.Lists.{indexOf}
 use Rattle.board.specs.Limits.{maxEdges}
 use Rattle.board.specs.Record.{closedBoard}
-use Rattle.board.specs.declared.Board.{Board}
-use Rattle.board.specs.declared.Played.{Played}
+use Rattle.board.specs.Whole.{Board}
+use Rattle.board.specs.Whole.{Played}
 use Rattle.move_guard.specs.Guard.{playing}
 use Rattle.move_carry.specs.Carries.{carryCall}
 use Rattle.move_cycle.specs.Steps.{stepsOf}
@@ -19,14 +19,23 @@ use Rattle.move_undo.specs.Undone.{undoCall}
 use Rattle.solve_next.specs.declared.Suggestion.{Suggestion}
 use Rattle.solve_next.specs.Hints.{hintRefusal, hintCall}
 use Rattle.solve_finish.specs.Finishes.{finishCall}
-use Rattle.load.specs.declared.Loaded.{Loaded}
+use Rattle.load.specs.Load.{Loaded}
 use Rattle.load.specs.Load.{loadText}
 use Rattle.play_lines.specs.declared.Form.{Form}
+use Rattle.play_lines.specs.declared.Scan.{Scan}
 use Rattle.play_lines.specs.MoveLines.{hintLine}
 use Rattle.play_lines.specs.Scans.{hintForm, undoForm, finishForm, carryWhole, turnForm, noScan, scanAll, scanned, isBlank}
 use Rattle.sheet_output.specs.Outputs.{numberLine, reportOf}
 use Rattle.sheet_output.specs.Inputs.{textSpace, linesWanted}
-use Rattle.play_session.specs.declared.Session.{Session}
+
+-- a session: its stage, how many lines of the board are still to come, the text of the board as far as it is kept, the line as far as it was read, and the board
+pub record Session : Type 0 where
+  pub stage : ℕ
+  pub left : ℕ
+  pub used : ℕ
+  pub text : List ℕ
+  pub scan : Scan
+  pub board : Board
 
 -- ---- a line's answer
 

@@ -5,8 +5,8 @@ use Prim.Native.Nat.{ℕ}
 use lib.Dec.{eqb}
 use lib.ListN.{length}
 use Rattle.lists.specs.Choice.{pick}
-use Rattle.board.specs.declared.Board.{Board}
-use Rattle.board.specs.declared.Played.{Played}
+use Rattle.board.specs.Whole.{Board}
+use Rattle.board.specs.Whole.{Played}
 use Rattle.solve_next.specs.Hints.{hintCall}
 use Rattle.move_list.specs.Calls.{made, carry, turn, undo, hint}
 use Rattle.solve_finish.specs.Finishes.{finishCall}

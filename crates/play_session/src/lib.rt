@@ -1,11 +1,8 @@
 // The program `play` over pieces of its input.
 use board::Board;
 use board::Played;
-use journal::Done;
-use journal::Table;
 use journal::WORDS;
 use load::Loaded;
-use load::Opened;
 use play_lines::Form;
 use play_lines::Scan;
 use solve_next::Suggestion;
@@ -66,37 +63,14 @@ pub struct Session {
     pub board: Board,
 }
 
-// The same with the journal lent: the board is without it.
-pub struct Sitting {
-    pub stage: u32,
-    pub left: u32,
-    pub used: usize,
-    pub text: [u8; Sitting::TEXT],
-    pub scan: Scan,
-    pub board: Table,
-}
-
 // The session behind a line feed, and how many bytes were printed.
 pub struct AfterLine {
     pub session: Session,
     pub used: usize,
 }
 
-// The session behind a piece of the input, how many bytes of the piece were taken, and how many were printed.
 pub struct Fed {
     pub session: Session,
-    pub taken: usize,
-    pub used: usize,
-}
-
-// The same of a session whose journal is lent.
-pub struct SittingAfter {
-    pub session: Sitting,
-    pub used: usize,
-}
-
-pub struct SittingFed {
-    pub session: Sitting,
     pub taken: usize,
     pub used: usize,
 }
@@ -115,9 +89,9 @@ impl Session {
 
     pub const OVER: u32 = 2;
 
-    // Nothing was read yet.
+    // Nothing was read yet, and the journal is empty.
     pub fn start() -> Session
-        ensures { λ r. ⌜ r ≡ newSession ⌝ }
+        ensures { λ r. ⌜ sessionOf r noWords ≡ newSession ⌝ }
     {
         let scan = Scan::none();
         let board = Board::closed();
@@ -132,53 +106,11 @@ impl Session {
     }
 }
 
-impl Sitting {
-    // No board text is longer.
-    pub const TEXT: usize = 2048;
-
-    // The most that a line's answer takes: a number, and the longest report.
-    pub const OUTPUT: usize = 8291;
-
-    // The stages.
-    pub const READING: u32 = 0;
-
-    pub const PLAYING: u32 = 1;
-
-    pub const OVER: u32 = 2;
-
-    // Nothing was read yet, and the journal is empty.
-    pub fn start() -> Sitting
-        ensures { λ r. ⌜ sessionOf r noWords ≡ newSession ⌝ }
-    {
-        let scan = Scan::none();
-        let board = Table::closed();
-        Sitting {
-            stage: Sitting::READING,
-            left: 0,
-            used: 0,
-            text: [0; Sitting::TEXT],
-            scan: scan,
-            board: board,
-        }
-    }
-}
-
 // The number for a turn whose steps were not all kept.
-fn unkept(board: Board, form: Form) -> u32
-    ensures { λ r. ⌜ r ≡ unkept board form ⌝ }
-{
-    if !move_guard::playing(board) {
-        return 20;
-    }
-    let net = board.network;
-    if form.greatest < net.edges { 7 } else { 6 }
-}
-
-// The same of a board whose journal is lent.
-fn unkept_lent(board: Table, journal: &[[u64; WORDS]; Board::JOURNAL], form: Form) -> u32
+fn unkept(board: Board, journal: &[[u64; WORDS]; Board::JOURNAL], form: Form) -> u32
     ensures { λ r. ⌜ r ≡ unkept (wholeOf board (now (journal .entry))) form ⌝ }
 {
-    if !move_guard::playing_lent(board, journal) {
+    if !move_guard::playing(board, journal) {
         return 20;
     }
     let net = board.network;
@@ -186,52 +118,21 @@ fn unkept_lent(board: Table, journal: &[[u64; WORDS]; Board::JOURNAL], form: For
 }
 
 // A turn.
-fn turn_replied(board: Board, form: Form) -> Played
-    ensures { λ r. ⌜ r ≡ turnReplied board form ⌝ }
-{
-    let net = board.network;
-    let few = form.count <= Board::MAX_EDGES as u32;
-    let known = form.greatest < net.edges;
-    if !lists::and(few, known) {
-        let number = unkept(board, form);
-        return Played {
-            answer: number,
-            board: board,
-        };
-    }
-    let steps = form.steps;
-    move_turn::turn(board, &steps[..form.count as usize])
-}
-
-// The same with the journal lent.
-fn turn_replied_lent(board: Table, journal: &mut [[u64; WORDS]; Board::JOURNAL], form: Form) -> Done
+fn turn_replied(board: Board, journal: &mut [[u64; WORDS]; Board::JOURNAL], form: Form) -> Played
     ensures { λ r. ⌜ givenOf r (now (journal .exit)) ≡ turnReplied (wholeOf board (now (journal .entry))) form ⌝ }
 {
     let net = board.network;
     let few = form.count <= Board::MAX_EDGES as u32;
     let known = form.greatest < net.edges;
     if !lists::and(few, known) {
-        let number = unkept_lent(board, journal, form);
-        return Done {
+        let number = unkept(board, journal, form);
+        return Played {
             answer: number,
             board: board,
         };
     }
     let steps = form.steps;
-    move_turn::turn_lent(board, journal, &steps[..form.count as usize])
-}
-
-// A finish: its number, and the board after it.
-fn finish_replied(board: Board) -> Played
-    ensures { λ r. ⌜ r .answer ≡ finishCall board .answer ⌝ }
-    ensures { λ r. ⌜ r .board ≡ finishCall board .board ⌝ }
-{
-    let finished = solve_finish::finish(board);
-    let last = finished.board;
-    Played {
-        answer: finished.answer,
-        board: last,
-    }
+    move_turn::turn(board, journal, &steps[..form.count as usize])
 }
 
 // Where the places behind so many moves begin.
@@ -256,69 +157,46 @@ fn wipe_behind(moves: u32, journal: &mut [[u64; WORDS]; Board::JOURNAL])
 
 // A finish: its number, and the board after it. Places behind the moves are no part of a board: where a finish is
 // refused they are blanked, should one of them hold something, which no load leaves, and it is tried once more.
-fn finish_replied_lent(board: Table, journal: &mut [[u64; WORDS]; Board::JOURNAL]) -> Done
+fn finish_replied(board: Board, journal: &mut [[u64; WORDS]; Board::JOURNAL]) -> Played
     ensures { λ r. ⌜ r .answer ≡ finishCall (wholeOf board (now (journal .entry))) .answer ⌝ }
     ensures { λ r. ⌜ wholeOf (r .board) (now (journal .exit)) ≡
         finishCall (wholeOf board (now (journal .entry))) .board ⌝ }
 {
-    let tried = solve_finish::finish_lent(board, journal);
+    let tried = solve_finish::finish(board, journal);
     if tried.answer == 0 {
         let last = tried.board;
-        return Done {
+        return Played {
             answer: 0,
             board: last,
         };
     }
     wipe_behind(board.moves, journal);
-    let finished = solve_finish::finish_lent(board, journal);
+    let finished = solve_finish::finish(board, journal);
     let last = finished.board;
-    Done {
+    Played {
         answer: finished.answer,
         board: last,
     }
 }
 
 // What a line that asks for no hint is answered with, and the board after it.
-fn form_replied(board: Board, form: Form) -> Played
-    requires { ⌜ eqb (form .kind) hintForm ≡ false ⌝ }
-    ensures { λ r. ⌜ r ≡ formReplied board form ⌝ }
-{
-    if form.kind == Form::CARRY_WHOLE {
-        return move_carry::carry(board, form.first, form.second);
-    }
-    if form.kind == Form::TURN {
-        return turn_replied(board, form);
-    }
-    if form.kind == Form::UNDO {
-        return move_undo::undo(board);
-    }
-    if form.kind == Form::FINISH {
-        return finish_replied(board);
-    }
-    Played {
-        answer: 1,
-        board: board,
-    }
-}
-
-// The same with the journal lent.
-fn form_replied_lent(board: Table, journal: &mut [[u64; WORDS]; Board::JOURNAL], form: Form) -> Done
+fn form_replied(board: Board, journal: &mut [[u64; WORDS]; Board::JOURNAL], form: Form) -> Played
     requires { ⌜ eqb (form .kind) hintForm ≡ false ⌝ }
     ensures { λ r. ⌜ givenOf r (now (journal .exit)) ≡ formReplied (wholeOf board (now (journal .entry))) form ⌝ }
 {
     if form.kind == Form::CARRY_WHOLE {
-        return move_carry::carry_lent(board, journal, form.first, form.second);
+        return move_carry::carry(board, journal, form.first, form.second);
     }
     if form.kind == Form::TURN {
-        return turn_replied_lent(board, journal, form);
+        return turn_replied(board, journal, form);
     }
     if form.kind == Form::UNDO {
-        return move_undo::undo_lent(board, journal);
+        return move_undo::undo(board, journal);
     }
     if form.kind == Form::FINISH {
-        return finish_replied_lent(board, journal);
+        return finish_replied(board, journal);
     }
-    Done {
+    Played {
         answer: 1,
         board: board,
     }
@@ -339,25 +217,10 @@ fn put_hint(out: &mut [u8], given: Suggestion) -> usize
 }
 
 // Writes the number of an answer, and the report after an accepted finish; answers how many bytes.
-fn put_reply(out: &mut [u8], form: Form, played: Played) -> usize
-    ensures { λ r. ⌜ r ≡ length (playedText form played) ⌝ }
-    ensures { λ r. ⌜ r ≤ 8291 ⌝ }
-    ensures { λ _. ⌜ now (out .exit) ≡ sets (now (out .entry)) 0 (playedText form played) ⌝ }
-{
-    let number = sheet_output::put_number(out, 0, played.answer);
-    let finished = form.kind == Form::FINISH;
-    if !lists::and(finished, played.answer == 0) {
-        return number;
-    }
-    let last = played.board;
-    sheet_output::put_report(out, number, last)
-}
-
-// The same with the journal lent.
-fn put_reply_lent(
+fn put_reply(
     out: &mut [u8],
     form: Form,
-    played: Done,
+    played: Played,
     journal: &[[u64; WORDS]; Board::JOURNAL],
 ) -> usize
     ensures { λ r. ⌜ r ≡ length (playedText form (givenOf played (now (journal .entry)))) ⌝ }
@@ -371,7 +234,7 @@ fn put_reply_lent(
         return number;
     }
     let last = played.board;
-    sheet_output::put_report_lent(out, number, last, journal)
+    sheet_output::put_report(out, number, last, journal)
 }
 
 // Stores bytes from a place on, as many as there is room for.
@@ -406,20 +269,7 @@ fn used_after(used: usize, count: usize) -> usize
 }
 
 // Bytes of the board's text.
-fn text_grown(session: Session, bytes: &[u8]) -> Session
-    ensures { λ r. ⌜ r ≡ textGrown session (now (bytes .entry)) ⌝ }
-{
-    let text = session.text;
-    let kept = put_bytes(text, session.used, bytes);
-    let used = used_after(session.used, bytes.len());
-    let mut next = session;
-    next.used = used;
-    next.text = kept;
-    next
-}
-
-// The same, whatever words are lent.
-fn text_grown_lent(mut session: Sitting, bytes: &[u8]) -> Sitting
+fn text_grown(mut session: Session, bytes: &[u8]) -> Session
     ensures { λ r. ⌜ ((w : List (List ℕ)) → sessionOf r w ≡ textGrown (sessionOf session w) (now (bytes .entry))) ⌝ }
 {
     let text = session.text;
@@ -431,18 +281,7 @@ fn text_grown_lent(mut session: Sitting, bytes: &[u8]) -> Sitting
 }
 
 // Bytes of a line of the play.
-fn scan_grown(session: Session, bytes: &[u8]) -> Session
-    ensures { λ r. ⌜ r ≡ scanGrown session (now (bytes .entry)) ⌝ }
-{
-    let scan = session.scan;
-    let read = play_lines::read_on(scan, bytes);
-    let mut next = session;
-    next.scan = read;
-    next
-}
-
-// The same, whatever words are lent.
-fn scan_grown_lent(mut session: Sitting, bytes: &[u8]) -> Sitting
+fn scan_grown(mut session: Session, bytes: &[u8]) -> Session
     ensures { λ r. ⌜ ((w : List (List ℕ)) → sessionOf r w ≡ scanGrown (sessionOf session w) (now (bytes .entry))) ⌝ }
 {
     let scan = session.scan;
@@ -453,26 +292,13 @@ fn scan_grown_lent(mut session: Sitting, bytes: &[u8]) -> Sitting
 
 // Bytes with no line feed among them.
 fn grown(session: Session, bytes: &[u8]) -> Session
-    ensures { λ r. ⌜ r ≡ grown session (now (bytes .entry)) ⌝ }
+    ensures { λ r. ⌜ ((w : List (List ℕ)) → sessionOf r w ≡ grown (sessionOf session w) (now (bytes .entry))) ⌝ }
 {
     if session.stage == Session::READING {
         return text_grown(session, bytes);
     }
     if session.stage == Session::PLAYING {
         return scan_grown(session, bytes);
-    }
-    session
-}
-
-// The same, whatever words are lent.
-fn grown_lent(session: Sitting, bytes: &[u8]) -> Sitting
-    ensures { λ r. ⌜ ((w : List (List ℕ)) → sessionOf r w ≡ grown (sessionOf session w) (now (bytes .entry))) ⌝ }
-{
-    if session.stage == Sitting::READING {
-        return text_grown_lent(session, bytes);
-    }
-    if session.stage == Sitting::PLAYING {
-        return scan_grown_lent(session, bytes);
     }
     session
 }
@@ -490,19 +316,6 @@ fn kept(used: usize) -> usize
 
 // How many lines of the board are still to come behind one that has ended. The first one says how many there are.
 fn lines_left(session: Session) -> u32
-    ensures { λ r. ⌜ r ≡ linesLeft session ⌝ }
-{
-    if session.left != 0 {
-        return session.left - 1;
-    }
-    let text = session.text;
-    let used = kept(session.used);
-    let wanted = sheet_output::lines_wanted(&text[..used]);
-    lists::minus(wanted, 1)
-}
-
-// The same, whatever words are lent.
-fn lines_left_lent(session: Sitting) -> u32
     ensures { λ r. ⌜ ((w : List (List ℕ)) → r ≡ linesLeft (sessionOf session w)) ⌝ }
 {
     if session.left != 0 {
@@ -515,22 +328,13 @@ fn lines_left_lent(session: Sitting) -> u32
 }
 
 // The board, loaded from the text.
-fn board_loaded(session: Session) -> Loaded
-    ensures { λ r. ⌜ r ≡ loadText (textSoFar session) ⌝ }
-{
-    let text = session.text;
-    let used = kept(session.used);
-    load::load(&text[..used])
-}
-
-// The same with the journal lent, which is emptied.
-fn board_loaded_lent(session: Sitting, journal: &mut [[u64; WORDS]; Board::JOURNAL]) -> Opened
+fn board_loaded(session: Session, journal: &mut [[u64; WORDS]; Board::JOURNAL]) -> Loaded
     ensures { λ r. ⌜ loadedOf r (now (journal .exit)) ≡
         loadText (textSoFar (sessionOf session (now (journal .entry)))) ⌝ }
 {
     let text = session.text;
     let used = kept(session.used);
-    load::load_lent(&text[..used], journal)
+    load::load(&text[..used], journal)
 }
 
 // The stage behind a load: the board is played, or it was refused.
@@ -545,22 +349,7 @@ fn stage_after(answer: u32) -> u32
 }
 
 // The session with the board loaded.
-fn ready(session: Session, loaded: Loaded) -> Session
-    ensures { λ r. ⌜ r ≡ ready loaded session ⌝ }
-{
-    let stage = stage_after(loaded.answer);
-    let scan = Scan::none();
-    let board = loaded.board;
-    let mut next = session;
-    next.stage = stage;
-    next.left = 0;
-    next.scan = scan;
-    next.board = board;
-    next
-}
-
-// The same, whatever words are lent.
-fn ready_lent(mut session: Sitting, loaded: Opened) -> Sitting
+fn ready(mut session: Session, loaded: Loaded) -> Session
     ensures { λ r. ⌜ ((w : List (List ℕ)) → sessionOf r w ≡ ready (loadedOf loaded w) (sessionOf session w)) ⌝ }
 {
     let stage = stage_after(loaded.answer);
@@ -575,18 +364,6 @@ fn ready_lent(mut session: Sitting, loaded: Opened) -> Sitting
 
 // Writes the number of a refused board, and nothing for another; answers how many bytes.
 fn put_load(out: &mut [u8], loaded: Loaded) -> usize
-    ensures { λ r. ⌜ r ≡ length (loadTold loaded) ⌝ }
-    ensures { λ r. ⌜ r ≤ 8291 ⌝ }
-    ensures { λ _. ⌜ now (out .exit) ≡ sets (now (out .entry)) 0 (loadTold loaded) ⌝ }
-{
-    if loaded.answer == 0 {
-        return 0;
-    }
-    sheet_output::put_number(out, 0, loaded.answer)
-}
-
-// The same, whatever words are lent.
-fn put_load_lent(out: &mut [u8], loaded: Opened) -> usize
     ensures { λ r. ⌜ ((w : List (List ℕ)) → r ≡ length (loadTold (loadedOf loaded w))) ⌝ }
     ensures { λ r. ⌜ r ≤ 8291 ⌝ }
     ensures { λ _. ⌜ ((w : List (List ℕ)) →
@@ -599,22 +376,27 @@ fn put_load_lent(out: &mut [u8], loaded: Opened) -> usize
 }
 
 // A line of the board has ended: the next one is expected, or the board is loaded.
-fn board_line(session: Session, out: &mut [u8]) -> AfterLine
-    ensures { λ r. ⌜ r .session ≡ boardLine session ⌝ }
-    ensures { λ r. ⌜ r .used ≡ length (boardTold session) ⌝ }
+fn board_line(
+    mut session: Session,
+    journal: &mut [[u64; WORDS]; Board::JOURNAL],
+    out: &mut [u8],
+) -> AfterLine
+    ensures { λ r. ⌜ sessionOf (r .session) (now (journal .exit)) ≡
+        boardLine (sessionOf session (now (journal .entry))) ⌝ }
+    ensures { λ r. ⌜ r .used ≡ length (boardTold (sessionOf session (now (journal .entry)))) ⌝ }
     ensures { λ r. ⌜ r .used ≤ 8291 ⌝ }
-    ensures { λ _. ⌜ now (out .exit) ≡ sets (now (out .entry)) 0 (boardTold session) ⌝ }
+    ensures { λ _. ⌜ now (out .exit) ≡
+        sets (now (out .entry)) 0 (boardTold (sessionOf session (now (journal .entry)))) ⌝ }
 {
     let left = lines_left(session);
     if left != 0 {
-        let mut next = session;
-        next.left = left;
+        session.left = left;
         return AfterLine {
-            session: next,
+            session: session,
             used: 0,
         };
     }
-    let loaded = board_loaded(session);
+    let loaded = board_loaded(session, journal);
     let used = put_load(out, loaded);
     let next = ready(session, loaded);
     AfterLine {
@@ -623,64 +405,12 @@ fn board_line(session: Session, out: &mut [u8]) -> AfterLine
     }
 }
 
-// The same with the journal lent.
-fn board_line_lent(
-    mut session: Sitting,
-    journal: &mut [[u64; WORDS]; Board::JOURNAL],
-    out: &mut [u8],
-) -> SittingAfter
-    ensures { λ r. ⌜ sessionOf (r .session) (now (journal .exit)) ≡
-        boardLine (sessionOf session (now (journal .entry))) ⌝ }
-    ensures { λ r. ⌜ r .used ≡ length (boardTold (sessionOf session (now (journal .entry)))) ⌝ }
-    ensures { λ r. ⌜ r .used ≤ 8291 ⌝ }
-    ensures { λ _. ⌜ now (out .exit) ≡
-        sets (now (out .entry)) 0 (boardTold (sessionOf session (now (journal .entry)))) ⌝ }
-{
-    let left = lines_left_lent(session);
-    if left != 0 {
-        session.left = left;
-        return SittingAfter {
-            session: session,
-            used: 0,
-        };
-    }
-    let loaded = board_loaded_lent(session, journal);
-    let used = put_load_lent(out, loaded);
-    let next = ready_lent(session, loaded);
-    SittingAfter {
-        session: next,
-        used: used,
-    }
-}
-
 // A line that asks for a hint has ended: the hint is worked out once, and the board stays.
-fn hint_line(session: Session, out: &mut [u8]) -> AfterLine
-    ensures { λ r. ⌜ r .session ≡ playedLine (record {
-      answer = hintRefusal (session .board);
-      board = session .board;
-    }) session ⌝ }
-    ensures { λ r. ⌜ r .used ≡ length (suggestionText (hintCall (session .board))) ⌝ }
-    ensures { λ r. ⌜ r .used ≤ 8291 ⌝ }
-    ensures { λ _. ⌜ now (out .exit) ≡ sets (now (out .entry)) 0 (suggestionText (hintCall (session .board))) ⌝ }
-{
-    let board = session.board;
-    let given = solve_next::hint(board);
-    let used = put_hint(out, given);
-    let none = Scan::none();
-    let mut next = session;
-    next.scan = none;
-    AfterLine {
-        session: next,
-        used: used,
-    }
-}
-
-// The same with the journal lent.
-fn hint_line_lent(
-    mut session: Sitting,
+fn hint_line(
+    mut session: Session,
     journal: &[[u64; WORDS]; Board::JOURNAL],
     out: &mut [u8],
-) -> SittingAfter
+) -> AfterLine
     ensures { λ r. ⌜ sessionOf (r .session) (now (journal .entry)) ≡ playedLine (record {
       answer = hintRefusal (wholeOf (session .board) (now (journal .entry)));
       board = wholeOf (session .board) (now (journal .entry));
@@ -692,49 +422,22 @@ fn hint_line_lent(
         sets (now (out .entry)) 0 (suggestionText (hintCall (wholeOf (session .board) (now (journal .entry))))) ⌝ }
 {
     let board = session.board;
-    let given = solve_next::hint_lent(board, journal);
+    let given = solve_next::hint(board, journal);
     let used = put_hint(out, given);
     let none = Scan::none();
     session.scan = none;
-    SittingAfter {
+    AfterLine {
         session: session,
         used: used,
     }
 }
 
 // A line of the play has ended: it is answered.
-fn played_line(session: Session, out: &mut [u8]) -> AfterLine
-    ensures { λ r. ⌜ r .session ≡ playedLine (formReplied (session .board) (scanned (session .scan))) session ⌝ }
-    ensures { λ r. ⌜ r .used ≡ length (formText (session .board) (scanned (session .scan))) ⌝ }
-    ensures { λ r. ⌜ r .used ≤ 8291 ⌝ }
-    ensures { λ _. ⌜ now (out .exit) ≡
-        sets (now (out .entry)) 0 (formText (session .board) (scanned (session .scan))) ⌝ }
-{
-    let scan = session.scan;
-    let form = play_lines::whole(scan);
-    if form.kind == Form::HINT {
-        return hint_line(session, out);
-    }
-    let board = session.board;
-    let played = form_replied(board, form);
-    let used = put_reply(out, form, played);
-    let none = Scan::none();
-    let last = played.board;
-    let mut next = session;
-    next.scan = none;
-    next.board = last;
-    AfterLine {
-        session: next,
-        used: used,
-    }
-}
-
-// The same with the journal lent.
-fn played_line_lent(
-    mut session: Sitting,
+fn played_line(
+    mut session: Session,
     journal: &mut [[u64; WORDS]; Board::JOURNAL],
     out: &mut [u8],
-) -> SittingAfter
+) -> AfterLine
     ensures { λ r. ⌜ sessionOf (r .session) (now (journal .exit)) ≡
         playedLine (formReplied (wholeOf (session .board) (now (journal .entry))) (scanned (session .scan)))
         (sessionOf session (now (journal .entry))) ⌝ }
@@ -747,48 +450,27 @@ fn played_line_lent(
     let scan = session.scan;
     let form = play_lines::whole(scan);
     if form.kind == Form::HINT {
-        return hint_line_lent(session, journal, out);
+        return hint_line(session, journal, out);
     }
     let board = session.board;
-    let played = form_replied_lent(board, journal, form);
-    let used = put_reply_lent(out, form, played, journal);
+    let played = form_replied(board, journal, form);
+    let used = put_reply(out, form, played, journal);
     let none = Scan::none();
     let last = played.board;
     session.scan = none;
     session.board = last;
-    SittingAfter {
+    AfterLine {
         session: session,
         used: used,
     }
 }
 
 // A line feed.
-fn line_ended(session: Session, out: &mut [u8]) -> AfterLine
-    ensures { λ r. ⌜ r .session ≡ lineEnded session ⌝ }
-    ensures { λ r. ⌜ r .used ≡ length (lineTold session) ⌝ }
-    ensures { λ r. ⌜ r .used ≤ 8291 ⌝ }
-    ensures { λ _. ⌜ now (out .exit) ≡ sets (now (out .entry)) 0 (lineTold session) ⌝ }
-{
-    if session.stage == Session::READING {
-        let feed = [b'\n'];
-        let whole = text_grown(session, &feed);
-        return board_line(whole, out);
-    }
-    if session.stage == Session::PLAYING {
-        return played_line(session, out);
-    }
-    AfterLine {
-        session: session,
-        used: 0,
-    }
-}
-
-// The same with the journal lent.
-fn line_ended_lent(
-    session: Sitting,
+fn line_ended(
+    session: Session,
     journal: &mut [[u64; WORDS]; Board::JOURNAL],
     out: &mut [u8],
-) -> SittingAfter
+) -> AfterLine
     ensures { λ r. ⌜ sessionOf (r .session) (now (journal .exit)) ≡
         lineEnded (sessionOf session (now (journal .entry))) ⌝ }
     ensures { λ r. ⌜ r .used ≡ length (lineTold (sessionOf session (now (journal .entry)))) ⌝ }
@@ -796,15 +478,15 @@ fn line_ended_lent(
     ensures { λ _. ⌜ now (out .exit) ≡
         sets (now (out .entry)) 0 (lineTold (sessionOf session (now (journal .entry)))) ⌝ }
 {
-    if session.stage == Sitting::READING {
+    if session.stage == Session::READING {
         let feed = [b'\n'];
-        let whole = text_grown_lent(session, &feed);
-        return board_line_lent(whole, journal, out);
+        let whole = text_grown(session, &feed);
+        return board_line(whole, journal, out);
     }
-    if session.stage == Sitting::PLAYING {
-        return played_line_lent(session, journal, out);
+    if session.stage == Session::PLAYING {
+        return played_line(session, journal, out);
     }
-    SittingAfter {
+    AfterLine {
         session: session,
         used: 0,
     }
@@ -812,41 +494,12 @@ fn line_ended_lent(
 
 // Takes a piece of the input, up to and with its first line feed, and writes what is printed for it: OUTPUT bytes at
 // most. What has no room in the buffer is dropped.
-pub fn feed(session: Session, bytes: &[u8], out: &mut [u8]) -> Fed
-    ensures { λ r. ⌜ r .session ≡ fedSession session (now (bytes .entry)) ⌝ }
-    ensures { λ r. ⌜ r .taken ≡ takenOf (now (bytes .entry)) ⌝ }
-    ensures { λ r. ⌜ r .used ≡ length (fedTold session (now (bytes .entry))) ⌝ }
-    ensures { λ r. ⌜ r .used ≤ 8291 ⌝ }
-    ensures { λ _. ⌜ now (out .exit) ≡ sets (now (out .entry)) 0 (fedTold session (now (bytes .entry))) ⌝ }
-    ensures { λ r. ⌜ r .taken ≤ length (now (bytes .entry)) ⌝ }
-{
-    let at = lists::index_of(bytes, b'\n');
-    if bytes.len() <= at {
-        let next = grown(session, bytes);
-        return Fed {
-            session: next,
-            taken: bytes.len(),
-            used: 0,
-        };
-    }
-    let next = grown(session, &bytes[..at]);
-    let told = line_ended(next, out);
-    let last = told.session;
-    let taken = at + 1;
-    Fed {
-        session: last,
-        taken: taken,
-        used: told.used,
-    }
-}
-
-// The same with the journal lent.
-pub fn feed_lent(
-    session: Sitting,
+pub fn feed(
+    session: Session,
     journal: &mut [[u64; WORDS]; Board::JOURNAL],
     bytes: &[u8],
     out: &mut [u8],
-) -> SittingFed
+) -> Fed
     ensures { λ r. ⌜ sessionOf (r .session) (now (journal .exit)) ≡
         fedSession (sessionOf session (now (journal .entry))) (now (bytes .entry)) ⌝ }
     ensures { λ r. ⌜ r .taken ≡ takenOf (now (bytes .entry)) ⌝ }
@@ -859,18 +512,18 @@ pub fn feed_lent(
 {
     let at = lists::index_of(bytes, b'\n');
     if bytes.len() <= at {
-        let next = grown_lent(session, bytes);
-        return SittingFed {
+        let next = grown(session, bytes);
+        return Fed {
             session: next,
             taken: bytes.len(),
             used: 0,
         };
     }
     let taken = at + 1;
-    let next = grown_lent(session, &bytes[..at]);
-    let told = line_ended_lent(next, journal, out);
+    let next = grown(session, &bytes[..at]);
+    let told = line_ended(next, journal, out);
     let last = told.session;
-    SittingFed {
+    Fed {
         session: last,
         taken: taken,
         used: told.used,
@@ -878,28 +531,8 @@ pub fn feed_lent(
 }
 
 // Writes what is printed at the end of the input, and answers how many bytes.
-pub fn close(session: Session, out: &mut [u8]) -> usize
-    ensures { λ r. ⌜ r ≡ length (endTold session) ⌝ }
-    ensures { λ r. ⌜ r ≤ 8291 ⌝ }
-    ensures { λ _. ⌜ now (out .exit) ≡ sets (now (out .entry)) 0 (endTold session) ⌝ }
-{
-    if session.stage == Session::READING {
-        let loaded = board_loaded(session);
-        return put_load(out, loaded);
-    }
-    if session.stage == Session::PLAYING {
-        let scan = session.scan;
-        if play_lines::is_blank(scan) {
-            return 0;
-        }
-        return sheet_output::put_number(out, 0, 1);
-    }
-    0
-}
-
-// The same with the journal lent.
-pub fn close_lent(
-    session: Sitting,
+pub fn close(
+    session: Session,
     journal: &mut [[u64; WORDS]; Board::JOURNAL],
     out: &mut [u8],
 ) -> usize
@@ -908,11 +541,11 @@ pub fn close_lent(
     ensures { λ _. ⌜ now (out .exit) ≡
         sets (now (out .entry)) 0 (endTold (sessionOf session (now (journal .entry)))) ⌝ }
 {
-    if session.stage == Sitting::READING {
-        let loaded = board_loaded_lent(session, journal);
-        return put_load_lent(out, loaded);
+    if session.stage == Session::READING {
+        let loaded = board_loaded(session, journal);
+        return put_load(out, loaded);
     }
-    if session.stage == Sitting::PLAYING {
+    if session.stage == Session::PLAYING {
         let scan = session.scan;
         if play_lines::is_blank(scan) {
             return 0;

@@ -4,25 +4,13 @@ use mathlib.Core.Path.{_≡_, ap, _∙_}
 use mathlib.Core.List.{List}
 use Prim.Native.Nat.{ℕ}
 use lib.Seq.{sets}
-use Rattle.board.specs.declared.Board.{Board}
-use Rattle.load.specs.declared.Loaded.{Loaded}
 use Rattle.load.specs.Load.{loadText}
-use Rattle.solve_finish.specs.declared.Finished.{Finished}
-use Rattle.solve_finish.specs.Finishes.{finishCall}
 use Rattle.solve_next.specs.declared.Suggestion.{Suggestion}
 use Rattle.move_list.specs.Calls.{Call, played, answers, hintsOf, noted}
 use Rattle.theorem_list.specs.Faithful.{Faithful}
 use Rattle.theorem_list.proofs.EveryList.{every-list}
-use Rattle.playthrough.specs.declared.Outcome.{Outcome}
+use Rattle.playthrough.specs.Through.{Outcome}
 use Rattle.playthrough.specs.Through.{outcome, Held, Holds}
-
--- what load, the calls and finish gave, each from what the one before gave
-module _ (text : List ℕ) (cs : List Call) (l : Loaded) (loads : l ≡ loadText text) where
-  pub gathered : (b : Board) (f : Finished) → b ≡ played (l .board) cs → f ≡ finishCall b → record { loading = l .answer; board = b; finish = f } ≡ outcome text cs
-  gathered b f plays ends = rw (ends, plays, loads)
-
-  pub from-load : {A : Type 0} (f : Board → A) → f (l .board) ≡ f (loadText text .board)
-  from-load f = rw loads
 
 pub held : (text : List ℕ) (cs : List Call) (given given' hints hints' : List ℕ) (r : Outcome) → r ≡ outcome text cs
     → given' ≡ sets given 0 (answers (loadText text .board) cs) → hints' ≡ noted hints 0 (hintsOf (loadText text .board) cs)

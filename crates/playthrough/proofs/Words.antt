@@ -4,30 +4,29 @@ use mathlib.Core.Path.{_≡_, refl, sym, ap, _∙_}
 use mathlib.Core.List.{List}
 use Prim.Native.Nat.{ℕ, zero, suc, _+_, _-_, _≤_}
 use native.Mathlib.Omega.{arith}
-use lib.ListN.{length, getD, set}
+use lib.ListN.{getD}
 use lib.Dec.{eqb}
 use Rattle.lists.proofs.Laws.{Known, was-true, was-false, known, pick-yes, pick-no}
 use Rattle.board.specs.Record.{blank}
-use Rattle.board.specs.declared.Board.{Board}
+use Rattle.board.specs.Whole.{Board}
 use Rattle.board.specs.declared.Entry.{Entry}
 use Rattle.journal.specs.Words.{packed, unpacked, entriesOf, standing, wholeOf, noWords, packedOn, wordsAfter, packedAll}
-use Rattle.journal.specs.declared.Table.{Table}
+use Rattle.board.specs.Whole.{Table}
 use Rattle.journal.proofs.Laws.{map-set, keep-standing}
 use Rattle.journal.proofs.After.{after-many}
 use Rattle.load.specs.Load.{loadText}
 use Rattle.load.specs.Lent.{loadedOf}
-use Rattle.load.specs.declared.Loaded.{Loaded}
-use Rattle.load.specs.declared.Opened.{Opened}
-use Rattle.solve_finish.specs.declared.Finished.{Finished}
-use Rattle.solve_finish.specs.declared.Ended.{Ended}
+use Rattle.load.specs.Load.{Loaded}
+use Rattle.load.specs.Lent.{Opened}
+use Rattle.solve_finish.specs.Finishes.{Finished}
+use Rattle.solve_finish.specs.Lent.{Ended}
 use Rattle.solve_finish.specs.Finishes.{playedOut, finishRefusal, ended, finishCall}
 use Rattle.solve_finish.specs.Lent.{endedOf, finishOn}
-use Rattle.solve_finish.proofs.Lent.{Further, further-out, finish-on-packed, finish-packed}
+use Rattle.solve_finish.proofs.Lent.{further-out, finish-on-packed, finish-packed}
 use Rattle.move_list.specs.Calls.{Call, played}
 use Rattle.move_list.specs.Words.{wordsPlayed}
 use Rattle.move_list.proofs.Worded.{Kept}
 use Rattle.theorem_list.proofs.Words.{calls-kept}
-use Rattle.playthrough.specs.declared.Gone.{Gone}
 use Rattle.playthrough.specs.Through.{outcome}
 use Rattle.playthrough.specs.Lent.{outcomeOf}
 

@@ -3,13 +3,19 @@ use mathlib.Core.Path.{_≡_}
 use mathlib.Core.List.{List, []}
 use Prim.Native.Nat.{ℕ}
 use lib.Seq.{sets}
+use Rattle.board.specs.Whole.{Board}
 use Rattle.load.specs.Load.{loadText}
-use Rattle.solve_finish.specs.Finishes.{finishCall}
+use Rattle.solve_finish.specs.Finishes.{Finished, finishCall}
 use Rattle.move_list.specs.Calls.{Call, played, noted}
 use Rattle.theorem_list.specs.Player.{says, suggests}
 use Rattle.theorem_list.specs.Complete.{Complete}
 use Rattle.theorem_list.specs.Faithful.{Faithful}
-use Rattle.playthrough.specs.declared.Outcome.{Outcome}
+
+-- what a whole play gives: the answer of the load, the board after the calls, and what the finish gave
+pub record Outcome : Type 0 where
+  pub loading : ℕ
+  pub board : Board
+  pub finish : Finished
 
 -- what is loaded, the board after the calls, and what finish makes of it
 abbrev pub outcome : List ℕ → List Call → Outcome

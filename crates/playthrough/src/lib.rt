@@ -1,8 +1,6 @@
 // A whole play as one call: load, a list of calls, and a finish.
 use board::Board;
-use journal::Table;
 use journal::WORDS;
-use solve_finish::Ended;
 use solve_finish::Finished;
 ghost use mathlib.Core.Path.{_≡_};
 ghost use lib.Seq.{sets};
@@ -21,54 +19,16 @@ pub struct Outcome {
 }
 
 // Loads a text, makes the calls (crates/move_list: three numbers a call, and the steps of the turns), and finishes the
-// board. The answers and the moves of the hints go into the buffers.
+// board. The answers and the moves of the hints go into the buffers, the standing moves and those of the finish into
+// the journal.
 pub fn play_through(
     text: &[u8],
     codes: &[u32],
     steps: &[u8],
     given: &mut [u32],
     hints: &mut [u32],
-) -> Outcome
-    ensures { λ r. ⌜ r ≡ outcome (now (text .entry)) (callsOf (now (steps .entry)) (now (codes .entry))) ⌝ }
-    ensures { λ _. ⌜ now (given .exit) ≡
-        sets (now (given .entry)) 0 (answers (loadText (now (text .entry)) .board)
-        (callsOf (now (steps .entry)) (now (codes .entry)))) ⌝ }
-    ensures { λ _. ⌜ now (hints .exit) ≡
-        noted (now (hints .entry)) 0 (hintsOf (loadText (now (text .entry)) .board)
-        (callsOf (now (steps .entry)) (now (codes .entry)))) ⌝ }
-    ensures { λ r. ⌜ Holds (now (text .entry)) (callsOf (now (steps .entry)) (now (codes .entry))) (now (given .entry))
-        (now (given .exit)) (now (hints .entry)) (now (hints .exit)) r ⌝ }
-{
-    let loaded = load::load(text);
-    let start = loaded.board;
-    let loading = loaded.answer;
-    let board = move_list::run(start, codes, steps, given, hints);
-    let finish = solve_finish::finish(board);
-    Outcome {
-        loading: loading,
-        board: board,
-        finish: finish,
-    }
-}
-
-// What a whole play gives: the answer of the load, the board after the calls, and what the finish gave.
-pub struct Gone {
-    pub loading: u32,
-    pub board: Table,
-    pub finish: Ended,
-}
-
-// Loads a text, makes the calls (crates/move_list: three numbers a call, and the steps of the turns), and finishes the
-// board. The answers and the moves of the hints go into the buffers, the standing moves and those of the finish into
-// the journal.
-pub fn play_through_lent(
-    text: &[u8],
-    codes: &[u32],
-    steps: &[u8],
-    given: &mut [u32],
-    hints: &mut [u32],
     journal: &mut [[u64; WORDS]; Board::JOURNAL],
-) -> Gone
+) -> Outcome
     ensures { λ r. ⌜ outcomeOf r (now (journal .exit)) ≡
         outcome (now (text .entry)) (callsOf (now (steps .entry)) (now (codes .entry))) ⌝ }
     ensures { λ _. ⌜ now (given .exit) ≡
@@ -82,12 +42,12 @@ pub fn play_through_lent(
     ensures { λ r. ⌜ Holds (now (text .entry)) (callsOf (now (steps .entry)) (now (codes .entry))) (now (given .entry))
         (now (given .exit)) (now (hints .entry)) (now (hints .exit)) (outcomeOf r (now (journal .exit))) ⌝ }
 {
-    let loaded = load::load_lent(text, journal);
+    let loaded = load::load(text, journal);
     let start = loaded.board;
     let loading = loaded.answer;
-    let board = move_list::run_lent(start, journal, codes, steps, given, hints);
-    let finish = solve_finish::finish_lent(board, journal);
-    Gone {
+    let board = move_list::run(start, journal, codes, steps, given, hints);
+    let finish = solve_finish::finish(board, journal);
+    Outcome {
         loading: loading,
         board: board,
         finish: finish,

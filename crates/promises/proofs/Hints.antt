@@ -3,7 +3,7 @@
 use mathlib.Core.Path.{_≡_, refl, sym, ap, _∙_}
 use mathlib.Core.Bool.{true, false}
 use mathlib.Core.Logic.{inl, inr}
-use mathlib.Core.List.{List, [], _∷_, _++_}
+use mathlib.Core.List.{List, [], _∷_}
 use Prim.Native.Nat.{ℕ, zero, suc, _<_, _≤_}
 use native.Mathlib.Omega.{arith}
 use lib.Dec.{eqb}
@@ -13,15 +13,14 @@ use Rattle.lists.specs.Choice.{pick, both}
 use Rattle.lists.specs.Inner.{Below}
 use Rattle.lists.proofs.Laws.{Known, was-true, was-false, known, pick-yes, pick-no}
 use Rattle.board.specs.Limits.{maxVertices}
-use Rattle.board.specs.declared.Board.{Board}
+use Rattle.board.specs.Whole.{Board}
 use Rattle.graph_flows.specs.Trails.{Step, In, edgeOf, edgesOf}
 use Rattle.move_guard.proofs.Answers.{answered-yes}
 use Rattle.move_carry.specs.Opens.{openTerminal, someOpen}
 use Rattle.move_carry.specs.Carries.{carryCall}
 use Rattle.move_turn.specs.Turns.{turnCall}
 use Rattle.solve_walk.proofs.Packed.{cycle-short}
-use Rattle.solve_next.specs.declared.Advice.{Advice}
-use Rattle.solve_next.specs.Choosing.{Act, relocate, augment, noKind, allHome, chosenEdge, judge, acted, nextCycle, nextAct, noAdvice, adviceOf, actOf}
+use Rattle.solve_next.specs.Choosing.{Act, relocate, augment, noKind, allHome, chosenEdge, judge, acted, nextCycle, nextAct, adviceOf, actOf}
 use Rattle.solve_next.specs.Hints.{hintCall}
 use Rattle.solve_next.proofs.Advised.{next-carry, next-turn}
 use Rattle.solve_finish.specs.Finishes.{ended, finishCall}
@@ -29,7 +28,7 @@ use Rattle.move_list.specs.Calls.{made}
 use Rattle.report_routes.specs.Routes.{route, load}
 use Rattle.report.specs.Reports.{reportText}
 use Rattle.play_lines.specs.Orders.{other, fieldsOf, isLetter, byFields, orderOf}
-use Rattle.play_lines.specs.MoveLines.{moveText, moveLine, hintLine, callFor, longestHint}
+use Rattle.play_lines.specs.MoveLines.{moveLine, hintLine, callFor, longestHint}
 use Rattle.play_lines.proofs.MovesRead.{ShortMove, move-read}
 use Rattle.play_lines.proofs.MovesShort.{SmallMove, move-line-short}
 use Rattle.theorem_keep.proofs.Carriable.{carry-facts}

@@ -2,18 +2,18 @@
 -- a turn hold on any board.
 use mathlib.Core.Path.{_≡_, refl, ap}
 use mathlib.Core.Bool.{true, false}
-use mathlib.Core.Logic.{_⊎_, _↔_}
+use mathlib.Core.Logic.{_↔_}
 use mathlib.Core.List.{List}
-use Prim.Native.Nat.{ℕ, _+_, _<_, _≤_}
+use Prim.Native.Nat.{ℕ, _<_}
 use native.Mathlib.Omega.{arith}
 use Rattle.lists.proofs.Laws.{Known, was-true, was-false, known}
 use Rattle.sets.specs.Sets.{hasBit}
-use Rattle.board.specs.declared.Board.{Board}
+use Rattle.board.specs.Whole.{Board}
 use Rattle.graph_flows.specs.Paths.{Unparted}
-use Rattle.graph_flows.specs.Trails.{Step, down, up, In}
+use Rattle.graph_flows.specs.Trails.{Step}
 use Rattle.load.specs.Load.{loadText}
 use Rattle.load.proofs.Loads.{load-accepted}
-use Rattle.move_guard.specs.Parts.{flow, tail, head, marked, demand, place}
+use Rattle.move_guard.specs.Parts.{flow, tail, head, marked}
 use Rattle.move_edges.specs.Marking.{singular, fresh}
 use Rattle.move_carry.specs.Carries.{carried}
 use Rattle.move_cycle.specs.Amounts.{amount}
@@ -25,7 +25,7 @@ use Rattle.theorem_keep.proofs.Kept.{joined}
 use Rattle.theorem_keep.proofs.Single.{straight-unparted}
 use Rattle.theorem_keep.proofs.Carriable.{carry-facts, carry-accepted}
 use Rattle.theorem_keep.proofs.Turnable.{turn-facts, turn-accepted}
-use Rattle.theorem_keep.proofs.TurnedMarks.{Fresh, fresh-facts, fresh-of, unparted-single}
+use Rattle.theorem_keep.proofs.TurnedMarks.{fresh-facts, fresh-of, unparted-single}
 use Rattle.theorem_keep.proofs.MarkedEdges.{turn-marks, marked-singular}
 use Rattle.theorem_keep.proofs.Amounted.{SomeDown, amount-down, amount-above, amount-up, amount-attained, some-down}
 use Rattle.theorem_keep.proofs.Potential.{level, level-rises}
@@ -33,7 +33,6 @@ use Rattle.theorem_keep.proofs.Standing.{Standing, carry-undone, turn-undone}
 use Rattle.theorem_list.proofs.Degrees.{starts}
 use Rattle.theorem_list.proofs.Stops.{none-positive}
 use Rattle.theorem_list.proofs.Next.{next-accepted}
-use Rattle.promises.specs.Plays.{OfPlay}
 use Rattle.promises.specs.Moves.{AboutMoves}
 use Rattle.promises.proofs.Plays.{play-standing}
 

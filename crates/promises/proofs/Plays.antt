@@ -3,11 +3,10 @@ use mathlib.Core.Path.{_≡_, ap, _∙_}
 use mathlib.Core.List.{List}
 use Prim.Native.Nat.{ℕ}
 use Rattle.board.specs.Record.{finishedStage}
-use Rattle.board.specs.declared.Board.{Board}
-use Rattle.board.specs.declared.Network.{Network}
+use Rattle.board.specs.Whole.{Board}
 use Rattle.load.specs.Load.{loadText}
-use Rattle.solve_finish.specs.declared.Finished.{Finished}
-use Rattle.solve_finish.specs.Finishes.{playedOut, ended, finishCall}
+use Rattle.solve_finish.specs.Finishes.{Finished}
+use Rattle.solve_finish.specs.Finishes.{playedOut, ended}
 use Rattle.theorem_keep.proofs.Standing.{Standing}
 use Rattle.theorem_list.specs.Faithful.{Faithful}
 use Rattle.theorem_list.proofs.EveryList.{every-list}

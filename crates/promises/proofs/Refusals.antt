@@ -12,8 +12,8 @@ use borrow.Author.Tests.{eq-eqb, ne-eqb, eqb-true, le-leb}
 use Rattle.lists.specs.Choice.{pick, both}
 use Rattle.lists.proofs.Laws.{Known, was-true, was-false, known, pick-yes, pick-no, both-true}
 use Rattle.board.specs.Record.{playStage, finishedStage, closedBoard}
-use Rattle.board.specs.declared.Board.{Board}
-use Rattle.board.specs.declared.Played.{Played}
+use Rattle.board.specs.Whole.{Board}
+use Rattle.board.specs.Whole.{Played}
 use Rattle.graph_flows.specs.Trails.{Step}
 use Rattle.text_rules.specs.Rules.{lawful}
 use Rattle.text_rules.proofs.Meaning.{lawful-tested}
@@ -30,8 +30,7 @@ use Rattle.move_undo.specs.Undone.{undoRefusal, undone, undoCall}
 use Rattle.move_list.specs.Calls.{Call, carry, turn, undo, hint, made}
 use Rattle.solve_next.specs.Choosing.{noAdvice}
 use Rattle.solve_next.specs.Hints.{hintRefusal, hintCall}
-use Rattle.solve_next.specs.declared.Suggestion.{Suggestion}
-use Rattle.solve_finish.specs.declared.Finished.{Finished}
+use Rattle.solve_finish.specs.Finishes.{Finished}
 use Rattle.solve_finish.specs.Finishes.{playedOut, ended, finishRefusal, finishCall}
 use Rattle.report_routes.specs.Routes.{route}
 use Rattle.report_routes.specs.Tables.{routesFit}

@@ -1,22 +1,19 @@
 -- The shelf, the sheets and what the programs print: each is proved where its definition stands, and gathered here.
 use mathlib.Core.Path.{_≡_, refl, ap, _∙_}
-use mathlib.Core.Bool.{true}
 use mathlib.Core.Logic.{_≢_}
 use mathlib.Core.List.{List}
 use Prim.Native.Nat.{ℕ, _≤_, _<_}
 use native.Mathlib.Omega.{arith}
-use lib.Dec.{leb, eqb}
+use lib.Dec.{leb}
 use lib.ListN.{length, getD}
 use borrow.Author.Tests.{ne-eqb, le-leb, lt-leb, leb-true}
 use Rattle.lists.proofs.Laws.{pick-yes, pick-no}
-use Rattle.board.specs.declared.Board.{Board}
+use Rattle.board.specs.Whole.{Board}
 use Rattle.board.specs.declared.Network.{Network}
 use Rattle.text.specs.Results.{readText}
 use Rattle.graph_flows.proofs.Cancel.{nothing-cancelled}
 use Rattle.load.specs.Load.{acyclicOf, loadText}
 use Rattle.load.proofs.Loads.{loaded-lawful}
-use Rattle.solve_finish.specs.declared.Finished.{Finished}
-use Rattle.solve_finish.specs.Finishes.{finishCall}
 use Rattle.report.specs.Reports.{loadRow, reportText, unreported}
 use Rattle.sheet_output.specs.Outputs.{numberLine, sheetOutput}
 use Rattle.sheet_output.proofs.Prefix.{sheet-prefix}
@@ -28,7 +25,7 @@ use Rattle.catalog.proofs.Assured.{loads}
 use Rattle.theorem_keep.proofs.Network.{acyclic-of-below}
 use Rattle.theorem_list.proofs.Reports.{every-report, finished-acyclic, sheet-printed}
 use Rattle.theorem_list.proofs.Longest.{report-short}
-use Rattle.promises.specs.Plays.{OfPlay, OfFinish}
+use Rattle.promises.specs.Plays.{OfFinish}
 use Rattle.promises.specs.Sheets.{FirstFlow, AboutSheets}
 use Rattle.promises.proofs.Lines.{play-printed, play-refused}
 

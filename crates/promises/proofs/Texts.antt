@@ -1,15 +1,11 @@
 -- Board texts. The load answers as the reader does, which accepts the texts of lawful networks and no others; and no call changes the network that the writer prints.
-use mathlib.Core.Path.{_≡_, refl, sym, ap, _∙_, subst}
-use mathlib.Core.Logic.{_↔_}
+use mathlib.Core.Path.{_≡_, sym, ap, _∙_}
 use mathlib.Core.List.{List}
-use Prim.Native.Nat.{ℕ, _<_, _≤_}
+use Prim.Native.Nat.{ℕ, _≤_}
 use native.Mathlib.Omega.{arith}
-use lib.ListN.{length}
 use Rattle.decimal.proofs.Laws.{number-decimal, number-canonical, number-below}
 use Rattle.board.specs.Record.{playStage, finishedStage}
-use Rattle.board.specs.declared.Board.{Board}
-use Rattle.board.specs.declared.Network.{Network}
-use Rattle.text_rules.specs.Rules.{Lawful}
+use Rattle.board.specs.Whole.{Board}
 use Rattle.text.specs.Text.{textOf}
 use Rattle.text.specs.Results.{readText}
 use Rattle.text.specs.declared.Reading.{Reading}

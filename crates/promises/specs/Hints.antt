@@ -6,7 +6,7 @@ use Prim.Native.Nat.{ℕ, zero, suc, _<_, _≤_}
 use lib.Dec.{eqb}
 use lib.ListN.{length}
 use Rattle.lists.specs.Choice.{pick}
-use Rattle.board.specs.declared.Board.{Board}
+use Rattle.board.specs.Whole.{Board}
 use Rattle.move_guard.specs.Parts.{place}
 use Rattle.solve_next.specs.declared.Advice.{Advice}
 use Rattle.solve_next.specs.Choosing.{Act, noKind, allHome, judge, acted, noAdvice, actOf}

@@ -5,7 +5,7 @@ use mathlib.Core.Logic.{_⊎_, _↔_}
 use mathlib.Core.List.{List}
 use Prim.Native.Nat.{ℕ, _+_, _<_, _≤_}
 use Rattle.sets.specs.Sets.{hasBit}
-use Rattle.board.specs.declared.Board.{Board}
+use Rattle.board.specs.Whole.{Board}
 use Rattle.graph_flows.specs.Paths.{Unparted}
 use Rattle.graph_flows.specs.Trails.{Step, down, up, In}
 use Rattle.load.specs.Load.{loadText}

@@ -7,7 +7,7 @@ use mathlib.Core.List.{List, _++_}
 use Prim.Native.Nat.{ℕ}
 use lib.ListN.{length, drop}
 use Rattle.board.specs.Record.{closedBoard}
-use Rattle.board.specs.declared.Board.{Board}
+use Rattle.board.specs.Whole.{Board}
 use Rattle.graph_flows.specs.Trails.{Step}
 use Rattle.text.specs.Results.{writable, writeText, written}
 use Rattle.load.specs.Load.{loadText}

@@ -5,7 +5,7 @@ use mathlib.Core.Logic.{_≢_}
 use mathlib.Core.List.{List, [], _++_}
 use Prim.Native.Nat.{ℕ, _≤_, _<_}
 use lib.ListN.{length, getD, take}
-use Rattle.board.specs.declared.Board.{Board}
+use Rattle.board.specs.Whole.{Board}
 use Rattle.board.specs.declared.Network.{Network}
 use Rattle.text.specs.Results.{readText}
 use Rattle.graph_flows.specs.Paths.{Acyclic}
@@ -18,7 +18,7 @@ use Rattle.play_session.specs.Replies.{playOutput}
 use Rattle.play_session.specs.Machine.{newSession, endTold}
 use Rattle.descriptors.specs.Serving.{inputOf, servedPieces, toldPieces}
 use Rattle.catalog.specs.Table.{table}
-use Rattle.catalog.specs.Catalog.{boards, catalogText, catalogCall, allAccepted}
+use Rattle.catalog.specs.Catalog.{catalogText, catalogCall, allAccepted}
 use Rattle.promises.specs.Plays.{OfPlay, OfFinish}
 use Rattle.promises.specs.Lines.{ordersFrom, said}
 

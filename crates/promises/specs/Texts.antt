@@ -1,12 +1,12 @@
 -- Document 01, "Board text".
 use mathlib.Core.Path.{_≡_}
-use mathlib.Core.Logic.{_⊎_, _↔_}
+use mathlib.Core.Logic.{_↔_}
 use mathlib.Core.List.{List, _++_}
 use Prim.Native.Nat.{ℕ, _<_, _≤_}
 use lib.ListN.{length, drop}
 use Rattle.decimal.specs.Decimal.{numberOf, decimal}
 use Rattle.decimal.specs.declared.Number.the-variants.{Value}
-use Rattle.board.specs.declared.Board.{Board}
+use Rattle.board.specs.Whole.{Board}
 use Rattle.board.specs.declared.Network.{Network}
 use Rattle.text_rules.specs.Rules.{Lawful}
 use Rattle.text.specs.Text.{textOf}

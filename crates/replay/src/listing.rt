@@ -3,9 +3,8 @@
 use super::framing;
 use board::Board;
 use board::Move;
-use journal::Table;
 use journal::WORDS;
-use play_session::Sitting;
+use play_session::Session;
 ghost use Prim.Native.Nat.{_≤_};
 
 // 1 for a carry, 0 for a turn.
@@ -34,7 +33,7 @@ fn carries(journal: &[[u64; WORDS]; Board::JOURNAL], moves: u32) -> u32
 }
 
 // The line of a board that was finished.
-fn print_counts(number: u32, board: Table, journal: &[[u64; WORDS]; Board::JOURNAL]) -> bool {
+fn print_counts(number: u32, board: Board, journal: &[[u64; WORDS]; Board::JOURNAL]) -> bool {
     let net = board.network;
     let carried = carries(journal, board.moves);
     let row = [
@@ -53,20 +52,20 @@ fn print_counts(number: u32, board: Table, journal: &[[u64; WORDS]; Board::JOURN
 // The line of a board, its text and its report.
 fn print_board(number: u32, text: &[u8]) -> bool {
     let mut journal = [[0u64; WORDS]; Board::JOURNAL];
-    let loaded = load::load_lent(text, &mut journal);
+    let loaded = load::load(text, &mut journal);
     let board = loaded.board;
-    let finished = solve_finish::finish_lent(board, &mut journal);
+    let finished = solve_finish::finish(board, &mut journal);
     let last = finished.board;
     let counted = print_counts(number, last, &journal);
     let written = descriptors::print_part(text, text.len());
-    let mut out = [0u8; Sitting::OUTPUT];
-    let reported = descriptors::print_sheet_lent(text, &mut journal, &mut out);
+    let mut out = [0u8; Session::OUTPUT];
+    let reported = descriptors::print_sheet(text, &mut journal, &mut out);
     counted && written && reported
 }
 
 // The board of a number, or what the number is refused with.
 fn show(number: u32) -> bool {
-    let mut space = [0u8; Sitting::TEXT];
+    let mut space = [0u8; Session::TEXT];
     let written = catalog::write(number, &mut space);
     let used = written.used;
     if written.answer != 0 {

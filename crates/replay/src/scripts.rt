@@ -3,11 +3,10 @@
 // does; then it prints a line with a dash.
 use super::framing;
 use board::Board;
-use journal::Table;
 use journal::WORDS;
 use libc::STDIN_FILENO;
 use libc::STDOUT_FILENO;
-use play_session::Sitting;
+use play_session::Session;
 ghost use Prim.Native.Nat.{_≤_};
 ghost use lib.ListN.{length};
 
@@ -38,13 +37,13 @@ fn read_piece(space: &mut [u8], piece: u8, left: u32) -> usize
 
 // A session behind a piece, and how many bytes the piece had.
 struct Stepped {
-    session: Sitting,
+    session: Session,
     taken: u32,
 }
 
 // Reads a piece and serves it.
 fn serve_piece(
-    session: Sitting,
+    session: Session,
     journal: &mut [[u64; WORDS]; Board::JOURNAL],
     piece: u8,
     left: u32,
@@ -53,7 +52,7 @@ fn serve_piece(
 {
     let mut space = [0u8; 255];
     let n = read_piece(&mut space, piece, left);
-    let served = descriptors::serve_lent(session, journal, &space[..n]);
+    let served = descriptors::serve(session, journal, &space[..n]);
     let next = served.session;
     Stepped {
         session: next,
@@ -64,7 +63,7 @@ fn serve_piece(
 // Plays a script of so many bytes.
 fn play_script(piece: u8, length: u32) -> bool {
     let mut journal = [[0u64; WORDS]; Board::JOURNAL];
-    let mut session = Sitting::start();
+    let mut session = Session::start();
     let mut left = length;
     while 0 < left {
         let next = serve_piece(session, &mut journal, piece, left);
@@ -75,8 +74,8 @@ fn play_script(piece: u8, length: u32) -> bool {
         }
         left -= taken;
     }
-    let mut out = [0u8; Sitting::OUTPUT];
-    descriptors::close_lent(session, &mut journal, &mut out)
+    let mut out = [0u8; Session::OUTPUT];
+    descriptors::close(session, &mut journal, &mut out)
 }
 
 // Reads past so many bytes.
@@ -94,15 +93,15 @@ fn skip(length: u32) -> bool {
 }
 
 // What the call `sheet` answers on a board, with this room, and its text.
-fn report_into(board: Table, journal: &[[u64; WORDS]; Board::JOURNAL], room: &mut [u8]) -> bool {
-    let written = report::sheet_lent(board, journal, room);
+fn report_into(board: Board, journal: &[[u64; WORDS]; Board::JOURNAL], room: &mut [u8]) -> bool {
+    let written = report::sheet(board, journal, room);
     let answer_printed = framing::print_line(written.answer);
     let printed = descriptors::print_part(room, written.used);
     answer_printed && printed
 }
 
 // The same with so many bytes of room.
-fn report(board: Table, journal: &[[u64; WORDS]; Board::JOURNAL], length: usize) -> bool {
+fn report(board: Board, journal: &[[u64; WORDS]; Board::JOURNAL], length: usize) -> bool {
     let mut space = [0u8; 9000];
     if space.len() < length {
         return false;
@@ -113,11 +112,11 @@ fn report(board: Table, journal: &[[u64; WORDS]; Board::JOURNAL], length: usize)
 // The report before a finish; the finish; and the report with too little room and with enough.
 fn call_script(text: &[u8]) -> bool {
     let mut journal = [[0u64; WORDS]; Board::JOURNAL];
-    let loaded = load::load_lent(text, &mut journal);
+    let loaded = load::load(text, &mut journal);
     let board = loaded.board;
     let loading = framing::print_line(loaded.answer);
     let before = report(board, &journal, 9000);
-    let finished = solve_finish::finish_lent(board, &mut journal);
+    let finished = solve_finish::finish(board, &mut journal);
     let finishing = framing::print_line(finished.answer);
     let mut last = board;
     if finished.answer == 0 {
@@ -141,8 +140,8 @@ fn fill(space: &mut [u8], n: usize) -> bool {
 fn answer(letter: u8, text: &[u8]) -> bool {
     if letter == b'S' {
         let mut journal = [[0u64; WORDS]; Board::JOURNAL];
-        let mut out = [0u8; Sitting::OUTPUT];
-        descriptors::print_sheet_lent(text, &mut journal, &mut out)
+        let mut out = [0u8; Session::OUTPUT];
+        descriptors::print_sheet(text, &mut journal, &mut out)
     } else {
         call_script(text)
     }
@@ -150,7 +149,7 @@ fn answer(letter: u8, text: &[u8]) -> bool {
 
 // A script for `sheet` or a caller: the first bytes decide, the rest is read past.
 fn text_script(letter: u8, length: u32) -> bool {
-    let mut space = [0u8; Sitting::TEXT];
+    let mut space = [0u8; Session::TEXT];
     let kept = least(length, 2048);
     let n = kept as usize;
     let came = fill(&mut space, n);

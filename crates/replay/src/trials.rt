@@ -6,7 +6,7 @@ use board::Board;
 use journal::WORDS;
 use libc::STDIN_FILENO;
 use libc::STDOUT_FILENO;
-use solve_finish::Ended;
+use solve_finish::Finished;
 ghost use Prim.Native.Nat.{_+_, _≤_};
 ghost use lib.ListN.{length};
 
@@ -135,7 +135,7 @@ fn print_journal(journal: &[[u64; WORDS]; Board::JOURNAL], moves: u32) -> bool {
 }
 
 // What the finish gave: its answer, the count of its moves, and the moves that stand on its board, after their count.
-fn print_finish(finish: Ended, journal: &[[u64; WORDS]; Board::JOURNAL]) -> bool {
+fn print_finish(finish: Finished, journal: &[[u64; WORDS]; Board::JOURNAL]) -> bool {
     let last = finish.board;
     let moves = last.moves;
     let answer_printed = framing::print_line(finish.answer);
@@ -152,7 +152,7 @@ fn run_trial(text: &[u8], codes: &[u32], steps: &[u8]) -> bool {
     let mut journal = [[0u64; WORDS]; Board::JOURNAL];
     let mut given = [0u32; 200];
     let mut hints = [0u32; 8];
-    let outcome = playthrough::play_through_lent(
+    let outcome = playthrough::play_through(
         text,
         codes,
         steps,

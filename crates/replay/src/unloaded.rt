@@ -3,7 +3,6 @@
 use super::framing;
 use board::Board;
 use board::Network;
-use journal::Table;
 use journal::WORDS;
 
 // The calls, in the order of the lines.
@@ -37,14 +36,14 @@ fn greatest(is_great: bool) -> u32 {
 // All counts are the greatest number, and the lists zeros (0); or the count of the vertices alone is (1), that of the
 // terminals (2), those of the edges and the terminals (3). Source and places hold the board's number, so that no
 // terminal is found at the source or at an edge.
-fn past_limits(stage: u32, number: u32) -> Table {
+fn past_limits(stage: u32, number: u32) -> Board {
     let mut network = Network::empty();
     network.vertices = greatest(number <= 1);
     network.edges = greatest(lists::or(number == 0, number == 3));
     network.terminals = greatest(number != 1);
     network.source = number;
     let places = [number; Board::MAX_TERMINALS];
-    let mut board = Table::closed();
+    let mut board = Board::closed();
     board.stage = stage;
     board.network = network;
     board.places = places;
@@ -53,42 +52,42 @@ fn past_limits(stage: u32, number: u32) -> Table {
 }
 
 // What the sheet (SHEET) or the board writer answers, with room for either text.
-fn text_answer(call: u32, board: Table, journal: &[[u64; WORDS]; Board::JOURNAL]) -> u32 {
+fn text_answer(call: u32, board: Board, journal: &[[u64; WORDS]; Board::JOURNAL]) -> u32 {
     let mut space = [0u8; 9000];
     let written = if call == SHEET {
-        report::sheet_lent(board, journal, &mut space)
+        report::sheet(board, journal, &mut space)
     } else {
-        text_writer::write_lent(board, &mut space)
+        text_writer::write(board, &mut space)
     };
     written.answer
 }
 
 // What a turn answers, along no steps (EMPTY_TURN) or down edge 0.
-fn turn_answer(call: u32, board: Table, journal: &mut [[u64; WORDS]; Board::JOURNAL]) -> u32 {
+fn turn_answer(call: u32, board: Board, journal: &mut [[u64; WORDS]; Board::JOURNAL]) -> u32 {
     let steps = [0u8; 1];
     let played = if call == EMPTY_TURN {
-        move_turn::turn_lent(board, journal, &steps[..0])
+        move_turn::turn(board, journal, &steps[..0])
     } else {
-        move_turn::turn_lent(board, journal, &steps)
+        move_turn::turn(board, journal, &steps)
     };
     played.answer
 }
 
 // What a call answers.
-fn answer(call: u32, board: Table, journal: &mut [[u64; WORDS]; Board::JOURNAL]) -> u32 {
+fn answer(call: u32, board: Board, journal: &mut [[u64; WORDS]; Board::JOURNAL]) -> u32 {
     if call == CARRY {
-        let played = move_carry::carry_lent(board, journal, 0, 0);
+        let played = move_carry::carry(board, journal, 0, 0);
         played.answer
     } else if call <= TURN {
         turn_answer(call, board, journal)
     } else if call == UNDO {
-        let played = move_undo::undo_lent(board, journal);
+        let played = move_undo::undo(board, journal);
         played.answer
     } else if call == HINT {
-        let given = solve_next::hint_lent(board, journal);
+        let given = solve_next::hint(board, journal);
         given.answer
     } else if call == FINISH {
-        let finished = solve_finish::finish_lent(board, journal);
+        let finished = solve_finish::finish(board, journal);
         finished.answer
     } else {
         text_answer(call, board, journal)
@@ -98,7 +97,7 @@ fn answer(call: u32, board: Table, journal: &mut [[u64; WORDS]; Board::JOURNAL])
 // What a call answers; 0 where it answers something else at one of so many times more.
 fn repeated(
     call: u32,
-    board: Table,
+    board: Board,
     journal: &mut [[u64; WORDS]; Board::JOURNAL],
     count: u32,
 ) -> u32 {
@@ -114,7 +113,7 @@ fn repeated(
 }
 
 // Every call on a board with an empty journal; whether all of the numbers were printed.
-fn all_calls(board: Table, count: u32) -> bool {
+fn all_calls(board: Board, count: u32) -> bool {
     let mut journal = [[0u64; WORDS]; Board::JOURNAL];
     let mut call = CARRY;
     while call <= WRITE && framing::print_line(repeated(call, board, &mut journal, count)) {

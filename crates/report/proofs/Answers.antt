@@ -2,7 +2,7 @@
 use mathlib.Core.Path.{_≡_, refl, sym, _∙_}
 use mathlib.Core.Bool.{Bool, true, false}
 use mathlib.Core.List.{List, [], _∷_, _++_, append-nil}
-use Prim.Native.Nat.{ℕ, _+_, _-_, _≤_}
+use Prim.Native.Nat.{ℕ, _+_, _≤_}
 use native.Mathlib.Nat.{zero-add}
 use native.Mathlib.Omega.{arith}
 use lib.Dec.{leb, ltb, eqb}
@@ -13,27 +13,19 @@ use Rattle.lists.specs.Choice.{pick, both}
 use Rattle.lists.specs.Lists.{all}
 use Rattle.lists.proofs.Laws.{Known, was-true, was-false, known, pick-yes, pick-no, pick-passed, both-left, both-right}
 use Rattle.board.specs.Limits.{maxVertices, maxTerminals}
-use Rattle.board.specs.declared.Board.{Board}
-use Rattle.board.specs.declared.Entry.{Entry}
+use Rattle.board.specs.Whole.{Board}
 use Rattle.board.specs.declared.Network.{Network}
 use Rattle.text.specs.Text.{lineText, linesText}
-use Rattle.move_guard.specs.Moved.{lastEntry}
-use Rattle.move_guard.specs.Guard.{intactIn, intact, loaded}
+use Rattle.move_guard.specs.Guard.{intact, loaded}
 use Rattle.move_guard.proofs.Facts.{loaded-then-intact, intact-edges, intact-terminals, intact-demand}
 use Rattle.text_writer.proofs.Writing.{TextLeft, left-part, left-none}
 use Rattle.report_routes.specs.Tables.{routesFit}
 use Rattle.report_routes.proofs.Read.{fits-route}
-use Rattle.report.specs.Reports.{reportText, started, unreported, loadedIn, unreportedIn, sheetRefusal, sheetCall, sheeted, putRefusal, putCall, putIn}
+use Rattle.report.specs.Reports.{reportText, started, unreported, unreportedIn, sheetRefusal, sheetCall, sheeted, putRefusal, putCall, putIn}
 use Rattle.report.specs.Rows.{tableRouteRow, tableLoadRow, tableText, Printable}
 use Rattle.report.proofs.Rows.{countsBy, rowsBy, counts-small, route-lines, load-lines}
 
 module _ (b : Board) where
-  -- the test by the stage and the parts is the test of the board
-  pub loaded-made : (last : Entry) (sound play : Bool) → last ≡ lastEntry b
-      → sound ≡ intactIn (b .network) (b .acyclic) (b .flows) (b .places) (b .moves) (last .step) → play ≡ loadedIn (b .stage) sound → play ≡ loaded b
-  unfolding loaded intact
-  loaded-made last sound play el es ep = rw (ep, es, el)
-
   pub not-loaded : loaded b ≡ false → 29 ≡ unreported b
   unfolding unreported started both
   not-loaded h = sym (pick-no _ _ _ (rw h))

@@ -9,7 +9,7 @@ use native.Mathlib.Omega.{arith}
 use lib.ListN.{length, getD, set, take}
 use lib.Seq.{take-suc, take-suc-set}
 use Rattle.board.specs.Limits.{maxVertices, maxEdges, maxTerminals}
-use Rattle.board.specs.declared.Board.{Board}
+use Rattle.board.specs.Whole.{Board}
 use Rattle.board.specs.declared.Network.{Network}
 use Rattle.text.specs.Text.{linesText}
 use Rattle.report_routes.specs.Tables.{routesFit}

@@ -7,7 +7,7 @@ use lib.ListN.{length, drop}
 use lib.Seq.{sets}
 use Rattle.lists.specs.Choice.{pick, both}
 use Rattle.board.specs.Record.{playStage, finishedStage}
-use Rattle.board.specs.declared.Board.{Board}
+use Rattle.board.specs.Whole.{Board}
 use Rattle.text.specs.Text.{lineText, linesText}
 use Rattle.text.specs.declared.Written.{Written}
 use Rattle.move_guard.specs.Parts.{acyclicFlow}

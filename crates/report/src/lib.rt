@@ -1,8 +1,6 @@
 // The call `sheet`: the route report.
 use board::Board;
-use board::Entry;
 use board::Network;
-use journal::Table;
 use journal::WORDS;
 use text::Written;
 ghost use mathlib.Core.Path.{_≡_};
@@ -84,165 +82,16 @@ fn put_route(
     text_writer::put_line(buf, at, b'M', &row[..end])
 }
 
-// Writes the lines of the routes.
-fn put_routes(
-    buf: &mut [u8],
-    at: usize,
-    counts: [u32; Board::MAX_TERMINALS],
-    rows: [[u32; Board::MAX_VERTICES as usize]; Board::MAX_TERMINALS],
-    terminals: u32,
-) -> usize
-    requires { ⌜ (at ≤ 100000)
-        × ((terminals ≤ maxTerminals) × ((i : ℕ) → i < terminals → getD counts i 0 ≤ maxVertices)) ⌝ }
-    ensures { λ r. ⌜ r ≡ at + length (linesText 77 (tableRouteRow counts rows) 0 terminals) ⌝ }
-    ensures { λ r. ⌜ r ≤ at + 376 * maxTerminals ⌝ }
-    ensures { λ r. ⌜ now (buf .exit) ≡
-        sets (now (buf .entry)) at (linesText 77 (tableRouteRow counts rows) 0 terminals) ⌝ }
-{
-    let mut to = at;
-    let mut i: u32 = 0;
-    while i < terminals {
-        let count = counts[i as usize];
-        let edges = rows[i as usize];
-        to = put_route(buf, to, i, count, edges);
-        i += 1;
-    }
-    to
-}
-
-// Writes the lines of the loads.
-fn put_loads(
-    buf: &mut [u8],
-    at: usize,
-    net: Network,
-    acyclic: [u32; Board::MAX_EDGES],
-    counts: [u32; Board::MAX_TERMINALS],
-    rows: [[u32; Board::MAX_VERTICES as usize]; Board::MAX_TERMINALS],
-) -> usize
-    requires { ⌜ (at ≤ 100000)
-        × ((net .edges ≤ maxEdges) × ((net .terminals ≤ maxTerminals) × Moderate (net .demands))) ⌝ }
-    ensures { λ r. ⌜ r ≡ at + length (linesText 76 (tableLoadRow net acyclic counts rows) 0 (net .edges)) ⌝ }
-    ensures { λ r. ⌜ r ≤ at + 35 * maxEdges ⌝ }
-    ensures { λ r. ⌜ now (buf .exit) ≡
-        sets (now (buf .entry)) at (linesText 76 (tableLoadRow net acyclic counts rows) 0 (net .edges)) ⌝ }
-{
-    let edges = net.edges;
-    let terminals = net.terminals;
-    let demands = net.demands;
-    let routes = report_routes::edge_sets(counts, rows, terminals);
-    let mut to = at;
-    let mut e: u32 = 0;
-    while e < edges {
-        let flow = acyclic[e as usize];
-        let load = report_routes::load(routes, demands, terminals, e);
-        let row = [e, flow, load];
-        to = text_writer::put_line(buf, to, b'L', &row);
-        e += 1;
-    }
-    to
-}
-
-// Writes the report by the routes at a place of the buffer, and answers the place behind it. A byte past the end of the
-// buffer is dropped.
-fn put_tables(
-    buf: &mut [u8],
-    at: usize,
-    net: Network,
-    acyclic: [u32; Board::MAX_EDGES],
-    counts: [u32; Board::MAX_TERMINALS],
-    rows: [[u32; Board::MAX_VERTICES as usize]; Board::MAX_TERMINALS],
-) -> usize
-    requires { ⌜ (at ≤ 65536) × Printable net counts ⌝ }
-    ensures { λ r. ⌜ r ≡ at + length (tableText net acyclic counts rows) ⌝ }
-    ensures { λ r. ⌜ r ≤ at + 8280 ⌝ }
-    ensures { λ r. ⌜ now (buf .exit) ≡ sets (now (buf .entry)) at (tableText net acyclic counts rows) ⌝ }
-{
-    let sizes = [net.terminals, net.edges];
-    let head = text_writer::put_line(buf, at, b'R', &sizes);
-    let routes = put_routes(buf, head, counts, rows, net.terminals);
-    put_loads(buf, routes, net, acyclic, counts, rows)
-}
-
-// Whether the report has room in so many bytes: it is measured by writing it into a buffer that drops it.
-fn has_room(
-    room: usize,
-    net: Network,
-    acyclic: [u32; Board::MAX_EDGES],
-    counts: [u32; Board::MAX_TERMINALS],
-    rows: [[u32; Board::MAX_VERTICES as usize]; Board::MAX_TERMINALS],
-) -> bool
-    requires { ⌜ Printable net counts ⌝ }
-    ensures { λ r. ⌜ r ≡ leb (length (tableText net acyclic counts rows)) room ⌝ }
-{
-    let mut none = [0u8; 1];
-    let length = put_tables(&mut none, 0, net, acyclic, counts, rows);
-    length <= room
-}
-
-// Writes the report of a board at a place of the buffer, and answers its length, or the number that it is refused with.
-// A byte past the end of the buffer is dropped. Where the report is to be whole, a buffer that is shorter than it is
-// refused: the whole buffer is measured and not what is left of it behind the place, so that is asked for at place 0
-// alone. The routes are looked at where the board was loaded, and its counts are within the limits.
-pub fn put_sheet(buf: &mut [u8], at: usize, whole: bool, board: Board) -> Written
-    requires { ⌜ at ≤ 65536 ⌝ }
-    ensures { λ r. ⌜ r ≡ putCall board whole (length (now (buf .entry))) ⌝ }
-    ensures { λ r. ⌜ r .used ≤ 8280 ⌝ }
-    ensures { λ _. ⌜ now (buf .exit) ≡ putIn board whole (now (buf .entry)) at ⌝ }
-{
-    let net = board.network;
-    let acyclic = board.acyclic;
-    let flows = board.flows;
-    let places = board.places;
-    let k = lists::minus(board.moves, 1) as usize;
-    let mut last = Entry::blank();
-    if k < Board::JOURNAL {
-        last = board.journal[k];
-    }
-    let step = last.step;
-    let sound = move_guard::intact_in(net, acyclic, flows, places, board.moves, step);
-    if !loaded_in(board.stage, sound) {
-        return Written::refused(29);
-    }
-    let mut counts = [0u32; Board::MAX_TERMINALS];
-    let rows = report_routes::fill(board.journal, board.moves, &mut counts);
-    let fit = report_routes::routes_fit(counts, net.terminals);
-    let number = unreported_in(board.stage, fit);
-    if number != 0 {
-        return Written::refused(number);
-    }
-    if lists::and(whole, buf.len() < REPORT_BYTES) {
-        if !has_room(buf.len(), net, acyclic, counts, rows) {
-            return Written::refused(8);
-        }
-    }
-    let end = put_tables(buf, at, net, acyclic, counts, rows);
-    Written {
-        answer: 0,
-        used: end - at,
-    }
-}
-
-// Writes the route report: 29 where no board was loaded, 28 before a finish, then 8 where the buffer is too short for
-// the text.
-pub fn sheet(board: Board, buf: &mut [u8]) -> Written
-    ensures { λ r. ⌜ r ≡ sheetCall board (length (now (buf .entry))) ⌝ }
-    ensures { λ _. ⌜ now (buf .exit) ≡ sheeted board (now (buf .entry)) ⌝ }
-{
-    put_sheet(buf, 0, true, board)
-}
-
-// ---- The same over a lent journal, with the tables lent.
-
 // Whether the board was loaded.
-fn loaded_lent(board: Table, journal: &[[u64; WORDS]; Board::JOURNAL]) -> bool
+fn loaded(board: Board, journal: &[[u64; WORDS]; Board::JOURNAL]) -> bool
     ensures { λ r. ⌜ r ≡ loaded (wholeOf board (now (journal .entry))) ⌝ }
 {
-    let sound = move_guard::intact_lent(board, journal);
+    let sound = move_guard::intact(board, journal);
     loaded_in(board.stage, sound)
 }
 
 // Writes the lines of the routes.
-fn put_routes_lent(
+fn put_routes(
     buf: &mut [u8],
     at: usize,
     counts: &[u32; Board::MAX_TERMINALS],
@@ -269,7 +118,7 @@ fn put_routes_lent(
 }
 
 // Writes the lines of the loads.
-fn put_loads_lent(
+fn put_loads(
     buf: &mut [u8],
     at: usize,
     net: Network,
@@ -288,12 +137,12 @@ fn put_loads_lent(
     let edges = net.edges;
     let terminals = net.terminals;
     let demands = net.demands;
-    let routes = report_routes::edge_sets_lent(counts, rows, terminals);
+    let routes = report_routes::edge_sets(counts, rows, terminals);
     let mut to = at;
     let mut e: u32 = 0;
     while e < edges {
         let flow = acyclic[e as usize];
-        let load = report_routes::load_lent(&routes, &demands, terminals, e);
+        let load = report_routes::load(&routes, &demands, terminals, e);
         let row = [e, flow, load];
         to = text_writer::put_line(buf, to, b'L', &row);
         e += 1;
@@ -303,7 +152,7 @@ fn put_loads_lent(
 
 // Writes the report by the routes at a place of the buffer, and answers the place behind it. A byte past the end of the
 // buffer is dropped.
-fn put_tables_lent(
+fn put_tables(
     buf: &mut [u8],
     at: usize,
     net: Network,
@@ -320,12 +169,12 @@ fn put_tables_lent(
 {
     let sizes = [net.terminals, net.edges];
     let head = text_writer::put_line(buf, at, b'R', &sizes);
-    let routes = put_routes_lent(buf, head, counts, rows, net.terminals);
-    put_loads_lent(buf, routes, net, acyclic, counts, rows)
+    let routes = put_routes(buf, head, counts, rows, net.terminals);
+    put_loads(buf, routes, net, acyclic, counts, rows)
 }
 
 // Whether the report has room in so many bytes: it is measured by writing it into a buffer that drops it.
-fn has_room_lent(
+fn has_room(
     room: usize,
     net: Network,
     acyclic: &[u32; Board::MAX_EDGES],
@@ -337,7 +186,7 @@ fn has_room_lent(
         leb (length (tableText net (now (acyclic .entry)) (now (counts .entry)) (now (rows .entry)))) room ⌝ }
 {
     let mut none = [0u8; 1];
-    let length = put_tables_lent(&mut none, 0, net, acyclic, counts, rows);
+    let length = put_tables(&mut none, 0, net, acyclic, counts, rows);
     length <= room
 }
 
@@ -345,11 +194,11 @@ fn has_room_lent(
 // A byte past the end of the buffer is dropped. Where the report is to be whole, a buffer that is shorter than it is
 // refused: the whole buffer is measured and not what is left of it behind the place, so that is asked for at place 0
 // alone. The routes are looked at where the board was loaded, and its counts are within the limits.
-pub fn put_sheet_lent(
+pub fn put_sheet(
     buf: &mut [u8],
     at: usize,
     whole: bool,
-    board: Table,
+    board: Board,
     journal: &[[u64; WORDS]; Board::JOURNAL],
 ) -> Written
     requires { ⌜ at ≤ 65536 ⌝ }
@@ -357,24 +206,24 @@ pub fn put_sheet_lent(
     ensures { λ r. ⌜ r .used ≤ 8280 ⌝ }
     ensures { λ _. ⌜ now (buf .exit) ≡ putIn (wholeOf board (now (journal .entry))) whole (now (buf .entry)) at ⌝ }
 {
-    if !loaded_lent(board, journal) {
+    if !loaded(board, journal) {
         return Written::refused(29);
     }
     let net = board.network;
     let acyclic = board.acyclic;
     let mut counts = [0u32; Board::MAX_TERMINALS];
-    let rows = report_routes::fill_lent(journal, board.moves, &mut counts);
-    let fit = report_routes::routes_fit_lent(&counts, net.terminals);
+    let rows = report_routes::fill(journal, board.moves, &mut counts);
+    let fit = report_routes::routes_fit(&counts, net.terminals);
     let number = unreported_in(board.stage, fit);
     if number != 0 {
         return Written::refused(number);
     }
     if lists::and(whole, buf.len() < REPORT_BYTES) {
-        if !has_room_lent(buf.len(), net, &acyclic, &counts, &rows) {
+        if !has_room(buf.len(), net, &acyclic, &counts, &rows) {
             return Written::refused(8);
         }
     }
-    let end = put_tables_lent(buf, at, net, &acyclic, &counts, &rows);
+    let end = put_tables(buf, at, net, &acyclic, &counts, &rows);
     Written {
         answer: 0,
         used: end - at,
@@ -383,9 +232,9 @@ pub fn put_sheet_lent(
 
 // Writes the route report: 29 where no board was loaded, 28 before a finish, then 8 where the buffer is too short for
 // the text.
-pub fn sheet_lent(board: Table, journal: &[[u64; WORDS]; Board::JOURNAL], buf: &mut [u8]) -> Written
+pub fn sheet(board: Board, journal: &[[u64; WORDS]; Board::JOURNAL], buf: &mut [u8]) -> Written
     ensures { λ r. ⌜ r ≡ sheetCall (wholeOf board (now (journal .entry))) (length (now (buf .entry))) ⌝ }
     ensures { λ _. ⌜ now (buf .exit) ≡ sheeted (wholeOf board (now (journal .entry))) (now (buf .entry)) ⌝ }
 {
-    put_sheet_lent(buf, 0, true, board, journal)
+    put_sheet(buf, 0, true, board, journal)
 }

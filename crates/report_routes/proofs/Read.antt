@@ -15,7 +15,7 @@ use Rattle.lists.proofs.Laws.{all-same, all-from}
 use Rattle.lists.proofs.Totals.{total-same}
 use Rattle.sets.specs.Sets.{hasBit}
 use Rattle.board.specs.Limits.{maxVertices, maxEdges, maxTerminals}
-use Rattle.board.specs.declared.Board.{Board}
+use Rattle.board.specs.Whole.{Board}
 use Rattle.report_routes.specs.Routes.{route, share, load}
 use Rattle.report_routes.specs.Tables.{routesFit}
 use Rattle.report_routes.specs.Inner.{rowOf, countsOf, rowsOf, rowAt, tableLoad, AreRouteSets, setLoad}

@@ -6,7 +6,7 @@ use lib.ListN.{getD, take}
 use Rattle.lists.specs.Choice.{pick}
 use Rattle.lists.specs.Lists.{total, most}
 use Rattle.lists.specs.Members.{has}
-use Rattle.board.specs.declared.Board.{Board}
+use Rattle.board.specs.Whole.{Board}
 use Rattle.board.specs.declared.Entry.{Entry}
 use Rattle.board.specs.declared.Move.{Move}
 use Rattle.board.specs.declared.Move.the-variants.{Carry, Turn}

@@ -4,7 +4,7 @@ use lib.Dec.{leb}
 use lib.ListN.{length}
 use Rattle.lists.specs.Lists.{all}
 use Rattle.board.specs.Limits.{maxVertices}
-use Rattle.board.specs.declared.Board.{Board}
+use Rattle.board.specs.Whole.{Board}
 use Rattle.report_routes.specs.Routes.{route}
 
 -- every route has room in its row

@@ -1,7 +1,6 @@
 // Routes and loads of a board.
 use board::Board;
 use board::EdgeSet;
-use board::Entry;
 use board::Move;
 use journal::WORDS;
 ghost use mathlib.Core.Path.{_≡_};
@@ -16,43 +15,6 @@ ghost use Rattle.report_routes.specs.Inner.{rowsOf, countsOf, IsSetOf, R
 // The routes by the first moves of a journal, from the last of them to the first: a row of edges for each terminal, 0
 // behind them. `counts` gets how many edges each route has; a row holds as many of them as there is room for.
 pub fn fill(
-    journal: [Entry; Board::JOURNAL],
-    moves: u32,
-    counts: &mut [u32; Board::MAX_TERMINALS],
-) -> [[u32; Board::MAX_VERTICES as usize]; Board::MAX_TERMINALS]
-    ensures { λ r. ⌜ r ≡ rowsOf (take moves journal) ⌝ }
-    ensures { λ _. ⌜ now (counts .exit) ≡ countsOf (take moves journal) ⌝ }
-{
-    let blank = [0; Board::MAX_VERTICES as usize];
-    let mut rows = [blank; Board::MAX_TERMINALS];
-    let mut lengths = [0; Board::MAX_TERMINALS];
-    let mut standing = Board::JOURNAL;
-    if (moves as usize) < Board::JOURNAL {
-        standing = moves as usize;
-    }
-    let mut k: usize = 0;
-    while k < standing {
-        let at = standing - 1 - k;
-        let entry = journal[at];
-        k += 1;
-        let step = entry.step;
-        if let Move::Carry(r) = step {
-            let i = r.terminal as usize;
-            if i < Board::MAX_TERMINALS {
-                let n = lengths[i];
-                if n < Board::MAX_VERTICES {
-                    rows[i][n as usize] = r.edge;
-                }
-                lengths[i] = n + 1;
-            }
-        }
-    }
-    *counts = lengths;
-    rows
-}
-
-// The same over a lent journal, of which the standing places alone are read.
-pub fn fill_lent(
     journal: &[[u64; WORDS]; Board::JOURNAL],
     moves: u32,
     counts: &mut [u32; Board::MAX_TERMINALS],
@@ -89,21 +51,6 @@ pub fn fill_lent(
     rows
 }
 
-// Whether every route has room in its row.
-pub fn routes_fit(counts: [u32; Board::MAX_TERMINALS], terminals: u32) -> bool
-    ensures { λ r. ⌜ r ≡ all (λ i. leb (getD counts i 0) maxVertices) 0 terminals ⌝ }
-{
-    let mut i: u32 = 0;
-    while i < terminals {
-        let count = lists::word_at(&counts, i as usize);
-        if Board::MAX_VERTICES < count {
-            return false;
-        }
-        i += 1;
-    }
-    true
-}
-
 // The edges as a set. A number that is no edge's is left out.
 fn edge_set(edges: &[u32]) -> EdgeSet
     ensures { λ r. ⌜ IsSetOf r (now (edges .entry)) ⌝ }
@@ -131,52 +78,8 @@ fn row_set(edges: [u32; Board::MAX_VERTICES as usize], count: usize) -> EdgeSet
     }
 }
 
-// The route of each terminal as a set, so that whether it holds an edge is one test.
-pub fn edge_sets(
-    counts: [u32; Board::MAX_TERMINALS],
-    rows: [[u32; Board::MAX_VERTICES as usize]; Board::MAX_TERMINALS],
-    terminals: u32,
-) -> [EdgeSet; Board::MAX_TERMINALS]
-    requires { ⌜ terminals ≤ maxTerminals ⌝ }
-    ensures { λ r. ⌜ RouteSets r counts rows terminals ⌝ }
-{
-    let mut routes = [0u64; Board::MAX_TERMINALS];
-    let mut i: usize = 0;
-    while i < terminals as usize {
-        let row = rows[i];
-        let count = counts[i];
-        routes[i] = row_set(row, count as usize);
-        i += 1;
-    }
-    routes
-}
-
-// The sum of the demands of the terminals whose routes hold e.
-pub fn load(
-    routes: [EdgeSet; Board::MAX_TERMINALS],
-    demands: [u32; Board::MAX_TERMINALS],
-    terminals: u32,
-    e: u32,
-) -> u32
-    requires { ⌜ (terminals ≤ maxTerminals) × Moderate demands ⌝ }
-    ensures { λ r. ⌜ r ≡ setLoad routes demands e terminals ⌝ }
-{
-    let mut sum: u32 = 0;
-    let mut i: usize = 0;
-    while i < terminals as usize {
-        let route = routes[i];
-        if sets::has(route, e as usize) {
-            sum += demands[i];
-        }
-        i += 1;
-    }
-    sum
-}
-
-// ---- The same with the tables lent.
-
 // Whether every route has room in its row.
-pub fn routes_fit_lent(counts: &[u32; Board::MAX_TERMINALS], terminals: u32) -> bool
+pub fn routes_fit(counts: &[u32; Board::MAX_TERMINALS], terminals: u32) -> bool
     ensures { λ r. ⌜ r ≡ all (λ i. leb (getD (now (counts .entry)) i 0) maxVertices) 0 terminals ⌝ }
 {
     let mut i: u32 = 0;
@@ -191,7 +94,7 @@ pub fn routes_fit_lent(counts: &[u32; Board::MAX_TERMINALS], terminals: u32) -> 
 }
 
 // The route of each terminal as a set, so that whether it holds an edge is one test.
-pub fn edge_sets_lent(
+pub fn edge_sets(
     counts: &[u32; Board::MAX_TERMINALS],
     rows: &[[u32; Board::MAX_VERTICES as usize]; Board::MAX_TERMINALS],
     terminals: u32,
@@ -211,7 +114,7 @@ pub fn edge_sets_lent(
 }
 
 // The sum of the demands of the terminals whose routes hold e.
-pub fn load_lent(
+pub fn load(
     routes: &[EdgeSet; Board::MAX_TERMINALS],
     demands: &[u32; Board::MAX_TERMINALS],
     terminals: u32,

@@ -2,13 +2,13 @@
 use board::Board;
 use journal::WORDS;
 use libc::STDIN_FILENO;
-use play_session::Sitting;
+use play_session::Session;
 
 fn main() {
     // No input past this is read: its first bytes decide.
-    let mut space = [0u8; Sitting::TEXT];
+    let mut space = [0u8; Session::TEXT];
     let got = io::read_full(STDIN_FILENO, &mut space);
     let mut journal = [[0u64; WORDS]; Board::JOURNAL];
-    let mut out = [0u8; Sitting::OUTPUT];
-    descriptors::print_sheet_lent(&space[..got], &mut journal, &mut out);
+    let mut out = [0u8; Session::OUTPUT];
+    descriptors::print_sheet(&space[..got], &mut journal, &mut out);
 }

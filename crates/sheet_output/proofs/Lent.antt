@@ -8,17 +8,17 @@ use Rattle.lists.specs.Choice.{both}
 use Rattle.lists.proofs.Laws.{eq-or-ne}
 use Rattle.board.specs.Limits.{maxMoves}
 use Rattle.board.specs.Record.{closedBoard}
-use Rattle.board.specs.declared.Board.{Board}
+use Rattle.board.specs.Whole.{Board}
 use Rattle.journal.specs.Words.{wholeOf, noWords, wordsAfter, packedAll}
 use Rattle.journal.proofs.Places.{packed-none}
-use Rattle.load.specs.declared.Loaded.{Loaded}
-use Rattle.load.specs.declared.Opened.{Opened}
+use Rattle.load.specs.Load.{Loaded}
+use Rattle.load.specs.Lent.{Opened}
 use Rattle.load.specs.Load.{loadText}
 use Rattle.load.specs.Lent.{loadedOf}
 use Rattle.load.proofs.Loads.{load-accepted, load-refused}
 use Rattle.move_guard.specs.Guard.{loaded, playing}
-use Rattle.solve_finish.specs.declared.Ended.{Ended}
-use Rattle.solve_finish.specs.declared.Finished.{Finished}
+use Rattle.solve_finish.specs.Lent.{Ended}
+use Rattle.solve_finish.specs.Finishes.{Finished}
 use Rattle.solve_finish.specs.Finishes.{finishCall}
 use Rattle.solve_finish.specs.Lent.{endedOf, finishOn}
 use Rattle.solve_finish.proofs.Stepping.{finish-closed}

@@ -12,7 +12,7 @@ use borrow.Author.Tests.{eq-eqb, ne-eqb}
 use Rattle.lists.proofs.Laws.{pick-yes, pick-no}
 use Rattle.lists.specs.Choice.{pick}
 use Rattle.decimal.specs.Decimal.{decimal}
-use Rattle.board.specs.declared.Board.{Board}
+use Rattle.board.specs.Whole.{Board}
 use Rattle.board.specs.declared.Network.{Network}
 use Rattle.text.specs.Text.{Read, refused, got, then, header, headed, numbersText}
 use Rattle.text.specs.Views.{partRead, headerPart}
@@ -21,9 +21,9 @@ use Rattle.text.specs.declared.Written.{Written}
 use Rattle.text_lines.proofs.Reading.{answer-read-got, answer-read-refused}
 use Rattle.text_writer.proofs.Writing.{sets-append}
 use Rattle.sheet_output.specs.Inputs.{linesOf, linesWanted}
-use Rattle.load.specs.declared.Loaded.{Loaded}
+use Rattle.load.specs.Load.{Loaded}
 use Rattle.load.specs.Load.{loadText}
-use Rattle.solve_finish.specs.declared.Finished.{Finished}
+use Rattle.solve_finish.specs.Finishes.{Finished}
 use Rattle.solve_finish.specs.Finishes.{finishCall}
 use Rattle.report.specs.Reports.{unreported, putCall, putIn}
 use Rattle.sheet_output.specs.Outputs.{numberLine, reportOf, finishOutput, sheetOutput}

@@ -1,6 +1,5 @@
 // What the programs read and print, over slices.
 use board::Board;
-use journal::Table;
 use journal::WORDS;
 ghost use mathlib.Core.Path.{_≡_};
 ghost use Prim.Native.Nat.{_+_, _≤_};
@@ -26,24 +25,10 @@ pub fn put_number(buf: &mut [u8], at: usize, n: u32) -> usize
 }
 
 // Writes the report of a board in the same way, or the number that it is refused with.
-pub fn put_report(buf: &mut [u8], at: usize, board: Board) -> usize
-    requires { ⌜ at ≤ 65536 ⌝ }
-    ensures { λ r. ⌜ r ≡ at + length (reportOf board) ⌝ }
-    ensures { λ r. ⌜ r ≤ at + 8280 ⌝ }
-    ensures { λ r. ⌜ now (buf .exit) ≡ sets (now (buf .entry)) at (reportOf board) ⌝ }
-{
-    let written = report::put_sheet(buf, at, false, board);
-    if written.answer != 0 {
-        return put_number(buf, at, written.answer);
-    }
-    at + written.used
-}
-
-// The same of a board whose journal is lent.
-pub fn put_report_lent(
+pub fn put_report(
     buf: &mut [u8],
     at: usize,
-    board: Table,
+    board: Board,
     journal: &[[u64; WORDS]; Board::JOURNAL],
 ) -> usize
     requires { ⌜ at ≤ 65536 ⌝ }
@@ -51,7 +36,7 @@ pub fn put_report_lent(
     ensures { λ r. ⌜ r ≤ at + 8280 ⌝ }
     ensures { λ _. ⌜ now (buf .exit) ≡ sets (now (buf .entry)) at (reportOf (wholeOf board (now (journal .entry)))) ⌝ }
 {
-    let written = report::put_sheet_lent(buf, at, false, board, journal);
+    let written = report::put_sheet(buf, at, false, board, journal);
     if written.answer != 0 {
         return put_number(buf, at, written.answer);
     }
@@ -59,26 +44,7 @@ pub fn put_report_lent(
 }
 
 // Writes what the program `sheet` prints for an input, and answers how many bytes.
-pub fn sheet_output(input: &[u8], out: &mut [u8]) -> usize
-    ensures { λ r. ⌜ r ≡ length (sheetOutput (now (input .entry))) ⌝ }
-    ensures { λ r. ⌜ r ≤ 8280 ⌝ }
-    ensures { λ r. ⌜ now (out .exit) ≡ sets (now (out .entry)) 0 (sheetOutput (now (input .entry))) ⌝ }
-{
-    let loaded = load::load(input);
-    if loaded.answer != 0 {
-        return put_number(out, 0, loaded.answer);
-    }
-    let board = loaded.board;
-    let finished = solve_finish::finish(board);
-    if finished.answer != 0 {
-        return put_number(out, 0, finished.answer);
-    }
-    let last = finished.board;
-    put_report(out, 0, last)
-}
-
-// The same with a journal that is lent, which gets the moves of the finish.
-pub fn sheet_output_lent(
+pub fn sheet_output(
     input: &[u8],
     journal: &mut [[u64; WORDS]; Board::JOURNAL],
     out: &mut [u8],
@@ -89,17 +55,17 @@ pub fn sheet_output_lent(
     ensures { λ _. ⌜ now (journal .exit) ≡
         packedAll (finishCall (loadText (now (input .entry)) .board) .board .journal) ⌝ }
 {
-    let loaded = load::load_lent(input, journal);
+    let loaded = load::load(input, journal);
     if loaded.answer != 0 {
         return put_number(out, 0, loaded.answer);
     }
     let board = loaded.board;
-    let finished = solve_finish::finish_lent(board, journal);
+    let finished = solve_finish::finish(board, journal);
     if finished.answer != 0 {
         return put_number(out, 0, finished.answer);
     }
     let last = finished.board;
-    put_report_lent(out, 0, last, journal)
+    put_report(out, 0, last, journal)
 }
 
 // How many lines the board has whose text starts with this.

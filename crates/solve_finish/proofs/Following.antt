@@ -12,12 +12,12 @@ use borrow.Author.Tests.{eqb-true, eqb-false}
 use Rattle.lists.specs.Choice.{pick, both}
 use Rattle.lists.proofs.Laws.{Known, was-true, was-false, known, eq-or-ne, pick-yes, pick-no}
 use Rattle.board.specs.Limits.{maxEdges, maxTerminals, maxMoves}
-use Rattle.board.specs.declared.Board.{Board}
+use Rattle.board.specs.Whole.{Board}
 use Rattle.graph_flows.specs.Trails.{Step}
 use Rattle.move_guard.specs.Parts.{flow, demand, place}
 use Rattle.move_guard.specs.Guard.{playing}
 use Rattle.move_guard.specs.Moved.{moved, unchanged}
-use Rattle.move_guard.specs.declared.Change.{Change}
+use Rattle.move_guard.specs.Moved.{Change}
 use Rattle.move_carry.specs.Opens.{openTerminal, someOpen}
 use Rattle.move_carry.specs.Carries.{carried, carriedIn}
 use Rattle.move_cycle.specs.Steps.{gather}

@@ -2,7 +2,7 @@
 -- holds of the lists. A move that is not made changes nothing.
 use mathlib.Core.Path.{_≡_, refl, sym, ap, _∙_, subst}
 use mathlib.Core.Bool.{Bool, true, false}
-use mathlib.Core.List.{List, []}
+use mathlib.Core.List.{List}
 use mathlib.Core.Logic.{_⊎_, inl, inr, _≢_}
 use Prim.Native.Nat.{ℕ, _<_, _≤_}
 use lib.Dec.{ltb}
@@ -14,7 +14,7 @@ use Rattle.board.specs.Record.{blank}
 use Rattle.board.specs.declared.Network.{Network}
 use Rattle.graph_flows.specs.Trails.{Step}
 use Rattle.move_guard.specs.Moved.{unchanged}
-use Rattle.move_guard.specs.declared.Change.{Change}
+use Rattle.move_guard.specs.Moved.{Change}
 use Rattle.move_cycle.specs.Steps.{stepsOf}
 use Rattle.move_edges.specs.Incidence.{PositiveSet}
 use Rattle.move_turn.specs.declared.Frame.{Frame}
@@ -45,12 +45,6 @@ step-of-bare net flows marks places =
     (carryStep net flows marks places (openTerminalIn net flows marks places)
     (chosenEdgeIn (net .heads) (net .demands) (net .edges) flows marks places (openTerminalIn net flows marks places))) c)
     (turn-step-bare net flows marks places)
-
--- a carry looks at no head
-pub carry-no-heads : (frame : Frame) (tails heads demands flows : List ℕ) (places : List ℕ) (i e : ℕ)
-    → carryStep (netOf frame tails [] demands) flows (frame .marks) places i e ≡ carryStep (netOf frame tails heads demands) flows (frame .marks) places i e
-unfolding carryStep
-carry-no-heads frame tails heads demands flows places i e = refl
 
 -- no move
 pub halts : (answer : ℕ) (frame : Frame) (flows places : List ℕ) (r : Progress) → PositiveSet flows (frame .positive) → allSmall flows ≡ true

@@ -13,11 +13,11 @@ use Rattle.lists.specs.Choice.{pick, both}
 use Rattle.lists.proofs.Laws.{Known, was-true, was-false, known, eq-or-ne, pick-yes, pick-no, both-left, both-right}
 use Rattle.board.specs.Limits.{maxMoves}
 use Rattle.board.specs.Record.{blank}
-use Rattle.board.specs.declared.Board.{Board}
+use Rattle.board.specs.Whole.{Board}
 use Rattle.board.specs.declared.Entry.{Entry}
-use Rattle.board.specs.declared.Played.{Played}
+use Rattle.board.specs.Whole.{Played}
 use Rattle.journal.specs.Words.{wholeOf, entriesOf, blankFrom, packedOn, wordsAfter, packedAll}
-use Rattle.journal.specs.declared.Table.{Table}
+use Rattle.board.specs.Whole.{Table}
 use Rattle.journal.proofs.Places.{packedOn-all, blank-behind}
 use Rattle.journal.proofs.After.{after-none, after-many}
 use Rattle.move_guard.proofs.Answers.{answered-yes, answered-no}
@@ -28,7 +28,7 @@ use Rattle.solve_next.proofs.Advised.{home-same}
 use Rattle.move_guard.specs.Guard.{playing}
 use Rattle.solve_finish.specs.declared.Ran.{Ran}
 use Rattle.solve_finish.specs.Run.{ranTo, RanOut}
-use Rattle.solve_finish.specs.declared.Finished.{Finished}
+use Rattle.solve_finish.specs.Finishes.{Finished}
 use Rattle.solve_finish.specs.Finishes.{stepped, steppedOn, playedOut, finishRefusal, ended, finishCall}
 use Rattle.solve_finish.specs.Lent.{finishOn}
 use Rattle.solve_finish.proofs.Stepping.{away, finish-stuck, finish-made}

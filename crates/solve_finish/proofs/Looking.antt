@@ -10,7 +10,7 @@ use lib.Dec.{ltb, leb, eqb}
 use lib.ListN.{length, getD}
 use borrow.Author.Tests.{eq-eqb, ne-eqb}
 use Rattle.lists.specs.Choice.{pick, both, either}
-use Rattle.lists.proofs.Laws.{Known, was-true, was-false, known, eq-or-ne, pick-yes, pick-no, both-left, both-right, both-true, either-left, either-right, all-from, all-zero}
+use Rattle.lists.proofs.Laws.{Known, was-true, was-false, known, eq-or-ne, pick-yes, pick-no, both-left, both-right, either-left, either-right, all-from, all-zero}
 use Rattle.sets.specs.Sets.{hasBit, withBit, joined}
 use Rattle.sets.specs.Inner.{setWidth, dropped}
 use Rattle.sets.proofs.Bits.{has-none, has-joined, has-with-same, has-with-other}
@@ -18,7 +18,7 @@ use Rattle.sets.proofs.Scan.{has-dropped, has-inside, dropped-less}
 use Rattle.board.specs.Limits.{maxEdges, maxTotal}
 use Rattle.board.specs.declared.Network.{Network}
 use Rattle.graph_flows.specs.Trails.{Step}
-use Rattle.move_guard.specs.declared.Change.{Change}
+use Rattle.move_guard.specs.Moved.{Change}
 use Rattle.move_edges.specs.Incidence.{PositiveSet}
 use Rattle.move_cycle.specs.Shifts.{shifted}
 use Rattle.move_cycle.proofs.Shifting.{shifted-at, shifted-other}

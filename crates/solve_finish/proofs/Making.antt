@@ -10,8 +10,8 @@ use lib.Dec.{ltb, eqb}
 use borrow.Author.Tests.{ltb-true, lt-ltb, eqb-true, eq-eqb, ne-eqb}
 use Rattle.lists.proofs.Laws.{Known, was-true, was-false, known, pick-yes, pick-no, both-left, both-right, both-true, all-from}
 use Rattle.lists.proofs.Lowest.{lowest-least}
-use Rattle.board.specs.declared.Board.{Board}
-use Rattle.board.specs.declared.Played.{Played}
+use Rattle.board.specs.Whole.{Board}
+use Rattle.board.specs.Whole.{Played}
 use Rattle.move_guard.specs.Parts.{flow, marked, demand, place}
 use Rattle.move_guard.specs.Guard.{playing}
 use Rattle.move_guard.proofs.Answers.{answered-yes, answered-no}

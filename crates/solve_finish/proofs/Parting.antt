@@ -24,7 +24,7 @@ use Rattle.board.specs.declared.Network.{Network}
 use Rattle.move_guard.specs.Moved.{unchanged}
 use Rattle.move_carry.specs.Carries.{carriedIn}
 use Rattle.move_carry.proofs.Makes.{makes-carried}
-use Rattle.solve_finish.specs.declared.Made.{Made}
+use Rattle.solve_finish.specs.Run.{Made}
 use Rattle.solve_finish.specs.Run.{allSmall, positiveAfter, carryStep, Makes}
 use Rattle.solve_finish.proofs.Staying.{fall-small}
 

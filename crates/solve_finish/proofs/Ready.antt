@@ -14,7 +14,7 @@ use Rattle.move_edges.specs.Incidence.{Incident, PositiveSet}
 use Rattle.board.specs.declared.Network.{Network}
 use Rattle.graph_flows.specs.Trails.{Step}
 use Rattle.move_guard.specs.Moved.{unchanged}
-use Rattle.move_guard.specs.declared.Change.{Change}
+use Rattle.move_guard.specs.Moved.{Change}
 use Rattle.move_cycle.specs.Steps.{stepsOf}
 use Rattle.move_turn.specs.Turns.{turnChange}
 use Rattle.move_turn.specs.Inner.{Sound}
@@ -28,7 +28,7 @@ use Rattle.solve_carry.specs.Search.{chosenEdgeIn, Searched}
 use Rattle.solve_next.specs.Choosing.{allHomeIn}
 use Rattle.solve_next.specs.Parts.{Searchable, Walkable}
 use Rattle.solve_next.proofs.Intact.{playing-searchable, playing-walkable, searched, charted}
-use Rattle.solve_finish.specs.declared.Made.{Made}
+use Rattle.solve_finish.specs.Run.{Made}
 use Rattle.solve_finish.specs.Run.{allSmall, openTerminalIn, carryStep, turnStep, stepChange, InPlay, Makes}
 use Rattle.solve_finish.proofs.Staying.{flows-small}
 

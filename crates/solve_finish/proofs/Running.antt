@@ -2,31 +2,29 @@
 -- the whole run does. A move that is refused ends the run, so nothing is left; an accepted one leaves one move fewer, and none where the board is not in play
 -- after it, for then the next one is refused. So where nothing is left the parts make up the board at the end of the run, and the answer of the finish is read off
 -- it.
-use mathlib.Core.Path.{_≡_, refl, sym, ap, _∙_}
-use mathlib.Core.Bool.{Bool, true, false}
+use mathlib.Core.Path.{_≡_, refl, sym, _∙_}
+use mathlib.Core.Bool.{Bool, true}
 use mathlib.Core.Logic.{_≢_}
 use mathlib.Core.List.{List}
-use Prim.Native.Nat.{ℕ, _+_, _-_, _<_, _≤_}
+use Prim.Native.Nat.{ℕ, _+_, _-_, _<_}
 use native.Mathlib.Omega.{arith}
 use lib.Dec.{leb}
 use lib.ListN.{length, set, length-set}
-use lib.Seq.{set-out}
 use Rattle.lists.specs.Choice.{pick, both}
 use Rattle.lists.proofs.Laws.{Known, was-true, was-false, known, pick-yes, pick-no}
 use Rattle.board.specs.Limits.{maxEdges, maxTerminals, maxMoves}
-use Rattle.board.specs.declared.Board.{Board}
+use Rattle.board.specs.Whole.{Board}
 use Rattle.board.specs.declared.Entry.{Entry}
 use Rattle.board.specs.declared.Network.{Network}
 use Rattle.move_guard.specs.Guard.{playing}
 use Rattle.move_guard.specs.Moved.{moved}
 use Rattle.move_guard.proofs.Stores.{withParts}
-use Rattle.move_guard.specs.declared.Change.{Change}
+use Rattle.move_guard.specs.Moved.{Change}
 use Rattle.solve_next.specs.Choosing.{allHome, allHomeIn}
 use Rattle.solve_next.proofs.Advised.{home-same}
-use Rattle.solve_finish.specs.declared.Made.{Made}
-use Rattle.solve_finish.specs.Finishes.{steppedOn, playedOut, ended, finishCall}
+use Rattle.solve_finish.specs.Run.{Made}
+use Rattle.solve_finish.specs.Finishes.{steppedOn, playedOut}
 use Rattle.solve_finish.specs.Run.{stepChange, PartsSized, InPlay, Makes, leftAfter}
-use Rattle.solve_finish.proofs.Stepping.{finish-stuck, finish-made}
 use Rattle.solve_finish.proofs.Making.{on-stops, on-goes, closed-stops}
 use Rattle.solve_finish.proofs.Following.{FollowsChange, follows}
 
@@ -36,10 +34,6 @@ standing last flows marks places moves = withParts last flows marks places (last
 
 abbrev pub journaled : Board → List Entry → Board
 journaled last journal = withParts last (last .flows) (last .marks) (last .places) journal (last .moves)
-
--- past its end the journal stays
-pub journal-past : (last : Board) (m : ℕ) (entry : Entry) → length (last .journal) ≤ m → last ≡ journaled last (set (last .journal) m entry)
-journal-past last m entry h = rw (set-out (last .journal) m entry h)
 
 -- one move or more fewer are left
 pub left-less : (left moves : ℕ) (small : Bool) → left ≢ 0 → leftAfter left moves small < left
@@ -70,11 +64,6 @@ run-starts b play long short sized =
 pub run-same : (whole : Board) (net : Network) (last : Board) (flows flows' : List ℕ) (marks : ℕ) (places places' : List ℕ) (moves left : ℕ)
     → flows' ≡ flows → places' ≡ places → Run whole net last flows marks places moves left → Run whole net last flows' marks places' moves left
 run-same whole net last flows flows' marks places places' moves left f p r = rw (f, p) r
-
--- the next move of the run, where one is left
-pub record Next (net : Network) (flows : List ℕ) (marks : ℕ) (places : List ℕ) (left : ℕ) (made : Made) : Type 0 where
-  pub makes : left ≢ 0 → Makes (stepChange net flows marks places) made
-  pub short : length (made .change .places) ≡ maxTerminals
 
 module _ (whole : Board) (net : Network) (last : Board) (flows : List ℕ) (marks : ℕ) (places : List ℕ) (moves left : ℕ)
     (r : Run whole net last flows marks places moves left) (n : left ≢ 0) where
@@ -154,10 +143,3 @@ module _ (whole : Board) (net : Network) (last : Board) (flows : List ℕ) (mark
 
   at-home : home ≡ allHome (standing last flows marks places moves)
   at-home = h ∙ rw (← r .network) (home-same (standing last flows marks places moves))
-
-  pub run-stuck : home ≡ false → record { answer = 20; count = 0; board = whole } ≡ finishCall whole
-  run-stuck n = finish-stuck whole play (sym (at-home ∙ ap allHome over) ∙ n)
-
-  pub run-over : (count : ℕ) → home ≡ true → count ≡ moves - whole .moves
-      → record { answer = 0; count = count; board = ended (whole .moves) (standing last flows marks places moves) } ≡ finishCall whole
-  run-over count y c = finish-made whole (standing last flows marks places moves) _ count play over (sym at-home ∙ y) c refl

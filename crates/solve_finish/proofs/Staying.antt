@@ -11,12 +11,11 @@ use lib.Dec.{leb, ltb, eqb}
 use lib.ListN.{length, getD, set}
 use borrow.Author.Tests.{ltb-true, leb-true, eqb-true, le-leb, lt-ltb, eq-eqb}
 use Rattle.lists.specs.Choice.{pick, both}
-use Rattle.lists.specs.Lists.{all}
 use Rattle.lists.proofs.Laws.{Known, was-true, was-false, known, lt-or-ge, pick-yes, pick-no, pick-passed, pick-avoided, both-left, both-right, both-true, all-from, all-zero, all-same}
 use Rattle.sets.specs.Sets.{hasBit}
 use Rattle.board.specs.Limits.{maxEdges, maxTerminals, maxMoves, maxTotal}
 use Rattle.board.specs.Record.{playStage, blank}
-use Rattle.board.specs.declared.Board.{Board}
+use Rattle.board.specs.Whole.{Board}
 use Rattle.board.specs.declared.Entry.{Entry}
 use Rattle.text_rules.specs.Rules.{countsFit}
 use Rattle.graph_flows.specs.Trails.{Step, edgeOf}

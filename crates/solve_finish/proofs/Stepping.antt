@@ -5,8 +5,8 @@ use mathlib.Core.Bool.{true, false}
 use Prim.Native.Nat.{ℕ, _-_}
 use Rattle.lists.specs.Choice.{pick}
 use Rattle.lists.proofs.Laws.{pick-yes, pick-no}
-use Rattle.board.specs.declared.Board.{Board}
-use Rattle.board.specs.declared.Played.{Played}
+use Rattle.board.specs.Whole.{Board}
+use Rattle.board.specs.Whole.{Played}
 use Rattle.move_guard.specs.Guard.{playing}
 use Rattle.move_guard.specs.Moved.{answered}
 use Rattle.move_carry.specs.Carries.{carryRefusal}

@@ -5,12 +5,17 @@ use lib.Dec.{eqb}
 use Rattle.lists.specs.Choice.{pick}
 use Rattle.board.specs.Limits.{maxMoves}
 use Rattle.board.specs.Record.{finishedStage}
-use Rattle.board.specs.declared.Board.{Board}
-use Rattle.board.specs.declared.Played.{Played}
+use Rattle.board.specs.Whole.{Board}
+use Rattle.board.specs.Whole.{Played}
 use Rattle.move_guard.specs.Guard.{playing}
 use Rattle.move_guard.specs.Moved.{answered}
 use Rattle.solve_next.specs.Choosing.{allHome, judge, acted, nextAct}
-use Rattle.solve_finish.specs.declared.Finished.{Finished}
+
+-- what a finish gives: 0, how many moves it made, and the board at the end; or the number that it is refused with, and the board as it was
+pub record Finished : Type 0 where
+  pub answer : ℕ
+  pub count : ℕ
+  pub board : Board
 
 -- the solver's next move made as a call; 28 where every terminal is at the source and none is left to make
 unfoldable pub stepped : Board → Played

@@ -3,10 +3,14 @@ use mathlib.Core.List.{List}
 use Prim.Native.Nat.{ℕ, _-_}
 use Rattle.lists.specs.Choice.{pick}
 use Rattle.journal.specs.Words.{wholeOf, blankFrom}
-use Rattle.journal.specs.declared.Table.{Table}
+use Rattle.board.specs.Whole.{Table}
 use Rattle.solve_finish.specs.Finishes.{playedOut, finishCall}
-use Rattle.solve_finish.specs.declared.Ended.{Ended}
-use Rattle.solve_finish.specs.declared.Finished.{Finished}
+use Rattle.solve_finish.specs.declared.Finished as code
+use Rattle.solve_finish.specs.Finishes.{Finished}
+
+-- the code's `Finished`: its board is without the journal
+abbrev pub Ended : Type 0
+Ended = code.Finished
 
 -- what a finish gave, as two numbers and a board
 abbrev pub endedOf : Ended → List (List ℕ) → Finished

@@ -12,13 +12,13 @@ use Rattle.sets.specs.Sets.{hasBit, joined}
 use Rattle.sets.specs.Inner.{dropped}
 use Rattle.move_edges.specs.Incidence.{PositiveSet}
 use Rattle.board.specs.Limits.{maxEdges, maxTerminals, maxMoves, maxTotal}
-use Rattle.board.specs.declared.Board.{Board}
+use Rattle.board.specs.Whole.{Board}
 use Rattle.board.specs.declared.Move.{Move}
 use Rattle.board.specs.declared.Move.the-variants.{Carry, Turn}
 use Rattle.board.specs.declared.Network.{Network}
 use Rattle.move_guard.specs.Guard.{playing}
 use Rattle.move_guard.specs.Moved.{unchanged}
-use Rattle.move_guard.specs.declared.Change.{Change}
+use Rattle.move_guard.specs.Moved.{Change}
 use Rattle.move_carry.specs.Carries.{carriedIn}
 use Rattle.move_turn.specs.Turns.{turnChange}
 use Rattle.solve_walk.specs.Walk.{cycleOf}
@@ -29,12 +29,17 @@ use Rattle.move_turn.specs.declared.Frame.{Frame}
 use Rattle.move_turn.specs.Lent.{netOf, bareOf}
 use Rattle.board.specs.Record.{blank}
 use Rattle.journal.specs.Words.{wholeOf, journalOf, blankFrom, packedOn}
-use Rattle.journal.specs.declared.Table.{Table}
+use Rattle.board.specs.Whole.{Table}
 use Rattle.solve_finish.specs.Finishes.{playedOut}
 use Rattle.solve_finish.specs.declared.Ran.{Ran}
-use Rattle.solve_finish.specs.declared.Made.{Made}
 use Rattle.solve_finish.specs.declared.Progress.{Progress}
 use Rattle.solve_finish.specs.declared.Seen.{Seen}
+
+-- a move of the solver: what it changes, the positive edges after it, and whether the flows are small then
+pub record Made : Type 0 where
+  pub change : Change
+  pub positive : ℕ
+  pub small : Bool
 
 -- no flow is above what the terminals need together at most
 unfoldable pub allSmall : List ℕ → Bool

@@ -2,40 +2,24 @@
 -- in play has no more steps than the board has vertices, so that all its bytes have places, and a byte says its step back.
 use mathlib.Core.Path.{_≡_, refl, ap, _∙_}
 use mathlib.Core.Bool.{true, false}
-use Prim.Native.Nat.{ℕ, _<_, _≤_}
+use Prim.Native.Nat.{ℕ, _≤_}
 use native.Mathlib.Omega.{arith}
-use lib.ListN.{length, take, replicate}
-use borrow.Author.Tests.{lt-ltb, le-ltb, eq-eqb, ne-eqb}
+use lib.ListN.{length, take}
+use borrow.Author.Tests.{eq-eqb, ne-eqb}
 use Rattle.lists.specs.Lists.{lowest}
 use Rattle.lists.proofs.Laws.{Known, was-true, was-false, known, pick-yes, pick-no}
 use Rattle.board.specs.Limits.{maxEdges}
-use Rattle.board.specs.declared.Board.{Board}
+use Rattle.board.specs.Whole.{Board}
 use Rattle.move_guard.specs.Guard.{playing}
 use Rattle.move_carry.specs.Opens.{enters, isOpen, openEdge, hasOpen, openTerminal, someOpen, isOpenAt}
 use Rattle.solve_carry.specs.Search.{hasOpenAt, markedOpenAt, chosenEdgeIn}
 use Rattle.move_cycle.specs.Steps.{stepsOf}
 use Rattle.solve_walk.specs.Walk.{packed}
 use Rattle.solve_walk.specs.Inner.{walked}
-use Rattle.solve_walk.specs.declared.Walk.{Walk}
 use Rattle.solve_walk.proofs.Packed.{cycle-walked, cycle-short}
 use Rattle.solve_next.specs.declared.Advice.{Advice}
 use Rattle.solve_next.proofs.Intact.{playing-vertices}
-use Rattle.solve_next.specs.Choosing.{
-  relocate,
-  augment,
-  carryKind,
-  turnKind,
-  isHome,
-  allHome,
-  allHomeIn,
-  markedOpen,
-  markedEdge,
-  chosenEdge,
-  nextCycle,
-  nextAct,
-  adviceOf,
-  actOf,
-}
+use Rattle.solve_next.specs.Choosing.{relocate, augment, carryKind, isHome, allHome, allHomeIn, markedOpen, markedEdge, chosenEdge, nextCycle, nextAct, adviceOf, actOf}
 
 -- the move of a record, by its kind
 pub act-carry : (a : Advice) → a .kind ≡ carryKind → actOf a ≡ relocate (a .terminal) (a .edge)
@@ -70,22 +54,6 @@ next-carry b h = pick-yes _ _ _ h
 pub next-turn : (b : Board) → someOpen b ≡ false → nextAct b ≡ augment (nextCycle b)
 unfolding nextAct
 next-turn b h = pick-no _ _ _ h
-
--- the records that the code puts together, part by part, from the search for a terminal with an open carry
-module _ (b : Board) (i : ℕ) (hi : i ≡ openTerminal b) where
-  pub makes-carry : (e : ℕ) → i < b .network .terminals → e ≡ chosenEdge b i
-      → record { kind = carryKind; terminal = i; edge = e; count = 0; steps = replicate maxEdges 0 } ≡ adviceOf (nextAct b)
-  unfolding someOpen
-  makes-carry e below he =
-      let some : someOpen b ≡ true = rw (← hi) (lt-ltb i (b .network .terminals) below) in
-      rw (next-carry b some, he, hi)
-
-  pub makes-turn : (w : Walk) → b .network .terminals ≤ i → w ≡ packed (nextCycle b)
-      → record { kind = turnKind; terminal = 0; edge = 0; count = w .count; steps = w .steps } ≡ adviceOf (nextAct b)
-  unfolding someOpen
-  makes-turn w above hw =
-      let none : someOpen b ≡ false = rw (← hi) (le-ltb i (b .network .terminals) above) in
-      rw (next-turn b none, hw)
 
 module _ (b : Board) (play : playing b ≡ true) where
   cycle-held : length (b .flows) ≡ maxEdges → walked (packed (nextCycle b)) ≡ nextCycle b

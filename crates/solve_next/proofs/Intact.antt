@@ -9,7 +9,7 @@ use lib.ListN.{length, getD, List·getD-eq-default}
 use borrow.Author.Tests.{lt-ltb, le-ltb, ltb-true, leb-true, eqb-true, eq-eqb}
 use Rattle.lists.proofs.Laws.{lt-or-ge, pick-yes, pick-no, both-left, both-right}
 use Rattle.board.specs.Limits.{maxVertices, maxEdges}
-use Rattle.board.specs.declared.Board.{Board}
+use Rattle.board.specs.Whole.{Board}
 use Rattle.board.specs.declared.Network.{Network}
 use Rattle.move_guard.specs.Parts.{flow, acyclicFlow, demand, place}
 use Rattle.move_guard.specs.Guard.{terminalIntact, intact, playing}

@@ -1,12 +1,12 @@
 -- The solver's next move and its number over the parts of a board in play are the board's.
 use mathlib.Core.Path.{_≡_, refl, sym, ap, ap₂, _∙_}
-use mathlib.Core.Bool.{true, false}
+use mathlib.Core.Bool.{true}
 use mathlib.Core.List.{List}
 use Prim.Native.Nat.{ℕ, _<_, _≤_}
 use lib.Dec.{ltb}
 use borrow.Author.Tests.{lt-ltb, le-ltb, ltb-true, ltb-false}
 use Rattle.lists.proofs.Laws.{Known, was-true, was-false, known, pick-yes, pick-no}
-use Rattle.board.specs.declared.Board.{Board}
+use Rattle.board.specs.Whole.{Board}
 use Rattle.board.specs.declared.Network.{Network}
 use Rattle.move_guard.specs.Guard.{playing}
 use Rattle.move_carry.specs.Opens.{openTerminal, someOpen, someOpenIn}

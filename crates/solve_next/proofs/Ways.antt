@@ -8,7 +8,7 @@ use borrow.Author.Tests.{eq-eqb, ne-eqb}
 use Rattle.lists.specs.Choice.{pick, either}
 use Rattle.lists.proofs.Laws.{pick-yes, pick-no}
 use Rattle.board.specs.Limits.{maxEdges}
-use Rattle.board.specs.declared.Board.{Board}
+use Rattle.board.specs.Whole.{Board}
 use Rattle.move_guard.specs.Guard.{playing}
 use Rattle.solve_next.specs.declared.Advice.{Advice}
 use Rattle.solve_next.specs.Choosing.{allHome, judge, nextAct, noAdvice, adviceOf, actOf}

@@ -7,7 +7,7 @@ use lib.ListN.{getD, take, replicate}
 use Rattle.lists.specs.Choice.{pick, both}
 use Rattle.lists.specs.Lists.{all, lowest}
 use Rattle.board.specs.Limits.{maxEdges}
-use Rattle.board.specs.declared.Board.{Board}
+use Rattle.board.specs.Whole.{Board}
 use Rattle.move_guard.specs.Parts.{marked, place}
 use Rattle.move_carry.specs.Opens.{isOpen, openEdge, openTerminal, someOpen}
 use Rattle.move_carry.specs.Carries.{carryRefusal, carried}

@@ -2,7 +2,6 @@
 use board::Board;
 use board::EdgeSet;
 use board::Network;
-use journal::Table;
 use journal::WORDS;
 use solve_carry::Found;
 use solve_walk::Walk;
@@ -16,7 +15,7 @@ ghost use Rattle.move_turn.specs.Inner.{Sound};
 ghost use Rattle.solve_carry.specs.Search.{foundCarry};
 ghost use Rattle.solve_walk.specs.Walk.{cycleOf, packed};
 ghost use Rattle.solve_next.specs.Parts.{Searchable, Walkable};
-ghost use Rattle.solve_next.specs.Choosing.{allHomeIn, judge, nextAct, noAdvice, adviceOf, actOf};
+ghost use Rattle.solve_next.specs.Choosing.{allHomeIn, noAdvice, adviceOf, actOf};
 ghost use Rattle.solve_next.specs.Acts.{nextActIn, judgeIn};
 ghost use Rattle.solve_next.specs.Hints.{hintCall};
 
@@ -79,7 +78,7 @@ fn next_carry(
 {
     let heads = net.heads;
     let entering = move_edges::at_vertices(heads);
-    let positive = move_edges::positive(flows);
+    let positive = move_edges::positive(&flows);
     solve_carry::open_carry(
         &heads,
         &entering,
@@ -102,7 +101,7 @@ fn next_cycle(net: Network, flows: [u32; Board::MAX_EDGES]) -> Walk
     let heads = net.heads;
     let leaving = move_edges::at_vertices(tails);
     let entering = move_edges::at_vertices(heads);
-    let positive = move_edges::positive(flows);
+    let positive = move_edges::positive(&flows);
     solve_walk::cycle(
         &tails,
         &heads,
@@ -115,47 +114,6 @@ fn next_cycle(net: Network, flows: [u32; Board::MAX_EDGES]) -> Walk
     )
 }
 
-// The move that the solver makes next on a board in play.
-fn next(board: Board) -> Advice
-    requires { ⌜ playing board ≡ true ⌝ }
-    ensures { λ r. ⌜ r ≡ adviceOf (nextAct board) ⌝ }
-{
-    let net = board.network;
-    let flows = board.flows;
-    let places = board.places;
-    let found = next_carry(net, flows, board.marks, places);
-    if found.terminal < net.terminals {
-        return Advice {
-            kind: Advice::CARRY,
-            terminal: found.terminal,
-            edge: found.edge,
-            count: 0,
-            steps: [0; Board::MAX_EDGES],
-        };
-    }
-    let walk = next_cycle(net, flows);
-    let steps = walk.steps;
-    Advice {
-        kind: Advice::TURN,
-        terminal: 0,
-        edge: 0,
-        count: walk.count,
-        steps: steps,
-    }
-}
-
-// The number that a move is refused with; 0 where it is accepted.
-fn judge(board: Board, advice: Advice) -> u32
-    requires { ⌜ advice .count ≤ maxEdges ⌝ }
-    ensures { λ r. ⌜ r ≡ judge board (actOf advice) ⌝ }
-{
-    if advice.kind == Advice::CARRY {
-        return move_carry::carry_refusal(board, advice.terminal, advice.edge);
-    }
-    let steps = advice.steps;
-    move_turn::turn_refusal(board, &steps[..advice.count as usize])
-}
-
 // ---- The call `hint`.
 
 // What a hint gives: 0 and the move that a finish would make next, or none; or the number that it is refused with.
@@ -163,39 +121,6 @@ pub struct Suggestion {
     pub answer: u32,
     pub advice: Advice,
 }
-
-// The move that the solver would make next; none where every terminal is at the source, and after a refusal.
-pub fn hint(board: Board) -> Suggestion
-    ensures { λ r. ⌜ r ≡ hintCall board ⌝ }
-{
-    let none = Advice::none();
-    if !move_guard::playing(board) {
-        return Suggestion {
-            answer: 20,
-            advice: none,
-        };
-    }
-    let net = board.network;
-    if all_home(&board.places, net.terminals, net.source) {
-        return Suggestion {
-            answer: 0,
-            advice: none,
-        };
-    }
-    let advice = next(board);
-    if judge(board, advice) != 0 {
-        return Suggestion {
-            answer: 20,
-            advice: none,
-        };
-    }
-    Suggestion {
-        answer: 0,
-        advice: advice,
-    }
-}
-
-// ---- The call `hint` with the journal lent.
 
 // The move that the solver makes next, by the parts of a board in play.
 fn next_in(
@@ -264,11 +189,11 @@ fn judge_in<'a>(
 }
 
 // The move that the solver would make next; none where every terminal is at the source, and after a refusal.
-pub fn hint_lent(board: Table, journal: &[[u64; WORDS]; Board::JOURNAL]) -> Suggestion
+pub fn hint(board: Board, journal: &[[u64; WORDS]; Board::JOURNAL]) -> Suggestion
     ensures { λ r. ⌜ r ≡ hintCall (wholeOf board (now (journal .entry))) ⌝ }
 {
     let none = Advice::none();
-    if !move_guard::playing_lent(board, journal) {
+    if !move_guard::playing(board, journal) {
         return Suggestion {
             answer: 20,
             advice: none,

@@ -10,7 +10,7 @@ use Rattle.text.specs.Text.{Read, refused, got, layout, textOf}
 use Rattle.text_rules.specs.Rules.{judged, lawful}
 use Rattle.board.specs.declared.Network.{Network}
 use Rattle.text.specs.declared.Reading.{Reading}
-use Rattle.board.specs.declared.Board.{Board}
+use Rattle.board.specs.Whole.{Board}
 use Rattle.text.specs.declared.Written.{Written}
 
 -- a refusal, with no network

@@ -10,7 +10,7 @@ use Rattle.lists.specs.Choice.{pick}
 use Rattle.lists.proofs.Laws.{both-true}
 use Rattle.board.specs.declared.Network.{Network}
 use Rattle.board.specs.Record.{playStage, finishedStage}
-use Rattle.board.specs.declared.Board.{Board}
+use Rattle.board.specs.Whole.{Board}
 use Rattle.text_rules.specs.Rules.{lawful}
 use Rattle.text_rules.proofs.Meaning.{lawful-tested}
 use Rattle.text.specs.Text.{textOf}

@@ -1,7 +1,6 @@
 // Writing a board text: a network's lines into a buffer, and the call `write`.
 use board::Board;
 use board::Network;
-use journal::Table;
 use text::Written;
 ghost use mathlib.Core.Path.{_≡_};
 ghost use Prim.Native.Nat.{_+_, _*_, _≤_};
@@ -9,7 +8,7 @@ ghost use lib.ListN.{length};
 ghost use lib.Seq.{sets};
 ghost use Rattle.board.specs.Limits.{maxEdges, maxTerminals};
 ghost use Rattle.text.specs.Text.{lineText, linesText, edgeRow, terminalRow, textOf};
-ghost use Rattle.text.specs.Results.{writable, writeText, written, writeTextIn, writtenIn};
+ghost use Rattle.text.specs.Results.{writable, writeTextIn, writtenIn};
 
 // ---- The text of a network, written into a buffer. A byte past the end of the buffer is dropped, so writing into a
 // short buffer measures the text.
@@ -113,28 +112,7 @@ fn writable(stage: u32, net: Network) -> bool
 }
 
 // Writes the text that was loaded: 29 where no board was loaded, then 8 where the buffer is too short for the text.
-pub fn write(b: Board, buf: &mut [u8]) -> Written
-    ensures { λ r. ⌜ r ≡ writeText b (length (now (buf .entry))) ⌝ }
-    ensures { λ r. ⌜ now (buf .exit) ≡ written b (now (buf .entry)) ⌝ }
-{
-    let net = b.network;
-    if !writable(b.stage, net) {
-        return Written::refused(29);
-    }
-    let mut none = [0u8; 1];
-    let length = put_text(&mut none, net);
-    if buf.len() < length {
-        return Written::refused(8);
-    }
-    let used = put_text(buf, net);
-    Written {
-        answer: 0,
-        used: used,
-    }
-}
-
-// The same of a board without its journal.
-pub fn write_lent(board: Table, buf: &mut [u8]) -> Written
+pub fn write(board: Board, buf: &mut [u8]) -> Written
     ensures { λ r. ⌜ r ≡ writeTextIn (board .stage) (board .network) (length (now (buf .entry))) ⌝ }
     ensures { λ _. ⌜ now (buf .exit) ≡ writtenIn (board .stage) (board .network) (now (buf .entry)) ⌝ }
 {

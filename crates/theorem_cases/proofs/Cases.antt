@@ -12,7 +12,7 @@ use Rattle.lists.specs.Members.{has}
 use Rattle.sets.specs.Sets.{hasBit, withBit, collect}
 use Rattle.decimal.specs.Decimal.{numberOf, valueFrom}
 use Rattle.board.specs.Record.{closedBoard}
-use Rattle.board.specs.declared.Board.{Board}
+use Rattle.board.specs.Whole.{Board}
 use Rattle.board.specs.declared.Move.{Move}
 use Rattle.board.specs.declared.Move.the-variants.{Carry, Turn}
 use Rattle.text.specs.Text.{ranged}
@@ -22,7 +22,7 @@ use Rattle.graph_cancel.specs.Cycles.{since, follow, onCycle, cycleVertex, cycl
 use Rattle.graph_cancel.specs.Lowering.{smallest, lowered, lowerCycle}
 use Rattle.graph_cancel.specs.Cancelling.{cancelled, acyclicFlows}
 use Rattle.graph_flows.specs.Trails.{Step, down, up}
-use Rattle.load.specs.declared.Loaded.{Loaded}
+use Rattle.load.specs.Load.{Loaded}
 use Rattle.load.specs.Load.{loadText}
 use Rattle.move_edges.specs.Singular.{leaves, leaving, straight}
 use Rattle.move_guard.specs.Moved.{lastEntry, answered}
@@ -37,7 +37,7 @@ use Rattle.move_turn.specs.Turns.{turnRefusal, turned, turnCall}
 use Rattle.move_undo.specs.Undone.{undoRefusal, undone, undoCall}
 use Rattle.solve_walk.specs.Walk.{touches, another, parts, firstMet, downWalk, cycleOf}
 use Rattle.solve_next.specs.Choosing.{isHome, allHome, markedOpen, markedEdge, chosenEdge, nextCycle, nextAct}
-use Rattle.solve_finish.specs.declared.Finished.{Finished}
+use Rattle.solve_finish.specs.Finishes.{Finished}
 use Rattle.solve_finish.specs.Finishes.{stepped, steppedOn, playedOut, finishRefusal, finishCall}
 use Rattle.move_list.specs.Calls.{Call, carry, turn, undo, played, answers}
 use Rattle.report_routes.specs.Routes.{routeBy, route, load}

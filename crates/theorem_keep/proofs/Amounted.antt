@@ -12,7 +12,7 @@ use lib.ListN.{length, getD}
 use borrow.Author.Tests.{eqb-true, eqb-false, eq-eqb, ltb-true, ltb-false, lt-ltb}
 use Rattle.lists.specs.Choice.{pick}
 use Rattle.lists.proofs.Laws.{Known, was-true, was-false, known, eq-or-ne, pick-yes, pick-no, both-left, both-right, both-true}
-use Rattle.board.specs.declared.Board.{Board}
+use Rattle.board.specs.Whole.{Board}
 use Rattle.graph_flows.specs.Trails.{Step, down, up, edgeOf, Trail, stay, go, Closed, In}
 use Rattle.move_guard.specs.Parts.{flow, head, demand, place}
 use Rattle.move_cycle.specs.Amounts.{smaller, isShort, raise, amountFrom, amount}

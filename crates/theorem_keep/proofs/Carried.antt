@@ -14,7 +14,7 @@ use Rattle.lists.proofs.Laws.{eq-or-ne}
 use Rattle.lists.proofs.Pigeon.{has-cases}
 use Rattle.board.specs.Limits.{maxMoves}
 use Rattle.board.specs.Record.{blank}
-use Rattle.board.specs.declared.Board.{Board}
+use Rattle.board.specs.Whole.{Board}
 use Rattle.board.specs.declared.Entry.{Entry}
 use Rattle.board.specs.declared.Move.the-variants.{Carry}
 use Rattle.text_rules.specs.Rules.{Lawful}

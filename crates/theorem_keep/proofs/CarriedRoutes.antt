@@ -16,7 +16,7 @@ use Rattle.lists.specs.Members.{has}
 use Rattle.lists.proofs.Laws.{eq-or-ne, pick-yes, pick-no}
 use Rattle.lists.proofs.Pigeon.{has-here}
 use Rattle.lists.proofs.Totals.{total-same, total-raised, most-same, most-at}
-use Rattle.board.specs.declared.Board.{Board}
+use Rattle.board.specs.Whole.{Board}
 use Rattle.board.specs.declared.Entry.{Entry}
 use Rattle.board.specs.declared.Move.the-variants.{Carry}
 use Rattle.move_guard.specs.Parts.{demand}

@@ -7,7 +7,7 @@ use lib.ListN.{set}
 use lib.Seq.{getD-set-same, set-set, set-getD}
 use Rattle.board.specs.Limits.{maxMoves}
 use Rattle.board.specs.Record.{blank}
-use Rattle.board.specs.declared.Board.{Board}
+use Rattle.board.specs.Whole.{Board}
 use Rattle.board.specs.declared.Entry.{Entry}
 use Rattle.board.specs.declared.Move.the-variants.{Carry}
 use Rattle.move_guard.specs.Parts.{flow, tail, head, demand}

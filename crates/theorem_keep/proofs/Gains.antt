@@ -9,7 +9,7 @@ use native.Mathlib.Omega.{arith}
 use lib.ListN.{getD}
 use Rattle.lists.specs.Choice.{pick}
 use Rattle.lists.proofs.Laws.{pick-yes, pick-no}
-use Rattle.board.specs.declared.Board.{Board}
+use Rattle.board.specs.Whole.{Board}
 use Rattle.graph_flows.specs.Trails.{Step, down, up, edgeOf, In}
 use Rattle.graph_flows.proofs.Positives.{positives, positives-some, positives-below, positives-fewer}
 use Rattle.graph_flows.proofs.Change.{after, changed-at}

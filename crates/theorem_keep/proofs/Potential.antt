@@ -13,7 +13,7 @@ use Rattle.lists.specs.Choice.{pick}
 use Rattle.lists.specs.Lists.{total}
 use Rattle.lists.proofs.Laws.{above-inside, eq-or-ne}
 use Rattle.board.specs.Limits.{maxMoves}
-use Rattle.board.specs.declared.Board.{Board}
+use Rattle.board.specs.Whole.{Board}
 use Rattle.board.specs.declared.Network.{Network}
 use Rattle.text_rules.specs.Rules.{Lawful}
 use Rattle.graph_flows.specs.Inner.{rank}

@@ -11,7 +11,7 @@ use borrow.Author.Tests.{eq-eqb, ne-eqb}
 use Rattle.lists.proofs.Laws.{pick-yes, pick-no, both-true}
 use Rattle.board.specs.Limits.{maxMoves}
 use Rattle.board.specs.Record.{playStage}
-use Rattle.board.specs.declared.Board.{Board}
+use Rattle.board.specs.Whole.{Board}
 use Rattle.text.specs.Results.{readText}
 use Rattle.load.specs.Load.{acyclicOf, opened, loadText}
 use Rattle.load.proofs.Loads.{load-accepted, loaded-lawful}

@@ -15,7 +15,7 @@ use Rattle.sets.specs.Sets.{hasBit}
 use Rattle.sets.proofs.Bits.{joined-back}
 use Rattle.board.specs.Limits.{maxMoves}
 use Rattle.board.specs.Record.{blank}
-use Rattle.board.specs.declared.Board.{Board}
+use Rattle.board.specs.Whole.{Board}
 use Rattle.board.specs.declared.Entry.{Entry}
 use Rattle.board.specs.declared.Move.the-variants.{Turn}
 use Rattle.graph_flows.specs.Trails.{Step, down, up, edgeOf, edgesOf, In}

@@ -2,18 +2,14 @@
 use mathlib.Core.Path.{_≡_, refl, sym, _∙_}
 use mathlib.Core.Bool.{true, false}
 use mathlib.Core.List.{List}
-use Prim.Native.Nat.{ℕ, _<_}
 use borrow.Author.Tests.{ltb-true, lt-ltb}
 use Rattle.lists.proofs.Laws.{pick-yes, pick-no, pick-passed, pick-avoided}
-use Rattle.board.specs.declared.Board.{Board}
-use Rattle.graph_flows.specs.Trails.{Step, down, up, edgeOf, Closed, In}
-use Rattle.move_guard.specs.Parts.{flow}
+use Rattle.board.specs.Whole.{Board}
+use Rattle.graph_flows.specs.Trails.{Step, down, up, In}
 use Rattle.move_guard.specs.Guard.{playing}
-use Rattle.move_carry.specs.Opens.{someOpen}
 use Rattle.move_cycle.specs.Steps.{isUp}
 use Rattle.move_cycle.proofs.Cycled.{every-in, every-of, cycle-closed, closed-cycle}
 use Rattle.move_turn.specs.declared.StepRule.the-variants.{OnBoard, Positive, UpSingular}
-use Rattle.move_edges.specs.Marking.{singular}
 use Rattle.move_turn.specs.Turns.{meets, turnRefusal}
 use Rattle.theorem_keep.specs.Allowed.{Turnable}
 

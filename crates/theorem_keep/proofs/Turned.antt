@@ -12,7 +12,7 @@ use borrow.Author.Tests.{le-leb}
 use Rattle.lists.proofs.Laws.{lt-or-ge, eq-or-ne}
 use Rattle.board.specs.Limits.{maxMoves, maxTotal}
 use Rattle.board.specs.Record.{blank}
-use Rattle.board.specs.declared.Board.{Board}
+use Rattle.board.specs.Whole.{Board}
 use Rattle.board.specs.declared.Entry.{Entry}
 use Rattle.board.specs.declared.Move.the-variants.{Turn}
 use Rattle.graph_flows.specs.Trails.{Step}

@@ -12,7 +12,7 @@ use Rattle.lists.specs.Lists.{sumAt}
 use Rattle.lists.specs.Members.{has, Distinct}
 use Rattle.lists.proofs.Laws.{Known, was-true, was-false, known, lt-or-ge}
 use Rattle.sets.specs.Sets.{hasBit}
-use Rattle.board.specs.declared.Board.{Board}
+use Rattle.board.specs.Whole.{Board}
 use Rattle.graph_flows.specs.Trails.{Step, down, up, edgeOf, edgesOf, In}
 use Rattle.graph_flows.specs.Inner.{changedAlong, Room, Fits}
 use Rattle.graph_flows.proofs.Change.{over, changed-length, changed-other, changed-at, closed-trail}

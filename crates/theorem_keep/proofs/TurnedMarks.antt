@@ -13,7 +13,7 @@ use Rattle.lists.specs.Choice.{either}
 use Rattle.lists.proofs.Laws.{above-inside, Known, was-true, was-false, known, lt-or-ge, both-left, both-right, both-true}
 use Rattle.sets.specs.Sets.{hasBit}
 use Rattle.sets.proofs.Bits.{has-none, has-joined, collect-new, collect-from}
-use Rattle.board.specs.declared.Board.{Board}
+use Rattle.board.specs.Whole.{Board}
 use Rattle.graph_flows.specs.Paths.{PositiveEdge, here, Unparted}
 use Rattle.graph_flows.proofs.Reach.{path-first}
 use Rattle.move_guard.specs.Parts.{flow, acyclicFlow, tail, head, marked, demand}

@@ -4,7 +4,7 @@ use mathlib.Core.Bool.{true, false}
 use mathlib.Core.Logic.{_≢_}
 use mathlib.Core.List.{List}
 use Prim.Native.Nat.{ℕ, _+_, _<_, _≤_}
-use Rattle.board.specs.declared.Board.{Board}
+use Rattle.board.specs.Whole.{Board}
 use Rattle.graph_flows.specs.Trails.{Step, down, up, edgeOf, In, Closed}
 use Rattle.move_guard.specs.Parts.{flow, head, marked, demand, place}
 use Rattle.move_carry.specs.Opens.{someOpen}

@@ -8,7 +8,7 @@ use Rattle.lists.specs.Lists.{sumAt}
 use Rattle.lists.specs.Members.{has}
 use Rattle.board.specs.Limits.{maxMoves}
 use Rattle.board.specs.Record.{blank}
-use Rattle.board.specs.declared.Board.{Board}
+use Rattle.board.specs.Whole.{Board}
 use Rattle.text_rules.specs.Rules.{Lawful}
 use Rattle.graph_cancel.specs.Cancelling.{acyclicFlows}
 use Rattle.graph_flows.specs.Trails.{Trail, downs}

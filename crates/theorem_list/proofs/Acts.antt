@@ -2,7 +2,7 @@
 -- has one move more. Each fact is the carry's or the turn's own, by the kind of the move.
 use mathlib.Core.Path.{_≡_, refl}
 use Prim.Native.Nat.{_+_, _<_}
-use Rattle.board.specs.declared.Board.{Board}
+use Rattle.board.specs.Whole.{Board}
 use Rattle.solve_next.specs.Choosing.{Act, relocate, augment, judge, acted}
 use Rattle.move_carry.specs.Carries.{carried}
 use Rattle.move_turn.specs.Turns.{turned}

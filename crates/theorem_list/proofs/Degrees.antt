@@ -12,7 +12,7 @@ use lib.Seq.{getD-set-same, getD-set-other}
 use borrow.Author.Tests.{eqb-false}
 use Rattle.lists.specs.Lists.{all, keyed, sumAt}
 use Rattle.lists.proofs.Laws.{above-inside, Known, was-true, was-false, known, lt-or-ge}
-use Rattle.board.specs.declared.Board.{Board}
+use Rattle.board.specs.Whole.{Board}
 use Rattle.move_guard.specs.Parts.{flow, tail, head, marked, demand, place}
 use Rattle.text_rules.specs.Rules.{Lawful}
 use Rattle.move_carry.specs.Opens.{someOpen}

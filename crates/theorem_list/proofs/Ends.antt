@@ -13,7 +13,7 @@ use Rattle.lists.specs.Members.{has, Distinct}
 use Rattle.lists.proofs.Laws.{Known, was-true, was-false, known, lt-or-ge, all-from, pick-yes}
 use Rattle.lists.proofs.Totals.{most-at}
 use Rattle.lists.proofs.Pigeon.{has-here, has-later, both-missed}
-use Rattle.board.specs.declared.Board.{Board}
+use Rattle.board.specs.Whole.{Board}
 use Rattle.graph_flows.specs.Trails.{Trail, go, downs}
 use Rattle.move_guard.specs.Parts.{flow, acyclicFlow, marked, demand, place}
 use Rattle.solve_next.specs.Choosing.{isHome, allHome}

@@ -14,16 +14,16 @@ use borrow.Author.Tests.{eq-eqb}
 use Rattle.lists.specs.Choice.{either}
 use Rattle.lists.proofs.Laws.{Known, was-true, was-false, known, pick-yes, pick-no}
 use Rattle.board.specs.Limits.{maxMoves}
-use Rattle.board.specs.declared.Board.{Board}
+use Rattle.board.specs.Whole.{Board}
 use Rattle.board.specs.declared.Network.{Network}
-use Rattle.board.specs.declared.Played.{Played}
+use Rattle.board.specs.Whole.{Played}
 use Rattle.move_guard.specs.Guard.{playing}
 use Rattle.move_guard.proofs.Answers.{answered-yes}
 use Rattle.move_carry.specs.Carries.{carried}
 use Rattle.move_turn.specs.Turns.{turned}
 use Rattle.solve_next.specs.Choosing.{Act, relocate, augment, allHome, judge, acted, nextAct}
 use Rattle.solve_next.specs.Hints.{hintRefusal}
-use Rattle.solve_finish.specs.declared.Finished.{Finished}
+use Rattle.solve_finish.specs.Finishes.{Finished}
 use Rattle.solve_finish.specs.Finishes.{stepped, steppedOn, playedOut, finishRefusal, ended, finishCall}
 use Rattle.theorem_keep.specs.Bound.{movesBound}
 use Rattle.theorem_keep.specs.Invariant.{Invariant}

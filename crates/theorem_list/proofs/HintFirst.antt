@@ -2,19 +2,18 @@
 -- one number of moves: so from the board after the first of them they lead to the same end, in one move less.
 use mathlib.Core.Path.{_≡_, refl, sym, ap, _∙_}
 use mathlib.Core.Bool.{true, false, true≢false}
-use Prim.Native.Nat.{ℕ, zero, suc, _+_}
+use Prim.Native.Nat.{ℕ, zero, suc}
 use native.Mathlib.Omega.{arith}
 use lib.Dec.{eqb}
 use borrow.Author.Tests.{eq-eqb}
-use Rattle.lists.specs.Choice.{pick}
 use Rattle.lists.proofs.Laws.{pick-yes, pick-no}
-use Rattle.board.specs.declared.Board.{Board}
-use Rattle.solve_next.specs.Choosing.{allHome, judge, acted, nextAct, noAdvice, adviceOf, actOf}
+use Rattle.board.specs.Whole.{Board}
+use Rattle.solve_next.specs.Choosing.{allHome, acted, nextAct, noAdvice, adviceOf, actOf}
 use Rattle.solve_next.specs.Hints.{hintRefusal, nextAdvice, hintCall}
 use Rattle.solve_next.proofs.Advised.{advice-act}
 use Rattle.solve_finish.specs.Finishes.{ended, finishCall}
 use Rattle.theorem_keep.proofs.Standing.{Standing, standing-playing}
-use Rattle.theorem_list.specs.Complete.{SolvedBy, Complete, OneFurther}
+use Rattle.theorem_list.specs.Complete.{SolvedBy, OneFurther}
 use Rattle.theorem_list.proofs.Acts.{act-standing}
 use Rattle.theorem_list.proofs.Next.{next-accepted}
 use Rattle.theorem_list.proofs.Finish.{next, finish-completes, hint-taken}

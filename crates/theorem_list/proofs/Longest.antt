@@ -16,17 +16,17 @@ use Rattle.lists.proofs.Laws.{Known, was-true, was-false, known, lt-or-ge, pick
 use Rattle.lists.proofs.Pigeon.{has-here}
 use Rattle.lists.proofs.Totals.{total-some, most-within}
 use Rattle.board.specs.Limits.{maxFlow}
-use Rattle.board.specs.declared.Board.{Board}
+use Rattle.board.specs.Whole.{Board}
 use Rattle.board.specs.declared.Network.{Network}
 use Rattle.text_rules.specs.Rules.{Lawful}
 use Rattle.text.specs.Text.{lineText, linesText}
 use Rattle.text.specs.Results.{readText}
 use Rattle.text.proofs.Lengths.{line-within, each-within, lines-parted}
-use Rattle.load.specs.Load.{acyclicOf, loadText}
+use Rattle.load.specs.Load.{loadText}
 use Rattle.load.proofs.Loads.{load-accepted, loaded-lawful}
 use Rattle.graph_flows.specs.Trails.{Trail, go, downs}
 use Rattle.move_guard.specs.Parts.{acyclicFlow}
-use Rattle.solve_finish.specs.declared.Finished.{Finished}
+use Rattle.solve_finish.specs.Finishes.{Finished}
 use Rattle.solve_finish.specs.Finishes.{finishCall}
 use Rattle.move_list.specs.Calls.{Call, played}
 use Rattle.report_routes.specs.Routes.{route, share, load, largest}

@@ -3,7 +3,7 @@
 use mathlib.Core.Path.{_≡_, ap, _∙_}
 use mathlib.Core.Bool.{false}
 use Rattle.lists.proofs.Laws.{Known, was-true, was-false, known, pick-yes, pick-no}
-use Rattle.board.specs.declared.Board.{Board}
+use Rattle.board.specs.Whole.{Board}
 use Rattle.move_carry.specs.Opens.{openTerminal, someOpen}
 use Rattle.solve_next.specs.Choosing.{allHome, chosenEdge, judge, nextCycle, nextAct}
 use Rattle.theorem_keep.proofs.Carriable.{carry-accepted}

@@ -4,7 +4,7 @@ use mathlib.Core.Path.{_≡_, _∙_}
 use mathlib.Core.Bool.{true}
 use Prim.Native.Nat.{ℕ, _<_}
 use native.Mathlib.Omega.{arith}
-use Rattle.board.specs.declared.Board.{Board}
+use Rattle.board.specs.Whole.{Board}
 use Rattle.move_carry.specs.Opens.{isOpen, openTerminal, someOpen}
 use Rattle.theorem_keep.specs.Invariant.{Invariant}
 use Rattle.theorem_keep.specs.Allowed.{Carriable}

@@ -11,7 +11,7 @@ use lib.ListN.{length}
 use borrow.Author.Tests.{eqb-false, ne-eqb, not-true}
 use Rattle.lists.proofs.Laws.{lt-or-ge, both-left, both-right, both-true}
 use Rattle.lists.proofs.Lowest.{lowest-least, lowest-found}
-use Rattle.board.specs.declared.Board.{Board}
+use Rattle.board.specs.Whole.{Board}
 use Rattle.move_guard.specs.Parts.{tail, head}
 use Rattle.move_carry.specs.Opens.{someOpen}
 use Rattle.move_edges.specs.Marking.{singular}

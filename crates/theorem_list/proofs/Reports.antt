@@ -9,7 +9,7 @@ use lib.Dec.{eqb}
 use borrow.Author.Tests.{le-leb, eq-eqb, ne-eqb}
 use Rattle.lists.proofs.Laws.{pick-yes, pick-no, both-true}
 use Rattle.board.specs.Record.{playStage, finishedStage}
-use Rattle.board.specs.declared.Board.{Board}
+use Rattle.board.specs.Whole.{Board}
 use Rattle.text.specs.Results.{readText}
 use Rattle.load.specs.Load.{acyclicOf, loadText}
 use Rattle.load.proofs.Loads.{load-accepted}
@@ -19,7 +19,7 @@ use Rattle.report_routes.specs.Routes.{route}
 use Rattle.report_routes.specs.Tables.{routesFit}
 use Rattle.report.specs.Reports.{started, unreported, reportText}
 use Rattle.sheet_output.specs.Outputs.{reportOf, finishOutput, sheetOutput}
-use Rattle.solve_finish.specs.declared.Finished.{Finished}
+use Rattle.solve_finish.specs.Finishes.{Finished}
 use Rattle.solve_finish.specs.Finishes.{playedOut, ended, finishCall}
 use Rattle.move_list.specs.Calls.{Call, played}
 use Rattle.theorem_keep.proofs.Standing.{Standing, loaded-standing, standing-playing}

@@ -13,7 +13,7 @@ use Rattle.lists.specs.Inner.{Below}
 use Rattle.lists.proofs.Laws.{lt-or-ge, all-zero}
 use Rattle.lists.proofs.Pigeon.{pigeon}
 use Rattle.board.specs.Limits.{maxVertices}
-use Rattle.board.specs.declared.Board.{Board}
+use Rattle.board.specs.Whole.{Board}
 use Rattle.board.specs.declared.Network.{Network}
 use Rattle.text_rules.specs.Rules.{Lawful}
 use Rattle.move_guard.specs.Parts.{place}

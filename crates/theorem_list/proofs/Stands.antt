@@ -11,8 +11,8 @@ use lib.ListN.{length, take, replicate, length-append}
 use lib.Seq.{take-append-seam}
 use borrow.Author.Tests.{eq-eqb, ne-eqb}
 use Rattle.lists.proofs.Laws.{eq-or-ne, pick-yes, pick-no}
-use Rattle.board.specs.declared.Board.{Board}
-use Rattle.board.specs.declared.Played.{Played}
+use Rattle.board.specs.Whole.{Board}
+use Rattle.board.specs.Whole.{Played}
 use Rattle.load.specs.Load.{loadText}
 use Rattle.load.proofs.Loads.{load-accepted}
 use Rattle.move_guard.proofs.Answers.{answered-yes}

@@ -7,14 +7,13 @@ use Prim.Native.Nat.{ℕ, zero, suc, _+_, _<_, _≤_}
 use native.Mathlib.Omega.{arith}
 use Rattle.lists.specs.Lists.{sumAt}
 use Rattle.lists.proofs.Laws.{lt-or-ge}
-use Rattle.board.specs.declared.Board.{Board}
+use Rattle.board.specs.Whole.{Board}
 use Rattle.graph_flows.proofs.Sums.{sum-entry}
 use Rattle.graph_flows.proofs.Rank.{rank-below}
 use Rattle.move_guard.specs.Parts.{flow, tail, head}
 use Rattle.solve_next.specs.Choosing.{allHome}
 use Rattle.theorem_keep.specs.Invariant.{Invariant}
 use Rattle.theorem_keep.proofs.Potential.{level, level-rises}
-use Rattle.theorem_keep.proofs.Single.{Leaves}
 use Rattle.theorem_keep.proofs.TurnedMarks.{positive-inside}
 use Rattle.theorem_list.proofs.Degrees.{never-enters, in-at-least, at-terminal}
 use Rattle.theorem_list.proofs.Ends.{home-facts}

@@ -7,7 +7,7 @@ use lib.ListN.{getD}
 use Rattle.lists.proofs.Laws.{eq-or-ne}
 use Rattle.board.specs.Limits.{maxMoves}
 use Rattle.board.specs.Record.{blank, closedBoard}
-use Rattle.board.specs.declared.Board.{Board}
+use Rattle.board.specs.Whole.{Board}
 use Rattle.journal.specs.Words.{packed, blankWords, noWords, packedAll}
 use Rattle.journal.proofs.Places.{packed-at, packed-none}
 use Rattle.load.specs.Load.{loadText}

@@ -7,11 +7,11 @@ use lib.ListN.{length, getD, take}
 use Rattle.lists.specs.Members.{has, Distinct}
 use Rattle.board.specs.Limits.{maxMoves}
 use Rattle.board.specs.Record.{blank}
-use Rattle.board.specs.declared.Board.{Board}
+use Rattle.board.specs.Whole.{Board}
 use Rattle.move_guard.specs.Parts.{flow, acyclicFlow, place}
 use Rattle.graph_flows.specs.Trails.{Trail, downs}
 use Rattle.solve_next.specs.Choosing.{allHome, judge, acted, nextAct}
-use Rattle.solve_finish.specs.declared.Finished.{Finished}
+use Rattle.solve_finish.specs.Finishes.{Finished}
 use Rattle.solve_finish.specs.Finishes.{ended, finishCall}
 use Rattle.report_routes.specs.Routes.{route, load, largest}
 use Rattle.theorem_keep.specs.Bound.{movesBound}

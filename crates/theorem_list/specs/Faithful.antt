@@ -7,7 +7,7 @@ use lib.ListN.{length, getD, replicate}
 use Rattle.lists.specs.Members.{has}
 use Rattle.board.specs.Limits.{maxMoves}
 use Rattle.board.specs.Record.{blank}
-use Rattle.board.specs.declared.Board.{Board}
+use Rattle.board.specs.Whole.{Board}
 use Rattle.journal.specs.Words.{blankWords, noWords, wordsAfter, packedAll}
 use Rattle.load.specs.Load.{loadText}
 use Rattle.move_guard.specs.Guard.{playing}

@@ -4,7 +4,7 @@ use Prim.Native.Nat.{ℕ, _-_}
 use lib.Dec.{eqb}
 use lib.ListN.{length, take}
 use Rattle.lists.specs.Choice.{pick}
-use Rattle.board.specs.declared.Board.{Board}
+use Rattle.board.specs.Whole.{Board}
 use Rattle.move_carry.specs.Carries.{carryRefusal, carried}
 use Rattle.move_turn.specs.Turns.{turnRefusal, turned}
 use Rattle.load.specs.Load.{loadText}

@@ -2,7 +2,7 @@
 use mathlib.Core.Path.{_≡_}
 use mathlib.Core.List.{List}
 use Prim.Native.Nat.{ℕ}
-use Rattle.board.specs.declared.Board.{Board}
+use Rattle.board.specs.Whole.{Board}
 use Rattle.solve_finish.specs.Finishes.{finishCall}
 use Rattle.report.specs.Reports.{reportText, unreported}
 use Rattle.sheet_output.specs.Outputs.{sheetOutput}

@@ -7,15 +7,15 @@ use Rattle.boundary.proofs.last_board.Tie as tie
 returns : tie.Need-returns
 returns c = λ kept. last-same _ (c .before .args .board) _ kept (c .if1 .taken)
 
-finish-lent-requires : tie.Need-finish-lent-requires
-finish-lent-requires c κs = search needs
+finish-requires : tie.Need-finish-requires
+finish-requires c κs = search needs
 
 returns-2 : tie.Need-returns-2
 returns-2 c =
     let finishing = c .before in
     let other = finishing .before .before in
-    let gave = finishing .finish-lent .ensures in
-    λ kept. last-finished _ (other .before .args .board) _ kept (finishing .finish-lent .result) _ (other .if1 .left) (gave .0) (gave .1)
+    let gave = finishing .finish .ensures in
+    λ kept. last-finished _ (other .before .args .board) _ kept (finishing .finish .result) _ (other .if1 .left) (gave .0) (gave .1)
 
 pub last-board-spec : {M : Type 1} → statement M
-last-board-spec = tie.close (tie.spec returns finish-lent-requires returns-2)
+last-board-spec = tie.close (tie.spec returns finish-requires returns-2)

@@ -1,12 +1,12 @@
 -- What the whole play ensures, part by part.
 use mathlib.Core.Path.{ap}
-use Rattle.playthrough.specs.declared.Outcome.{Outcome}
+use Rattle.playthrough.specs.Through.{Outcome}
 use borrow.Author.Needs.{needs}
 use Rattle.boundary.proofs.vulprow_finish.Statement.{statement}
 use Rattle.boundary.proofs.vulprow_finish.Tie as tie
 
-play-through-lent-requires : tie.Need-play-through-lent-requires
-play-through-lent-requires c κs = search needs
+play-through-requires : tie.Need-play-through-requires
+play-through-requires c κs = search needs
 
 same-length : tie.Need-same-length
 same-length c = search needs
@@ -17,7 +17,7 @@ same-length-2 c = search needs
 returns : tie.Need-returns
 returns c =
     let at-play = c .before .before .before .before .before .before .before .before in
-    let gave = at-play .play-through-lent .ensures in
+    let gave = at-play .play-through .ensures in
     let through = gave .0 in (
       ap (λ (o : Outcome). o .finish .answer) through,
       (
@@ -43,4 +43,4 @@ returns c =
 
 pub vulprow-finish-spec : {M : Type 1} → statement M
 vulprow-finish-spec =
-    tie.close (tie.spec play-through-lent-requires same-length same-length-2 returns)
+    tie.close (tie.spec play-through-requires same-length same-length-2 returns)

@@ -1,9 +1,9 @@
 -- What the two calls ensure, each put into the next; the words stay those of the journal.
 use mathlib.Core.Path.{ap, _∙_}
 use lib.Seq.{sets}
-use Rattle.board.specs.declared.Board.{Board}
+use Rattle.board.specs.Whole.{Board}
 use Rattle.journal.specs.Words.{packedAll}
-use Rattle.load.specs.declared.Loaded.{Loaded}
+use Rattle.load.specs.Load.{Loaded}
 use Rattle.move_list.specs.Calls.{answers, hintsOf, noted}
 use Rattle.move_list.specs.Codes.{callsOf}
 use Rattle.playthrough.proofs.Words.{after-calls, kept, from-load}
@@ -11,11 +11,11 @@ use borrow.Author.Needs.{needs}
 use Rattle.boundary.proofs.vulprow_play.Statement.{statement}
 use Rattle.boundary.proofs.vulprow_play.Tie as tie
 
-load-lent-requires : tie.Need-load-lent-requires
-load-lent-requires c κs = search needs
+load-requires : tie.Need-load-requires
+load-requires c κs = search needs
 
-run-lent-requires : tie.Need-run-lent-requires
-run-lent-requires c κs = search needs
+run-requires : tie.Need-run-requires
+run-requires c κs = search needs
 
 same-length : tie.Need-same-length
 same-length c = search needs
@@ -30,12 +30,12 @@ returns c =
     let args = at-load .before .before .before .before .before .before .before .args in
     let text = args .text .now in
     let calls = callsOf (args .steps .now) (args .codes .now) in
-    let opened = at-load .load-lent .result in
-    let empty = at-load .load-lent .last .1 .0 in
-    let loads = at-load .load-lent .ensures in
-    let table = at-run .run-lent .result in
-    let words = at-run .run-lent .last .1 .0 in
-    let runs = at-run .run-lent .ensures in
+    let opened = at-load .load .result in
+    let empty = at-load .load .last .1 .0 in
+    let loads = at-load .load .ensures in
+    let table = at-run .run .result in
+    let words = at-run .run .last .1 .0 in
+    let runs = at-run .run .ensures in
     let end = after-calls text calls opened empty (loads .0) (loads .1) table words (runs .0) (runs .1 .0) in
     let packs = kept text calls opened empty (loads .0) (loads .1) table words (runs .0) (runs .1 .0) ∙ ap (λ (b : Board). packedAll (b .journal)) end in
     let given = runs .1 .1 .0
@@ -60,4 +60,4 @@ returns c =
 
 pub vulprow-play-spec : {M : Type 1} → statement M
 vulprow-play-spec =
-    tie.close (tie.spec load-lent-requires run-lent-requires same-length same-length-2 returns)
+    tie.close (tie.spec load-requires run-requires same-length same-length-2 returns)

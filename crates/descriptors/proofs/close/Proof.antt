@@ -1,5 +1,7 @@
 -- The session's last words are written into the buffer, and printed where they fit it.
+use denote.Ref.{now}
 use Rattle.play_session.specs.Machine.{endTold}
+use Rattle.play_session.specs.Lent.{sessionOf}
 use borrow.Author.Needs.{needs}
 use Rattle.descriptors.proofs.Printing.{printed-fits}
 use Rattle.descriptors.proofs.close.Statement.{statement}
@@ -17,10 +19,11 @@ same-length c = search needs
 returns : tie.Need-returns
 returns c =
     let telling = c .before .before .before .before in
-    let at-args = telling .before .before .before .args in
+    let start = telling .before .before .before .before in
+    let session = sessionOf (start .args .session) (now (start .args .journal)) in
     let told = telling .close .ensures in
     let written = told .1 .1 in
-    let fits = printed-fits (at-args .out .now) _ (endTold (at-args .session)) _ (told .0) written in
+    let fits = printed-fits (now (start .args .out)) _ (endTold session) _ (told .0) written in
     ((λ e. fits (c .print-part .ensures e)), written)
 
 pub close-spec : {M : Type 1} → statement M

@@ -1,5 +1,6 @@
 -- The session behind the first `from` bytes goes on as one that is served all of them from the start; a piece takes a byte at least, so that the bytes
 -- run out.
+use denote.Ref.{now}
 use mathlib.Core.Path.{_≡_, refl, sym, ap, _∙_}
 use mathlib.Core.Bool.{true≢false}
 use Prim.Native.Nat.{_-_, _≤_}
@@ -8,20 +9,22 @@ use lib.ListN.{length}
 use lib.Seq.{length-sets}
 use borrow.Author.Needs.{needs}
 use borrow.Author.Tests.{not-true, eqb-false}
+use Rattle.play_session.specs.Lent.{sessionOf}
 use Rattle.descriptors.proofs.Taking.{ServedOn, served-start, served-handed, served-here, served-end}
 use Rattle.descriptors.proofs.hand_all.Statement.{statement}
 use Rattle.descriptors.proofs.hand_all.Tie as tie
 
 abbrev Inv-loop : tie.InvT-loop
-Inv-loop bytes out₀ current₀ from₀ out current from = (from ≤ length bytes) × (length out ≡ length out₀) × ServedOn current₀ bytes current from
+Inv-loop journal₀ bytes out₀ current₀ from₀ journal out current from =
+    (from ≤ length bytes) × (length out ≡ length out₀) × ServedOn (sessionOf current₀ journal₀) bytes (sessionOf current journal) from
 
 abbrev μ-loop : tie.MeasureT-loop
-μ-loop bytes out₀ current₀ from₀ out current from = length bytes - from
+μ-loop journal₀ bytes out₀ current₀ from₀ journal out current from = length bytes - from
 
 loop-holds : tie.Need-loop-holds Inv-loop μ-loop
 loop-holds c =
-    let at-args = c .before .before .args in
-    (omega arith, refl, served-start (at-args .session) (at-args .bytes .now))
+    let start = c .before .before in
+    (omega arith, refl, served-start (sessionOf (start .args .session) (now (start .args .journal))) (now (start .args .bytes)))
 
 sub-hand-on : tie.Need-sub-hand-on Inv-loop μ-loop
 sub-hand-on c = search needs
@@ -37,33 +40,36 @@ hand-on-requires c κs = search needs
 
 add-from : tie.Need-add-from Inv-loop μ-loop
 add-from c =
-    let at-hand = c .before .before .before in
-    let at-loop = at-hand .before .before .before .before in
-    let at-args = at-loop .before .before .before .args in
-    let session = at-args .session in
-    let bytes = at-args .bytes .now in
-    let gave = at-hand .hand-on .ensures in
-    let inside = at-hand .before .before .before .loop-test .taken in
-    let step = served-handed session bytes _ _ (at-loop .loop .inv .2) inside _ _ (gave .0) (gave .1 .0) in
+    let handed = c .before .before .before in
+    let inside = handed .before .before .before .before in
+    let at-loop = inside .before in
+    let start = at-loop .before .before .before in
+    let session = sessionOf (start .args .session) (now (start .args .journal)) in
+    let bytes = now (start .args .bytes) in
+    let current = sessionOf (at-loop .loop .current) (at-loop .loop .journal) in
+    let gave = handed .hand-on in
+    let next = sessionOf (gave .result .session) (gave .last .1 .0) in
+    let step = served-handed session bytes current _ (at-loop .loop .inv .2) (inside .loop-test .taken) next _ (gave .ensures .0) (gave .ensures .1 .0) in
     omega (arith, step .1)
 
 same-length : tie.Need-same-length Inv-loop μ-loop
 same-length c =
-    let at-hand = c .before .before .before .before in
-    let at-loop = at-hand .before .before .before .before in
-    ap length (at-hand .hand-on .ensures .1 .1 .1) ∙ simp length-sets (at-loop .loop .inv .1)
+    let handed = c .before .before .before .before in
+    let at-loop = handed .before .before .before .before .before in
+    ap length (handed .hand-on .ensures .1 .1 .1) ∙ simp length-sets (at-loop .loop .inv .1)
 
 returns : tie.Need-returns Inv-loop μ-loop
 returns c =
-    let at-hand = c .before .before .before .before in
-    let at-loop = at-hand .before .before .before .before in
-    let at-args = at-loop .before .before .before .args in
-    let session = at-args .session in
-    let bytes = at-args .bytes .now in
-    let gave = at-hand .hand-on .ensures in
-    let inside = at-hand .before .before .before .loop-test .taken in
-    let step = served-handed session bytes _ _ (at-loop .loop .inv .2) inside _ _ (gave .0) (gave .1 .0) in
-    let next = at-hand .hand-on .result .session in
+    let handed = c .before .before .before .before in
+    let inside = handed .before .before .before .before in
+    let at-loop = inside .before in
+    let start = at-loop .before .before .before in
+    let session = sessionOf (start .args .session) (now (start .args .journal)) in
+    let bytes = now (start .args .bytes) in
+    let current = sessionOf (at-loop .loop .current) (at-loop .loop .journal) in
+    let gave = handed .hand-on in
+    let next = sessionOf (gave .result .session) (gave .last .1 .0) in
+    let step = served-handed session bytes current _ (at-loop .loop .inv .2) (inside .loop-test .taken) next _ (gave .ensures .0) (gave .ensures .1 .0) in
     record {
       count = _;
       within = step .1;
@@ -74,27 +80,31 @@ returns c =
 
 loop-less : tie.Need-loop-less Inv-loop μ-loop
 loop-less c =
-    let at-hand = c .before .before .before .before in
-    let at-loop = at-hand .before .before .before .before in
-    let at-args = at-loop .before .before .before .args in
-    let session = at-args .session in
-    let bytes = at-args .bytes .now in
-    let gave = at-hand .hand-on .ensures in
-    let inside = at-hand .before .before .before .loop-test .taken in
-    let step = served-handed session bytes _ _ (at-loop .loop .inv .2) inside _ _ (gave .0) (gave .1 .0) in
-    omega (arith, step .0, inside)
+    let handed = c .before .before .before .before in
+    let inside = handed .before .before .before .before in
+    let at-loop = inside .before in
+    let start = at-loop .before .before .before in
+    let session = sessionOf (start .args .session) (now (start .args .journal)) in
+    let bytes = now (start .args .bytes) in
+    let current = sessionOf (at-loop .loop .current) (at-loop .loop .journal) in
+    let gave = handed .hand-on in
+    let next = sessionOf (gave .result .session) (gave .last .1 .0) in
+    let step = served-handed session bytes current _ (at-loop .loop .inv .2) (inside .loop-test .taken) next _ (gave .ensures .0) (gave .ensures .1 .0) in
+    omega (arith, step .0, inside .loop-test .taken)
 
 loop-again : tie.Need-loop-again Inv-loop μ-loop
 loop-again c =
-    let at-hand = c .before .before .before .before in
-    let at-loop = at-hand .before .before .before .before in
-    let at-args = at-loop .before .before .before .args in
-    let session = at-args .session in
-    let bytes = at-args .bytes .now in
-    let gave = at-hand .hand-on .ensures in
-    let inside = at-hand .before .before .before .loop-test .taken in
-    let step = served-handed session bytes _ _ (at-loop .loop .inv .2) inside _ _ (gave .0) (gave .1 .0) in
-    (step .1, ap length (gave .1 .1 .1) ∙ simp length-sets (at-loop .loop .inv .1), step .2)
+    let handed = c .before .before .before .before in
+    let inside = handed .before .before .before .before in
+    let at-loop = inside .before in
+    let start = at-loop .before .before .before in
+    let session = sessionOf (start .args .session) (now (start .args .journal)) in
+    let bytes = now (start .args .bytes) in
+    let current = sessionOf (at-loop .loop .current) (at-loop .loop .journal) in
+    let gave = handed .hand-on in
+    let next = sessionOf (gave .result .session) (gave .last .1 .0) in
+    let step = served-handed session bytes current _ (at-loop .loop .inv .2) (inside .loop-test .taken) next _ (gave .ensures .0) (gave .ensures .1 .0) in
+    (step .1, ap length (gave .ensures .1 .1 .1) ∙ simp length-sets (at-loop .loop .inv .1), step .2)
 
 same-length-2 : tie.Need-same-length-2 Inv-loop μ-loop
 same-length-2 c = c .before .before .loop .inv .1
@@ -102,10 +112,10 @@ same-length-2 c = c .before .before .loop .inv .1
 returns-2 : tie.Need-returns-2 Inv-loop μ-loop
 returns-2 c =
     let at-loop = c .before .before in
-    let at-args = at-loop .before .before .before .args in
-    let session = at-args .session in
-    let bytes = at-args .bytes .now in
-    let current = at-loop .loop .current in
+    let start = at-loop .before .before .before in
+    let session = sessionOf (start .args .session) (now (start .args .journal)) in
+    let bytes = now (start .args .bytes) in
+    let current = sessionOf (at-loop .loop .current) (at-loop .loop .journal) in
     let inv = at-loop .loop .inv in
     record {
       count = at-loop .loop .from;

@@ -1,5 +1,7 @@
 -- What the session says of a piece is written into the buffer, and printed where it fits it.
+use denote.Ref.{now}
 use Rattle.play_session.specs.Machine.{fedTold}
+use Rattle.play_session.specs.Lent.{sessionOf}
 use borrow.Author.Needs.{needs}
 use Rattle.descriptors.proofs.Printing.{printed-fits}
 use Rattle.descriptors.proofs.hand_on.Statement.{statement}
@@ -18,10 +20,11 @@ returns : tie.Need-returns
 returns c =
     let printing = c .before in
     let feeding = printing .before .before .before .before in
-    let at-args = feeding .before .before .before .before .args in
+    let start = feeding .before .before .before .before .before in
+    let session = sessionOf (start .args .session) (now (start .args .journal)) in
     let told = feeding .feed .ensures in
     let written = told .1 .1 .1 .1 .0 in
-    let fits = printed-fits (at-args .out .now) _ (fedTold (at-args .session) (at-args .bytes .now)) _ (told .1 .1 .0) written in
+    let fits = printed-fits (now (start .args .out)) _ (fedTold session (now (start .args .bytes))) _ (told .1 .1 .0) written in
     (told .0, (told .1 .0, ((λ e. fits (printing .print-part .ensures e)), written)))
 
 pub hand-on-spec : {M : Type 1} → statement M

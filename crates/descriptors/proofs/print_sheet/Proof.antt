@@ -1,4 +1,5 @@
 -- What `sheet` says is written into the buffer, and printed where it fits it.
+use denote.Ref.{now}
 use Rattle.sheet_output.specs.Outputs.{sheetOutput}
 use borrow.Author.Needs.{needs}
 use Rattle.descriptors.proofs.Printing.{printed-fits}
@@ -17,10 +18,10 @@ same-length c = search needs
 returns : tie.Need-returns
 returns c =
     let telling = c .before .before .before .before in
-    let at-args = telling .before .before .before .before .args in
+    let start = telling .before .before .before .before .before in
     let told = telling .sheet-output .ensures in
-    let written = told .1 .1 in
-    let fits = printed-fits (at-args .out .now) _ (sheetOutput (at-args .input .now)) _ (told .0) written in
+    let written = told .1 .1 .0 in
+    let fits = printed-fits (now (start .args .out)) _ (sheetOutput (now (start .args .input))) _ (told .0) written in
     ((λ e. fits (c .print-part .ensures e)), written)
 
 pub print-sheet-spec : {M : Type 1} → statement M

@@ -21,8 +21,8 @@ loop-holds c = passed-none _
 mul-with : tie.Need-mul-with Inv-loop μ-loop
 mul-with c = search needs
 
-array-read-with : tie.Need-array-read-with Inv-loop μ-loop
-array-read-with c = search needs
+element-copy-out-with : tie.Need-element-copy-out-with Inv-loop μ-loop
+element-copy-out-with c = search needs
 
 with-requires : tie.Need-with-requires Inv-loop μ-loop
 with-requires c κs = search needs
@@ -34,7 +34,7 @@ loop-less : tie.Need-loop-less Inv-loop μ-loop
 loop-less c = omega arith
 
 loop-again : tie.Need-loop-again Inv-loop μ-loop
-loop-again c = rw (c .with .ensures) (passed-turn _ _ _ (c .before .before .loop .inv))
+loop-again c = rw (c .with .ensures) (passed-turn _ _ _ (c .before .before .before .loop .inv))
 
 returns : tie.Need-returns Inv-loop μ-loop
 returns c = passed-all _ maxEdges _ _ (c .loop-test .left) (c .before .loop .inv)
@@ -47,7 +47,7 @@ positive-spec =
     μ-loop
     loop-holds
     mul-with
-    array-read-with
+    element-copy-out-with
     with-requires
     add-e
     loop-less

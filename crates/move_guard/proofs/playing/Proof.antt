@@ -1,9 +1,7 @@
--- The stage is that of play and the board is intact: where the stage is that of play, nothing more is to be tested.
-use mathlib.Core.Path.{sym, ap, _∙_}
-use lib.Dec.{eqb}
-use Rattle.lists.specs.Choice.{both}
-use Rattle.board.specs.Record.{playStage}
-use Rattle.move_guard.proofs.Facts.{playing-staged}
+-- The stage of play is within the stages of a loaded board, so the tests of the stage and of the board are the definition's.
+use denote.Ref.{now}
+use Rattle.journal.specs.Words.{wholeOf}
+use Rattle.move_guard.proofs.Parts.{staged}
 use borrow.Author.Needs.{needs}
 use Rattle.move_guard.proofs.playing.Statement.{statement}
 use Rattle.move_guard.proofs.playing.Tie as tie
@@ -16,8 +14,9 @@ and-requires c κs = search needs
 
 returns : tie.Need-returns
 returns c =
-    let board = c .before .before .before .args .board in
-    c .and .ensures ∙ ap (both (eqb (board .stage) playStage)) (c .before .before .intact .ensures) ∙ sym (playing-staged board)
+    let tested = c .before .before in
+    let start = tested .before in
+    staged (wholeOf (start .args .board) (now (start .args .journal))) _ _ (tested .intact .ensures) (c .and .ensures)
 
 pub playing-spec : {M : Type 1} → statement M
 playing-spec = tie.close (tie.spec intact-requires and-requires returns)

@@ -20,8 +20,8 @@ two-left kind low zero one = go (eq-or-ne kind 2)
     go (inl e) = e
     go (inr n) = absurd (omega arith)
 
-carry-lent-requires : tie.Need-carry-lent-requires
-carry-lent-requires c κs = search needs
+carry-requires : tie.Need-carry-requires
+carry-requires c κs = search needs
 
 returns : tie.Need-returns
 returns c =
@@ -29,12 +29,12 @@ returns c =
     let args = start .args in
     let words = now (args .journal) in
     let whole = wholeOf (args .board) words in
-    let gave = c .carry-lent .ensures in
+    let gave = c .carry .ensures in
     let call = carry-coded (args .steps .now) (args .kind) (args .a) (args .c) (c .before .before .if1 .taken) in
     (gave .0 ∙ ap (λ (x : Call). made whole x) call, gave .1 ∙ ap (λ (x : Call). wordsAfter (args .board .moves) (made whole x .board) words) call)
 
-turn-part-lent-requires : tie.Need-turn-part-lent-requires
-turn-part-lent-requires c κs = search needs
+turn-part-requires : tie.Need-turn-part-requires
+turn-part-requires c κs = search needs
 
 returns-2 : tie.Need-returns-2
 returns-2 c =
@@ -42,12 +42,12 @@ returns-2 c =
     let args = start .args in
     let words = now (args .journal) in
     let whole = wholeOf (args .board) words in
-    let gave = c .turn-part-lent .ensures in
+    let gave = c .turn-part .ensures in
     let call = turn-coded (args .steps .now) (args .kind) (args .a) (args .c) (c .before .before .if2 .taken) in
     (gave .0 ∙ ap (λ (x : Call). made whole x) call, gave .1 ∙ ap (λ (x : Call). wordsAfter (args .board .moves) (made whole x .board) words) call)
 
-undo-lent-requires : tie.Need-undo-lent-requires
-undo-lent-requires c κs = search needs
+undo-requires : tie.Need-undo-requires
+undo-requires c κs = search needs
 
 returns-3 : tie.Need-returns-3
 returns-3 c =
@@ -55,7 +55,7 @@ returns-3 c =
     let args = start .args in
     let words = now (args .journal) in
     let whole = wholeOf (args .board) words in
-    let gave = c .undo-lent .ensures in
+    let gave = c .undo .ensures in
     let call = undo-coded (args .steps .now) (args .kind) (args .a) (args .c) (two-left _ (start .pre) (c .before .before .before .if1 .left) (c .before .before .if2 .left)) in
     (gave .0 ∙ ap (λ (x : Call). made whole x) call, gave .1 ∙ ap (λ (x : Call). wordsAfter (args .board .moves) (made whole x .board) words) call)
 
@@ -63,9 +63,9 @@ pub make-spec : {M : Type 1} → statement M
 make-spec =
     tie.close
     (tie.spec
-    carry-lent-requires
+    carry-requires
     returns
-    turn-part-lent-requires
+    turn-part-requires
     returns-2
-    undo-lent-requires
+    undo-requires
     returns-3)

@@ -1,140 +1,172 @@
--- The board is in play where the parts are, the last move with them; the change is made on the board's own parts, and stored.
-use mathlib.Core.Path.{_≡_, sym, _∙_}
+-- The turn on the lent lists is the one by the parts of the board that the table and the words stand for; an accepted one is packed into the next place.
+use mathlib.Core.Path.{_≡_, sym, ap, _∙_}
+use mathlib.Core.Bool.{true}
 use mathlib.Core.List.{List}
-use denote.Ref.{now}
+use Prim.Native.Nat.{ℕ, _+_}
 use native.Mathlib.Omega.{arith}
-use lib.ListN.{length, set, length-map}
-use lib.Seq.{set-out}
-use Rattle.board.specs.Limits.{maxMoves}
-use Rattle.board.specs.declared.Board.{Board}
+use denote.Ref.{now}
+use borrow.Author.Tests.{not-true, not-false}
+use Rattle.board.specs.Limits.{maxEdges, maxTerminals}
+use Rattle.board.specs.Whole.{Board}
 use Rattle.graph_flows.specs.Trails.{Step}
+use Rattle.board.specs.Whole.{Table}
+use Rattle.journal.specs.Words.{wholeOf, entriesOf, standing}
+use Rattle.journal.proofs.Laws.{add-standing}
+use Rattle.move_guard.specs.Guard.{playing}
 use Rattle.move_guard.proofs.Facts.{playing-moves}
+use Rattle.move_guard.proofs.Lent.{whole-long}
 use Rattle.move_cycle.specs.Steps.{stepsOf}
-use Rattle.move_turn.proofs.Changes.{playing-sound, turnMade, play-made, made-by, turn-refused, turn-change-made, turn-stored, turn-plays}
-use borrow.Author.Needs.{needs}
+use Rattle.move_turn.specs.Lent.{changeOf}
+use Rattle.move_turn.proofs.Changes.{playing-sound, turnMade}
+use Rattle.move_turn.proofs.Lent.{sound-turnable, turn-of-bare, closed-made, open-made, lent-refused, lent-stored}
+use borrow.Author.Needs.{needs, length-unmapped}
 use Rattle.move_turn.proofs.turn.Statement.{statement}
 use Rattle.move_turn.proofs.turn.Tie as tie
 use Rattle.move_turn.proofs.turn.Reads as reads
 use Rattle.move_turn.proofs.turn.Lts as lts
-use Rattle.move_turn.proofs.last_place.Reads as last-place-reads
-use Rattle.move_guard.proofs.intact_in.Reads as intact-in-reads
-use Rattle.lists.proofs.and.Reads as and-reads
-use Rattle.move_turn.proofs.open_in_play.Reads as open-in-play-reads
+use Rattle.journal.proofs.put_entry.Reads as put-entry-reads
+use Rattle.move_carry.proofs.some_open_in.Reads as some-open-in-reads
+use Rattle.move_edges.proofs.at_vertices.Reads as at-vertices-reads
+use Rattle.move_edges.proofs.positive.Reads as positive-reads
+use Rattle.move_guard.proofs.playing.Reads as playing-reads
 use Rattle.move_turn.proofs.change.Reads as change-reads
 
 abbrev cs : lts.Claims
 cs = (
-  last-place-reads.Asked,
-  last-place-reads.Learnt,
-  intact-in-reads.Asked,
-  intact-in-reads.Learnt,
-  and-reads.Asked,
-  and-reads.Learnt,
-  open-in-play-reads.Asked,
-  open-in-play-reads.Learnt,
+  playing-reads.Asked,
+  playing-reads.Learnt,
+  some-open-in-reads.Asked,
+  some-open-in-reads.Learnt,
+  at-vertices-reads.Asked,
+  at-vertices-reads.Learnt,
+  positive-reads.Asked,
+  positive-reads.Learnt,
   change-reads.Asked,
   change-reads.Learnt,
+  put-entry-reads.Asked,
+  put-entry-reads.Learnt,
 )
 
--- what is known once the change is made
-module _ (c : lts.After-change cs reads.Pre reads.Post) where
-  abbrev start-board : Board
-  start-board = c .before .before .before .before .before .before .before .before .before .before .before .before .before .args .board
+-- the places in the code where the board is known to be in play, and where the lists are lent
+abbrev Begun : Type 0
+Begun = lts.Else1 cs reads.Pre reads.Post
 
-  abbrev start-steps : List Step
-  start-steps = stepsOf (now (c .before .before .before .before .before .before .before .before .before .before .before .before .before .args .steps))
+abbrev Lending : Type 0
+Lending = lts.After-flows4 cs reads.Pre reads.Post
 
-  made-here : c .change .result ≡ turnMade start-board start-steps
-  made-here =
-      let at-open = c .before in
-      let at-and = at-open .before .before .before in
-      let at-intact = at-and .before in
-      let at-last = at-intact .before .before in
-      made-by start-board start-steps _ _ _ _ _ (at-last .last-place .ensures .1) (at-intact .intact-in .ensures) (at-and .and .ensures) (at-open .open-in-play .ensures)
-      (c .change .ensures)
+abbrev table : Begun → Table
+table c = c .before .before .before .before .args .board
 
-last-place-requires : tie.Need-last-place-requires
-last-place-requires c κs = search needs
+abbrev old : Begun → List (List ℕ)
+old c = now (c .before .before .before .before .args .journal)
 
-mul-last : tie.Need-mul-last
-mul-last c = search needs
+abbrev given : Begun → Board
+given c = wholeOf (table c) (old c)
 
-element-copy-out-last : tie.Need-element-copy-out-last
-element-copy-out-last c = search needs
+abbrev path : Begun → List Step
+path c = stepsOf (now (c .before .before .before .before .args .steps))
 
-intact-in-requires : tie.Need-intact-in-requires
-intact-in-requires c κs = search needs
+plays : (c : Begun) → playing (given c) ≡ true
+plays c = sym (c .before .playing .ensures) ∙ not-false _ (c .if1 .left)
 
-and-requires : tie.Need-and-requires
-and-requires c κs = search needs
+abbrev opened : Lending → lts.After-some-open-in cs reads.Pre reads.Post
+opened c = c .before .before .before .before .before .before .before .before .before .before .before .before
 
-slice-aggregate-open-in-play : tie.Need-slice-aggregate-open-in-play
-slice-aggregate-open-in-play c = search needs
+abbrev begun : Lending → Begun
+begun c = opened c .before .before .before .before .before .before
 
-slice-aggregate-open-in-play-2 : tie.Need-slice-aggregate-open-in-play-2
-slice-aggregate-open-in-play-2 c = search needs
+-- what the turn changes on the board
+made-here : (c : lts.After-change cs reads.Pre reads.Post)
+    → let b = given (begun (c .before)) in
+    changeOf (c .change .result) (c .change .last .1 .1 .1 .1 .1 .1 .1 .1 .0) (b .places) ≡ turnMade b (path (begun (c .before)))
+made-here c =
+    let b = given (begun (c .before)) in
+    open-made b _ _ _ (plays (begun (c .before))) (opened (c .before) .some-open-in .ensures)
+    (c .change .ensures ∙ turn-of-bare (b .network) true _ (b .flows) (b .marks) (b .places) _)
 
-open-in-play-requires : tie.Need-open-in-play-requires
-open-in-play-requires c κs = search needs
-
-change-requires : tie.Need-change-requires
-change-requires c κs =
-    let at-and = c .before .before .before in
-    let at-intact = at-and .before in
-    let at-last = at-intact .before .before in
-    let start = at-last .before .before .before .before .before .before in
-    λ play. playing-sound _ (sym (play-made (start .args .board) _ _ _ (at-last .last-place .ensures .1) (at-intact .intact-in .ensures) (at-and .and .ensures)) ∙ play)
-
-cast-m : tie.Need-cast-m
-cast-m c =
-    let room = playing-moves _ (turn-plays _ _ _ (made-here (c .before .before)) (c .if1 .taken)) in omega arith
-
-add-next : tie.Need-add-next
-add-next c =
-    let at-if1 = c .before .before in
-    let room = playing-moves _ (turn-plays _ _ _ (made-here (at-if1 .before .before)) (at-if1 .if1 .taken)) in omega arith
-
-mul-entry : tie.Need-mul-entry
-mul-entry c = omega (arith, c .if2 .taken)
-
-element-set-from-entry : tie.Need-element-set-from-entry
-element-set-from-entry c = c .if2 .taken
+playing-requires : tie.Need-playing-requires
+playing-requires c κs = search needs
 
 returns : tie.Need-returns
 returns c =
-    let at-if1 = c .before .before .before in
-    turn-change-made _ _ _ (made-here (at-if1 .before .before)) (at-if1 .if1 .taken)
+    let start = c .before .before .before .before in
+    let b = wholeOf (start .args .board) (now (start .args .journal)) in
+    let out = sym (c .before .playing .ensures) ∙ not-true _ (c .if1 .taken) in
+    lent-refused b _ _ (closed-made b _ out) _ (λ z. omega (arith, z))
+
+slice-aggregate-some-open-in : tie.Need-slice-aggregate-some-open-in
+slice-aggregate-some-open-in c = search needs
+
+slice-aggregate-some-open-in-2 : tie.Need-slice-aggregate-some-open-in-2
+slice-aggregate-some-open-in-2 c = search needs
+
+some-open-in-requires : tie.Need-some-open-in-requires
+some-open-in-requires c κs = search needs
+
+at-vertices-requires : tie.Need-at-vertices-requires
+at-vertices-requires c κs = search needs
+
+positive-requires : tie.Need-positive-requires
+positive-requires c κs = search needs
+
+slice-aggregate-change : tie.Need-slice-aggregate-change
+slice-aggregate-change c = search needs
+
+change-requires : tie.Need-change-requires
+change-requires c κs =
+    let b = given (begun c) in
+    let positive = c .before .before .before .before .before .before in
+    -- what owning the table tells of its fields, nested to the right
+    let fields = begun c .before .before .before .before .good .0 .1 .1 .1 in
+    let lists = fields .0 .1 .1 .1 .1 .1 .1 in
+    let long = length-unmapped ℕ (b .flows) maxEdges (fields .1 .1 .0 .1 .0 .1) in
+    let wide = length-unmapped ℕ (b .network .heads) maxEdges (lists .1 .0 .1 .0 .1) in
+    let asked = length-unmapped ℕ (b .network .demands) maxTerminals (lists .1 .1 .1 .1 .0 .1 .0 .1) in
+    sound-turnable (b .network) (b .flows) _ _ _ (playing-sound b (plays (begun c))) wide long asked (positive .before .before .at-vertices .ensures) (positive .positive .ensures)
 
 returns-2 : tie.Need-returns-2
 returns-2 c =
-    let at-if1 = c .before .before .before in
-    let at-change = at-if1 .before .before in
-    let start = at-change .before .before .before .before .before .before .before .before .before .before .before .before .before in
-    let board = start .args .board in
-    let long : length (board .journal) ≡ maxMoves = sym (length-map (board .journal) _) ∙ start .good .0 .1 .1 .1 .1 .1 .1 .1 .1 .0 .1 .0 .1 in
-    let kept : set (board .journal) (board .moves) (at-change .change .result .entry) ≡ board .journal = set-out _ _ _ (omega (arith, long, c .if2 .left)) in
-    turn-stored _ _ _ (made-here at-change) _ (at-if1 .if1 .taken) (sym kept)
+    let made = c .before .before in
+    lent-refused (given (begun (made .before))) _ _ (made-here made) _ (c .if2 .taken)
+
+cast-put-entry : tie.Need-cast-put-entry
+cast-put-entry c = search needs
+
+put-entry-requires : tie.Need-put-entry-requires
+put-entry-requires c κs = search needs
+
+add-next : tie.Need-add-next
+add-next c =
+    let found = c .before .before .before .before .before in
+    let few = playing-moves _ (plays (begun (found .before .before .before))) in
+    omega (arith, few)
 
 returns-3 : tie.Need-returns-3
-returns-3 c = turn-refused _ _ _ (made-here (c .before .before)) (c .if1 .left)
+returns-3 c =
+    let put = c .before in
+    let found = put .before .before .before .before in
+    let made = found .before .before in
+    let begin = begun (made .before) in
+    let b = given begin in
+    let m = b .moves in
+    let journal = ap (standing (m + 1)) (put .put-entry .ensures .1) ∙ sym (add-standing m (m + 1) (entriesOf (old begin)) (made .change .result .entry) (omega arith)) in
+    lent-stored b _ _ (made-here made) (old begin) _ _ (found .if2 .left) (whole-long (table begin) (old begin)) journal (put .put-entry .ensures .0)
 
 pub turn-spec : {M : Type 1} → statement M
 turn-spec =
     tie.close
     (tie.spec
-    last-place-requires
-    mul-last
-    element-copy-out-last
-    intact-in-requires
-    and-requires
-    slice-aggregate-open-in-play
-    slice-aggregate-open-in-play-2
-    open-in-play-requires
-    change-requires
-    cast-m
-    add-next
-    mul-entry
-    element-set-from-entry
+    playing-requires
     returns
+    slice-aggregate-some-open-in
+    slice-aggregate-some-open-in-2
+    some-open-in-requires
+    at-vertices-requires
+    positive-requires
+    slice-aggregate-change
+    change-requires
     returns-2
+    cast-put-entry
+    put-entry-requires
+    add-next
     returns-3)

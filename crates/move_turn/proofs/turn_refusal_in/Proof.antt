@@ -27,7 +27,7 @@ refusal-requires c κs = search needs
 
 returns : tie.Need-returns
 returns c =
-    let at-open = c .before .before .before .before .before in
+    let at-open = c .before .before .before .before .before .before in
     let args = at-open .before .before .before .before .args in
     c .refusal .ensures ∙ ap (λ o. turnRefusalIn (args .in-play) o (args .net) (args .t3) (stepsOf (now (args .steps)))) (at-open .open-in-play .ensures)
 

@@ -25,14 +25,14 @@ returns c = behind-none _
 array-share-prefix-space : tie.Need-array-share-prefix-space
 array-share-prefix-space c = search needs
 
-slice-aggregate-serve-lent : tie.Need-slice-aggregate-serve-lent
-slice-aggregate-serve-lent c = search needs
+slice-aggregate-serve : tie.Need-slice-aggregate-serve
+slice-aggregate-serve c = search needs
 
-serve-lent-requires : tie.Need-serve-lent-requires
-serve-lent-requires c κs = search needs
+serve-requires : tie.Need-serve-requires
+serve-requires c κs = search needs
 
 returns-2 : tie.Need-returns-2
-returns-2 c = behind-part (c .serve-lent .ensures)
+returns-2 c = behind-part (c .serve .ensures)
 
 pub next-piece-spec : {M : Type 1} → statement M
 next-piece-spec =
@@ -45,6 +45,6 @@ next-piece-spec =
     count-requires
     returns
     array-share-prefix-space
-    slice-aggregate-serve-lent
-    serve-lent-requires
+    slice-aggregate-serve
+    serve-requires
     returns-2)

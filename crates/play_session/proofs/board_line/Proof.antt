@@ -1,5 +1,8 @@
 -- A line more is expected, or the board is loaded and its number printed where it is refused.
+use denote.Ref.{now}
 use mathlib.Core.Path.{_∙_}
+use Rattle.load.specs.Lent.{loadedOf}
+use Rattle.play_session.specs.Lent.{sessionOf}
 use Rattle.play_session.proofs.Replying.{printed, printed-none}
 use Rattle.play_session.proofs.Feeding.{board-expects, board-quiet, board-ready, board-told}
 use borrow.Author.Needs.{needs}
@@ -11,8 +14,10 @@ lines-left-requires c κs = search needs
 
 returns : tie.Need-returns
 returns c =
-    let e = c .before .lines-left .ensures in
-    let s = c .before .before .before .args .session in
+    let start = c .before .before .before in
+    let words = now (start .args .journal) in
+    let s = sessionOf (start .args .session) words in
+    let e = c .before .lines-left .ensures words in
     (board-expects s _ e (c .if1 .taken), printed-none _ _ (board-quiet s _ e (c .if1 .taken)))
 
 board-loaded-requires : tie.Need-board-loaded-requires
@@ -29,14 +34,19 @@ same-length c = search needs
 
 returns-2 : tie.Need-returns-2
 returns-2 c =
-    let p = c .before .before .before .put-load .ensures in
-    let at-board-loaded = c .before .before .before .before .before .board-loaded in
-    let none = c .before .before .before .before .before .before .if1 .left in
-    let e = c .before .before .before .before .before .before .before .lines-left .ensures in
-    let s = c .before .before .before .before .before .before .before .before .before .args .session in
-    let l = at-board-loaded .result in
-    let le = at-board-loaded .ensures in
-    (c .ready .ensures ∙ board-ready s _ e none l le, printed _ _ _ _ _ (board-told s _ e none l le) (p .0) (p .1 .0) (p .1 .1))
+    let putting = c .before .before .before in
+    let loading = putting .before .before in
+    let branch = loading .before .before in
+    let start = branch .before .before .before in
+    let words = now (start .args .journal) in
+    let s = sessionOf (start .args .session) words in
+    let e = branch .before .lines-left .ensures words in
+    let none = branch .if1 .left in
+    let last = loading .board-loaded .last .1 .0 in
+    let le = loading .board-loaded .ensures in
+    let l = loadedOf (loading .board-loaded .result) last in
+    let p = putting .put-load .ensures in
+    (c .ready .ensures last ∙ board-ready s _ e none l le, printed _ _ _ _ _ (board-told s _ e none l le) (p .0 last) (p .1 .0) (p .1 .1 last))
 
 pub board-line-spec : {M : Type 1} → statement M
 board-line-spec =

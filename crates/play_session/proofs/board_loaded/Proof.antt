@@ -28,9 +28,10 @@ load-requires c κs = search needs
 
 returns : tie.Need-returns
 returns c =
-    let s = c .before .before .before .before .args .session in
+    let keeping = c .before .before .before in
+    let s = keeping .before .before .args .session in
     let long : length (s .text) ≡ textSpace = search needs in
-    c .load .ensures ∙ ap loadText (kept-text (s .used) _ (s .text) long (c .before .before .kept .ensures))
+    c .load .ensures .0 ∙ ap loadText (kept-text (s .used) _ (s .text) long (keeping .kept .ensures))
 
 pub board-loaded-spec : {M : Type 1} → statement M
 board-loaded-spec =

@@ -21,10 +21,13 @@ same-length c = search needs
 returns : tie.Need-returns
 unfolding endTold
 returns c =
-    let p = c .before .before .put-load .ensures in
-    let e = c .before .before .before .before .board-loaded .ensures in
-    let t = eq-eqb _ readingStage (c .before .before .before .before .before .if1 .taken) in
-    printed _ _ _ _ _ (ap loadTold e ∙ sym (pick-yes _ _ _ t)) (p .0) (p .1 .0) (p .1 .1)
+    let putting = c .before .before in
+    let loading = putting .before .before in
+    let last = loading .board-loaded .last .1 .0 in
+    let p = putting .put-load .ensures in
+    let e = loading .board-loaded .ensures in
+    let t = eq-eqb _ readingStage (loading .before .before .if1 .taken) in
+    printed _ _ _ _ _ (ap loadTold e ∙ sym (pick-yes _ _ _ t)) (p .0 last) (p .1 .0) (p .1 .1 last)
 
 is-blank-requires : tie.Need-is-blank-requires
 is-blank-requires c κs = search needs

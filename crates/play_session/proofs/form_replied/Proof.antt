@@ -13,7 +13,7 @@ carry-requires c κs = search needs
 
 returns : tie.Need-returns
 unfolding formReplied
-returns c = c .carry .ensures ∙ sym (pick-yes _ _ _ (eq-eqb _ carryWhole (c .before .if1 .taken)))
+returns c = c .carry .ensures .0 ∙ sym (pick-yes _ _ _ (eq-eqb _ carryWhole (c .before .before .if1 .taken)))
 
 turn-replied-requires : tie.Need-turn-replied-requires
 turn-replied-requires c κs = search needs
@@ -21,8 +21,9 @@ turn-replied-requires c κs = search needs
 returns-2 : tie.Need-returns-2
 unfolding formReplied
 returns-2 c =
-    let n1 = ne-eqb _ carryWhole (c .before .before .before .if1 .left) in
-    c .turn-replied .ensures ∙ sym (pick-no _ _ _ n1 ∙ pick-yes _ _ _ (eq-eqb _ turnForm (c .before .if2 .taken)))
+    let at-if2 = c .before .before in
+    let n1 = ne-eqb _ carryWhole (at-if2 .before .before .if1 .left) in
+    c .turn-replied .ensures ∙ sym (pick-no _ _ _ n1 ∙ pick-yes _ _ _ (eq-eqb _ turnForm (at-if2 .if2 .taken)))
 
 undo-requires : tie.Need-undo-requires
 undo-requires c κs = search needs
@@ -30,12 +31,13 @@ undo-requires c κs = search needs
 returns-3 : tie.Need-returns-3
 unfolding formReplied
 returns-3 c =
-    let at-if2 = c .before .before .before in
+    let at-if3 = c .before .before in
+    let at-if2 = at-if3 .before .before in
     let at-if1 = at-if2 .before .before in
     let n1 = ne-eqb _ carryWhole (at-if1 .if1 .left) in
     let n2 = ne-eqb _ turnForm (at-if2 .if2 .left) in
     let n3 = at-if1 .before .before .pre in
-    c .undo .ensures ∙ sym (pick-no _ _ _ n1 ∙ pick-no _ _ _ n2 ∙ pick-no _ _ _ n3 ∙ pick-yes _ _ _ (eq-eqb _ undoForm (c .before .if3 .taken)))
+    c .undo .ensures .0 ∙ sym (pick-no _ _ _ n1 ∙ pick-no _ _ _ n2 ∙ pick-no _ _ _ n3 ∙ pick-yes _ _ _ (eq-eqb _ undoForm (at-if3 .if3 .taken)))
 
 finish-replied-requires : tie.Need-finish-replied-requires
 finish-replied-requires c κs = search needs
@@ -44,7 +46,8 @@ returns-4 : tie.Need-returns-4
 unfolding formReplied
 returns-4 c =
     let e = c .finish-replied .ensures in
-    let at-if3 = c .before .before .before in
+    let at-if4 = c .before .before in
+    let at-if3 = at-if4 .before .before in
     let at-if2 = at-if3 .before .before in
     let at-if1 = at-if2 .before .before in
     let n1 = ne-eqb _ carryWhole (at-if1 .if1 .left) in
@@ -52,7 +55,7 @@ returns-4 c =
     let n3 = at-if1 .before .before .pre in
     let n4 = ne-eqb _ undoForm (at-if3 .if3 .left) in
     (λ i. record { answer = e .0 i; board = e .1 i })
-    ∙ sym (pick-no _ _ _ n1 ∙ pick-no _ _ _ n2 ∙ pick-no _ _ _ n3 ∙ pick-no _ _ _ n4 ∙ pick-yes _ _ _ (eq-eqb _ finishForm (c .before .if4 .taken)))
+    ∙ sym (pick-no _ _ _ n1 ∙ pick-no _ _ _ n2 ∙ pick-no _ _ _ n3 ∙ pick-no _ _ _ n4 ∙ pick-yes _ _ _ (eq-eqb _ finishForm (at-if4 .if4 .taken)))
 
 returns-5 : tie.Need-returns-5
 unfolding formReplied

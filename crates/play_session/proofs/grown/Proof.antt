@@ -2,6 +2,7 @@
 use mathlib.Core.Path.{sym, _∙_}
 use borrow.Author.Tests.{eq-eqb, ne-eqb}
 use Rattle.play_session.specs.Machine.{readingStage, playingStage}
+use Rattle.play_session.specs.Lent.{sessionOf}
 use Rattle.play_session.proofs.Stages.{grown-reading, grown-playing, grown-over}
 use borrow.Author.Needs.{needs}
 use Rattle.play_session.proofs.grown.Statement.{statement}
@@ -11,21 +12,21 @@ text-grown-requires : tie.Need-text-grown-requires
 text-grown-requires c κs = search needs
 
 returns : tie.Need-returns
-returns c = c .text-grown .ensures ∙ sym (grown-reading _ _ (eq-eqb _ readingStage (c .before .if1 .taken)))
+returns c w = c .text-grown .ensures w ∙ sym (grown-reading _ _ (eq-eqb _ readingStage (c .before .if1 .taken)))
 
 scan-grown-requires : tie.Need-scan-grown-requires
 scan-grown-requires c κs = search needs
 
 returns-2 : tie.Need-returns-2
-returns-2 c =
+returns-2 c w =
     let later = ne-eqb _ readingStage (c .before .before .before .if1 .left) in
-    c .scan-grown .ensures ∙ sym (grown-playing _ _ later (eq-eqb _ playingStage (c .before .if2 .taken)))
+    c .scan-grown .ensures w ∙ sym (grown-playing _ _ later (eq-eqb _ playingStage (c .before .if2 .taken)))
 
 returns-3 : tie.Need-returns-3
-returns-3 c =
+returns-3 c w =
     let at-args = c .before .before .before .before .before .args in
     let later = ne-eqb _ readingStage (c .before .before .if1 .left) in
-    sym (grown-over (at-args .session) (at-args .bytes .now) later (ne-eqb _ playingStage (c .if2 .left)))
+    sym (grown-over (sessionOf (at-args .session) w) (at-args .bytes .now) later (ne-eqb _ playingStage (c .if2 .left)))
 
 pub grown-spec : {M : Type 1} → statement M
 grown-spec =

@@ -1,6 +1,8 @@
 -- What is printed is said of the hint that was given, which is the board's; the next line begins.
+use denote.Ref.{now}
 use mathlib.Core.Path.{ap}
 use Rattle.play_session.specs.Machine.{suggestionText}
+use Rattle.play_session.specs.Lent.{sessionOf}
 use Rattle.play_session.proofs.Replying.{printed}
 use borrow.Author.Needs.{needs}
 use Rattle.play_session.proofs.hint_line.Statement.{statement}
@@ -21,11 +23,13 @@ same-length c = search needs
 returns : tie.Need-returns
 returns c =
     let scan = c .none .ensures in
-    let p = c .before .before .before .put-hint .ensures in
-    let at-hint = c .before .before .before .before .before in
-    let s = at-hint .before .before .before .args .session in (
+    let putting = c .before .before .before in
+    let asked = putting .before .before in
+    let start = asked .before .before .before in
+    let s = sessionOf (start .args .session) (now (start .args .journal)) in
+    let p = putting .put-hint .ensures in (
       (λ i. record { stage = s .stage; left = s .left; used = s .used; text = s .text; scan = scan i; board = s .board }),
-      printed _ _ _ _ _ (ap suggestionText (at-hint .hint .ensures)) (p .0) (p .1 .0) (p .1 .1),
+      printed _ _ _ _ _ (ap suggestionText (asked .hint .ensures)) (p .0) (p .1 .0) (p .1 .1),
     )
 
 pub hint-line-spec : {M : Type 1} → statement M

@@ -1,7 +1,9 @@
 -- By the stage: a line of the board, a line of the play, or nothing.
+use denote.Ref.{now}
 use mathlib.Core.Path.{sym, ap, _∙_}
 use borrow.Author.Tests.{eq-eqb, ne-eqb}
 use Rattle.play_session.specs.Machine.{readingStage, playingStage, boardLine, boardTold}
+use Rattle.play_session.specs.Lent.{sessionOf}
 use Rattle.play_session.proofs.Stages.{told-reading, told-playing, told-over, ended-reading, ended-playing, ended-over}
 use Rattle.play_session.proofs.Replying.{printed, printed-none}
 use borrow.Author.Needs.{needs}
@@ -22,10 +24,15 @@ same-length c = search needs
 
 returns : tie.Need-returns
 returns c =
-    let p = c .before .before .board-line .ensures in
-    let e = c .before .before .before .before .text-grown .ensures in
-    let s = c .before .before .before .before .before .before .before .before .before .args .session in
-    let t = eq-eqb _ readingStage (c .before .before .before .before .before .before .if1 .taken) in (
+    let ended = c .before .before in
+    let growing = ended .before .before .before in
+    let branch = growing .before .before in
+    let start = branch .before .before .before in
+    let words = now (start .args .journal) in
+    let s = sessionOf (start .args .session) words in
+    let p = ended .board-line .ensures in
+    let e = growing .text-grown .ensures words in
+    let t = eq-eqb _ readingStage (branch .if1 .taken) in (
       p .0 ∙ ap boardLine e ∙ sym (ended-reading s t),
       printed _ _ _ _ _ (ap boardTold e ∙ sym (told-reading s t)) (p .1 .0) (p .1 .1 .0) (p .1 .1 .1),
     )
@@ -38,17 +45,23 @@ same-length-2 c = search needs
 
 returns-2 : tie.Need-returns-2
 returns-2 c =
-    let p = c .before .before .played-line .ensures in
-    let t = eq-eqb _ playingStage (c .before .before .before .before .if2 .taken) in
-    let later = ne-eqb _ readingStage (c .before .before .before .before .before .before .if1 .left) in
-    let s = c .before .before .before .before .before .before .before .before .before .args .session in
+    let ended = c .before .before in
+    let at-if2 = ended .before .before .before in
+    let at-if1 = at-if2 .before .before in
+    let start = at-if1 .before .before .before in
+    let s = sessionOf (start .args .session) (now (start .args .journal)) in
+    let p = ended .played-line .ensures in
+    let t = eq-eqb _ playingStage (at-if2 .if2 .taken) in
+    let later = ne-eqb _ readingStage (at-if1 .if1 .left) in
     (p .0 ∙ sym (ended-playing s later t), printed _ _ _ _ _ (sym (told-playing s later t)) (p .1 .0) (p .1 .1 .0) (p .1 .1 .1))
 
 returns-3 : tie.Need-returns-3
 returns-3 c =
+    let at-if1 = c .before .before in
+    let start = at-if1 .before .before .before in
+    let s = sessionOf (start .args .session) (now (start .args .journal)) in
     let over = ne-eqb _ playingStage (c .if2 .left) in
-    let later = ne-eqb _ readingStage (c .before .before .if1 .left) in
-    let s = c .before .before .before .before .before .args .session in
+    let later = ne-eqb _ readingStage (at-if1 .if1 .left) in
     (sym (ended-over s later over), printed-none _ _ (told-over s later over))
 
 pub line-ended-spec : {M : Type 1} → statement M

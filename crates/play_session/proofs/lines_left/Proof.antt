@@ -18,7 +18,7 @@ sub-result c = search needs
 
 returns : tie.Need-returns
 unfolding linesLeft
-returns c = ap (λ (n : ℕ). n - 1) (sym (pick-no _ _ _ (ne-eqb _ 0 (c .before .if1 .taken))))
+returns c w = ap (λ (n : ℕ). n - 1) (sym (pick-no _ _ _ (ne-eqb _ 0 (c .before .if1 .taken))))
 
 kept-requires : tie.Need-kept-requires
 kept-requires c κs = search needs
@@ -41,7 +41,7 @@ minus-requires c κs = search needs
 
 returns-2 : tie.Need-returns-2
 unfolding linesLeft
-returns-2 c =
+returns-2 c w =
     let at-kept = c .before .before .before .kept in
     let at-if1 = c .before .before .before .before .before .if1 in
     let s = c .before .before .before .before .before .before .before .args .session in

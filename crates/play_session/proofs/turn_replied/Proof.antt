@@ -1,4 +1,5 @@
 -- The steps that were kept are played, where all of them were.
+use denote.Ref.{now}
 use mathlib.Core.Path.{sym, _∙_}
 use Prim.Native.Nat.{ℕ}
 use native.Mathlib.Omega.{arith}
@@ -6,6 +7,7 @@ use lib.Seq.{length-take-le}
 use borrow.Author.Tests.{not-true, not-false, leb-true}
 use Rattle.lists.proofs.Laws.{both-left}
 use Rattle.board.specs.Limits.{maxEdges}
+use Rattle.journal.specs.Words.{wholeOf, givenOf}
 use Rattle.play_session.proofs.Replying.{turn-unkept, turn-kept}
 use borrow.Author.Needs.{needs, length-unmapped}
 use Rattle.play_session.proofs.turn_replied.Statement.{statement}
@@ -22,28 +24,35 @@ unkept-requires c κs = search needs
 
 returns : tie.Need-returns
 returns c =
-    let at-args = c .before .before .before .before .before .before .before .args in
-    turn-unkept (at-args .board) (at-args .form) _ (c .before .before .and .ensures) _ (not-true _ (c .before .if1 .taken)) (c .unkept .ensures)
+    let branch = c .before .before in
+    let tested = branch .before in
+    let start = tested .before .before .before .before .before in
+    let b = wholeOf (start .args .board) (now (start .args .journal)) in
+    turn-unkept b (start .args .form) _ (tested .and .ensures) _ (not-true _ (branch .if1 .taken)) (c .unkept .ensures)
 
 cast-steps : tie.Need-cast-steps
 cast-steps c = search needs
 
 array-share-prefix-steps : tie.Need-array-share-prefix-steps
 array-share-prefix-steps c =
-    let start = c .before .before .before .before .before .before .before .before in
+    let branch = c .before .before .before in
+    let tested = branch .before in
+    let start = tested .before .before .before .before .before in
     -- what owning the form tells of its fields, nested to the right
-    let steps = start .good .1 .0 .1 .1 .1 .1 .1 .1 .1 .0 in
+    let steps = start .good .1 .1 .0 .1 .1 .1 .1 .1 .1 .1 .0 in
     let long = length-unmapped ℕ (start .args .form .steps) maxEdges (steps .1 .0 .1) in
-    let few = leb-true (start .args .form .count) maxEdges (both-left _ _ (sym (c .before .before .before .and .ensures) ∙ not-false _ (c .before .before .if1 .left))) in
+    let few = leb-true (start .args .form .count) maxEdges (both-left _ _ (sym (tested .and .ensures) ∙ not-false _ (branch .if1 .left))) in
     omega arith
 
 slice-aggregate-turn : tie.Need-slice-aggregate-turn
 slice-aggregate-turn c =
-    let start = c .before .before .before .before .before .before .before .before .before in
+    let branch = c .before .before .before .before in
+    let tested = branch .before in
+    let start = tested .before .before .before .before .before in
     -- what owning the form tells of its fields, nested to the right
-    let steps = start .good .1 .0 .1 .1 .1 .1 .1 .1 .1 .0 in
+    let steps = start .good .1 .1 .0 .1 .1 .1 .1 .1 .1 .1 .0 in
     let long = length-unmapped ℕ (start .args .form .steps) maxEdges (steps .1 .0 .1) in
-    let few = leb-true (start .args .form .count) maxEdges (both-left _ _ (sym (c .before .before .before .before .and .ensures) ∙ not-false _ (c .before .before .before .if1 .left))) in
+    let few = leb-true (start .args .form .count) maxEdges (both-left _ _ (sym (tested .and .ensures) ∙ not-false _ (branch .if1 .left))) in
     sym (length-take-le _ _ (omega arith))
 
 turn-requires : tie.Need-turn-requires
@@ -51,10 +60,12 @@ turn-requires c κs = search needs
 
 returns-2 : tie.Need-returns-2
 returns-2 c =
-    let at-if1 = c .before .before .before .before .if1 in
-    let at-and = c .before .before .before .before .before .and in
-    let at-args = c .before .before .before .before .before .before .before .before .before .before .args in
-    turn-kept (at-args .board) (at-args .form) _ (at-and .ensures) _ (not-false _ (at-if1 .left)) (c .turn .ensures)
+    let branch = c .before .before .before .before .before in
+    let tested = branch .before in
+    let start = tested .before .before .before .before .before in
+    let b = wholeOf (start .args .board) (now (start .args .journal)) in
+    let after = givenOf (c .turn .result) (c .turn .last .1 .0) in
+    turn-kept b (start .args .form) _ (tested .and .ensures) after (not-false _ (branch .if1 .left)) (c .turn .ensures .0)
 
 pub turn-replied-spec : {M : Type 1} → statement M
 turn-replied-spec =

@@ -17,4 +17,5 @@ returns : tie.Need-returns
 returns c = ap (λ (n : ℕ). leb n (c .before .before .before .args .room)) (c .before .put-tables .ensures .0 ∙ zero-add _)
 
 pub has-room-spec : {M : Type 1} → statement M
-has-room-spec = tie.close (tie.spec slice-aggregate-put-tables put-tables-requires returns)
+has-room-spec =
+    tie.close (tie.spec slice-aggregate-put-tables put-tables-requires returns)

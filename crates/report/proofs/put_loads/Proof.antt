@@ -1,5 +1,6 @@
 -- What is left of the lines, written into the buffer as it is now, gives all of them written into the first buffer. The lines by the sets of the routes are
 -- those by the rows.
+use denote.Ref.{now}
 use mathlib.Core.Path.{ap, _∙_}
 use mathlib.Core.List.{[], _∷_}
 use Prim.Native.Nat.{ℕ, _+_, _-_, _*_, _≤_}
@@ -15,13 +16,13 @@ use Rattle.report.proofs.put_loads.Statement.{statement}
 use Rattle.report.proofs.put_loads.Tie as tie
 
 abbrev Inv-loop : tie.InvT-loop
-Inv-loop buf₀ at acyclic edges terminals demands routes to₀ e₀ buf to e =
+Inv-loop buf₀ at acyclic counts rows edges terminals demands routes to₀ e₀ buf to e =
     (e ≤ edges) × (to ≤ at + 35 * e)
     × TextLeft buf (sets buf₀ at (linesText 76 (setLoadRow acyclic demands routes terminals) 0 edges)) to (at + length (linesText 76 (setLoadRow acyclic demands routes terminals) 0 edges))
     (linesText 76 (setLoadRow acyclic demands routes terminals) e (edges - e))
 
 abbrev μ-loop : tie.MeasureT-loop
-μ-loop buf₀ at acyclic edges terminals demands routes to₀ e₀ buf to e = edges - e
+μ-loop buf₀ at acyclic counts rows edges terminals demands routes to₀ e₀ buf to e = edges - e
 
 edge-sets-requires : tie.Need-edge-sets-requires Inv-loop μ-loop
 edge-sets-requires c κs = search needs
@@ -35,8 +36,8 @@ cast-flow c = search needs
 mul-flow : tie.Need-mul-flow Inv-loop μ-loop
 mul-flow c = search needs
 
-array-read-flow : tie.Need-array-read-flow Inv-loop μ-loop
-array-read-flow c = search needs
+element-copy-out-flow : tie.Need-element-copy-out-flow Inv-loop μ-loop
+element-copy-out-flow c = search needs
 
 load-requires : tie.Need-load-requires Inv-loop μ-loop
 load-requires c κs = search needs
@@ -57,10 +58,10 @@ loop-again : tie.Need-loop-again Inv-loop μ-loop
 loop-again c =
     let written = c .before .before in
     let summed = written .before .before .before in
-    let tested = summed .before in
+    let tested = summed .before .before .before .before in
     let round = tested .before .loop in
     let start = tested .before .before .before .before .before in
-    let acyclic = start .args .t4 in (
+    let acyclic = now (start .args .acyclic) in (
       omega arith,
       omega arith,
       lines-turned _ _ _ _ (tested .loop-test .taken) (round .inv .2) _ _ _ (ap (λ (n : ℕ). round .e ∷ getD acyclic (round .e) 0 ∷ n ∷ []) (summed .load .ensures))
@@ -75,7 +76,7 @@ returns : tie.Need-returns Inv-loop μ-loop
 returns c =
     let d = lines-done _ _ _ _ (c .loop-test .left) (c .before .loop .inv .2) in
     let start = c .before .before .before .before .before in
-    let same = set-lines (start .args .net) (start .args .t4) (start .args .counts) (start .args .rows) _ (start .pre .1 .0) (c .before .before .edge-sets .ensures .are) in
+    let same = set-lines (start .args .net) (now (start .args .acyclic)) (now (start .args .counts)) (now (start .args .rows)) _ (start .pre .1 .0) (c .before .before .edge-sets .ensures .are) in
     (rw (← same) (d .0), (omega arith, rw (← same) (d .1)))
 
 pub put-loads-spec : {M : Type 1} → statement M
@@ -88,7 +89,7 @@ put-loads-spec =
     loop-holds
     cast-flow
     mul-flow
-    array-read-flow
+    element-copy-out-flow
     load-requires
     slice-aggregate-put-line
     put-line-requires

@@ -13,13 +13,13 @@ use Rattle.report.proofs.put_routes.Statement.{statement}
 use Rattle.report.proofs.put_routes.Tie as tie
 
 abbrev Inv-loop : tie.InvT-loop
-Inv-loop buf₀ at terminals counts rows to₀ i₀ buf to i =
+Inv-loop buf₀ at counts rows terminals to₀ i₀ buf to i =
     (i ≤ terminals) × (to ≤ at + 376 * i)
     × TextLeft buf (sets buf₀ at (linesText 77 (tableRouteRow counts rows) 0 terminals)) to (at + length (linesText 77 (tableRouteRow counts rows) 0 terminals))
     (linesText 77 (tableRouteRow counts rows) i (terminals - i))
 
 abbrev μ-loop : tie.MeasureT-loop
-μ-loop buf₀ at terminals counts rows to₀ i₀ buf to i = terminals - i
+μ-loop buf₀ at counts rows terminals to₀ i₀ buf to i = terminals - i
 
 loop-holds : tie.Need-loop-holds Inv-loop μ-loop
 loop-holds c = (omega arith, omega arith, record { size = rw sub-zero; gives = rw sub-zero })
@@ -30,8 +30,8 @@ cast-count c = search needs
 mul-count : tie.Need-mul-count Inv-loop μ-loop
 mul-count c = search needs
 
-array-read-count : tie.Need-array-read-count Inv-loop μ-loop
-array-read-count c = omega arith
+element-copy-out-count : tie.Need-element-copy-out-count Inv-loop μ-loop
+element-copy-out-count c = omega arith
 
 cast-edges : tie.Need-cast-edges Inv-loop μ-loop
 cast-edges c = search needs
@@ -39,11 +39,13 @@ cast-edges c = search needs
 mul-edges : tie.Need-mul-edges Inv-loop μ-loop
 mul-edges c = search needs
 
-array-copy-out-edges : tie.Need-array-copy-out-edges Inv-loop μ-loop
-array-copy-out-edges c = omega arith
+element-copy-out-edges : tie.Need-element-copy-out-edges Inv-loop μ-loop
+element-copy-out-edges c = omega arith
 
 put-route-requires : tie.Need-put-route-requires Inv-loop μ-loop
-put-route-requires c κs = (omega arith, c .before .before .before .before .before .pre .1 .1 _ (c .before .before .loop-test .taken))
+put-route-requires c κs =
+    let tested = c .before .before .before in
+    (omega arith, tested .before .before .before .pre .1 .1 _ (tested .loop-test .taken))
 
 add-i : tie.Need-add-i Inv-loop μ-loop
 add-i c = omega arith
@@ -53,12 +55,12 @@ loop-less c = omega arith
 
 loop-again : tie.Need-loop-again Inv-loop μ-loop
 loop-again c =
-    let at-put-route = c .before .before .put-route in
-    let at-loop-test = c .before .before .before .before .before .loop-test in
-    let at-loop = c .before .before .before .before .before .before .loop in (
+    let put = c .before .before in
+    let tested = put .before .before .before .before in
+    let round = tested .before .loop in (
       omega arith,
       omega arith,
-      lines-turned _ _ _ _ (at-loop-test .taken) (at-loop .inv .2) _ _ _ refl (at-put-route .ensures .1 .1) (at-put-route .ensures .0),
+      lines-turned _ _ _ _ (tested .loop-test .taken) (round .inv .2) _ _ _ refl (put .put-route .ensures .1 .1) (put .put-route .ensures .0),
     )
 
 same-length : tie.Need-same-length Inv-loop μ-loop
@@ -78,10 +80,10 @@ put-routes-spec =
     loop-holds
     cast-count
     mul-count
-    array-read-count
+    element-copy-out-count
     cast-edges
     mul-edges
-    array-copy-out-edges
+    element-copy-out-edges
     put-route-requires
     add-i
     loop-less

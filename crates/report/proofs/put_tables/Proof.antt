@@ -1,4 +1,5 @@
 -- The first line, the lines of the routes and the lines of the loads stand one behind the other.
+use denote.Ref.{now}
 use native.Mathlib.Omega.{arith}
 use Rattle.report.proofs.Answers.{tables-written}
 use borrow.Author.Needs.{needs}
@@ -26,9 +27,9 @@ returns c =
     let at-routes = at-loads .before .before .before .before in
     let at-head = at-routes .before .before .before .before in
     let args = at-head .before .before .before .before .args in
-    let d = tables-written (args .net) (args .acyclic) (args .counts) (args .rows) (args .buf .now) _ _ _ (args .at) _ _ _ (at-head .put-line .ensures .0)
-    (at-head .put-line .ensures .1 .1) (at-routes .put-routes .ensures .0) (at-routes .put-routes .ensures .1 .1) (at-loads .put-loads .ensures .0)
-    (at-loads .put-loads .ensures .1 .1) in
+    let d = tables-written (args .net) (now (args .acyclic)) (now (args .counts)) (now (args .rows)) (args .buf .now) _ _ _ (args .at) _ _ _
+    (at-head .put-line .ensures .0) (at-head .put-line .ensures .1 .1) (at-routes .put-routes .ensures .0) (at-routes .put-routes .ensures .1 .1)
+    (at-loads .put-loads .ensures .0) (at-loads .put-loads .ensures .1 .1) in
     (d .0, (omega arith, d .1))
 
 pub put-tables-spec : {M : Type 1} → statement M

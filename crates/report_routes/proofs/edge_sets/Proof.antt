@@ -1,4 +1,5 @@
 -- Each terminal that was passed has the set of its route in its place, and the places from there on hold the empty set.
+use denote.Ref.{now}
 use mathlib.Core.Path.{_≡_, refl, _∙_}
 use Prim.Native.Nat.{_-_, _≤_}
 use native.Mathlib.Omega.{arith}
@@ -12,10 +13,10 @@ use Rattle.report_routes.proofs.edge_sets.Statement.{statement}
 use Rattle.report_routes.proofs.edge_sets.Tie as tie
 
 abbrev Inv-loop : tie.InvT-loop
-Inv-loop terminals counts rows routes₀ i₀ routes i = (length routes ≡ maxTerminals) × (i ≤ terminals) × RouteSets routes counts rows i
+Inv-loop counts rows terminals routes₀ i₀ routes i = (length routes ≡ maxTerminals) × (i ≤ terminals) × RouteSets routes counts rows i
 
 abbrev μ-loop : tie.MeasureT-loop
-μ-loop terminals counts rows routes₀ i₀ routes i = terminals - i
+μ-loop counts rows terminals routes₀ i₀ routes i = terminals - i
 
 loop-holds : tie.Need-loop-holds Inv-loop μ-loop
 loop-holds c = (refl, omega arith, record { are = λ i h. absurd (omega arith); past = λ i h. zeros-at maxTerminals i })
@@ -23,14 +24,11 @@ loop-holds c = (refl, omega arith, record { are = λ i h. absurd (omega arith); 
 mul-row : tie.Need-mul-row Inv-loop μ-loop
 mul-row c = search needs
 
-array-copy-out-row : tie.Need-array-copy-out-row Inv-loop μ-loop
-array-copy-out-row c = search needs
+element-copy-out-row : tie.Need-element-copy-out-row Inv-loop μ-loop
+element-copy-out-row c = search needs
 
-mul-count : tie.Need-mul-count Inv-loop μ-loop
-mul-count c = search needs
-
-array-read-count : tie.Need-array-read-count Inv-loop μ-loop
-array-read-count c = search needs
+word-at-requires : tie.Need-word-at-requires Inv-loop μ-loop
+word-at-requires c κs = search needs
 
 cast-row-set : tie.Need-cast-row-set Inv-loop μ-loop
 cast-row-set c = search needs
@@ -52,11 +50,13 @@ loop-less c = search needs
 
 loop-again : tie.Need-loop-again Inv-loop μ-loop
 loop-again c =
-    let at-loop = c .before .before .before .loop in
-    let start = c .before .before .before .before in (
+    let read = c .before in
+    let tested = read .before .before .before in
+    let at-loop = tested .before .loop in
+    let start = tested .before .before in (
       length-set (at-loop .routes) _ _ ∙ at-loop .inv .0,
       omega arith,
-      sets-turn (at-loop .routes) (start .args .t1) (start .args .t2) (at-loop .i) _ (omega arith) (at-loop .inv .2) (c .row-set .ensures),
+      sets-turn (at-loop .routes) (now (start .args .counts)) (now (start .args .rows)) (at-loop .i) _ (omega arith) (at-loop .inv .2) (rw (read .word-at .ensures) at (c .row-set .ensures)),
     )
 
 returns : tie.Need-returns Inv-loop μ-loop
@@ -70,9 +70,8 @@ edge-sets-spec =
     μ-loop
     loop-holds
     mul-row
-    array-copy-out-row
-    mul-count
-    array-read-count
+    element-copy-out-row
+    word-at-requires
     cast-row-set
     row-set-requires
     mul-routes

@@ -1,27 +1,34 @@
--- The rows and the counts are those of the moves that the walk has passed, from the last standing one on; at last it has passed all of them.
-use mathlib.Core.Path.{_≡_}
+-- The rows and the counts are those of the moves that the walk has passed, from the last standing one on; at last it has passed all of them. The moves are read from
+-- the words, whose standing ones are those of the journal.
+use denote.Ref.{now}
+use mathlib.Core.Path.{sym, ap, _∙_}
 use mathlib.Core.Logic.{inl, inr, ⊎-elim}
 use Prim.Native.Nat.{_-_}
 use native.Mathlib.Omega.{arith}
-use lib.ListN.{length}
 use borrow.Author.Needs.{needs}
 use Rattle.board.specs.Limits.{maxMoves}
+use Rattle.board.specs.declared.Entry.{Entry}
+use Rattle.journal.specs.Words.{entriesOf}
 use Rattle.report_routes.proofs.Filling.{Filled, fill-start, fill-carried, fill-past, fill-turned, fill-short, fill-end}
+use Rattle.report_routes.proofs.Standing.{words-long, filled-lent}
 use Rattle.report_routes.proofs.fill.Statement.{statement}
 use Rattle.report_routes.proofs.fill.Tie as tie
 
 abbrev Inv-loop : tie.InvT-loop
-Inv-loop moves counts journal rows₀ lengths₀ standing k₀ rows lengths k =
-    Filled moves journal standing k rows lengths
+Inv-loop journal moves counts words rows₀ lengths₀ standing k₀ rows lengths k =
+    Filled moves (entriesOf journal) standing k rows lengths
 
 abbrev μ-loop : tie.MeasureT-loop
-μ-loop moves counts journal rows₀ lengths₀ standing k₀ rows lengths k = standing - k
+μ-loop journal moves counts words rows₀ lengths₀ standing k₀ rows lengths k = standing - k
 
 loop-holds : tie.Need-loop-holds Inv-loop μ-loop
 loop-holds c =
-    let start = c .before in
-    let long : length (start .args .t1) ≡ maxMoves = search (needs, start .good) in
-    fill-start (start .args .moves) (start .args .t1) (c .if1 .standing) long (⊎-elim (λ w. inl (w .0 .taken, w .1)) (λ w. inr (w .0 .left, w .1)) (c .if1 .came))
+    let lent = c .before in
+    let start = lent .before in
+    let words = now (start .args .journal) in
+    let long = words-long words maxMoves (lent .words .given .0) in
+    fill-start (start .args .moves) (entriesOf words) (c .if1 .standing) long
+    (⊎-elim (λ w. inl (w .0 .taken, w .1)) (λ w. inr (w .0 .left, w .1)) (c .if1 .came))
 
 sub-at : tie.Need-sub-at Inv-loop μ-loop
 sub-at c = omega arith
@@ -29,11 +36,8 @@ sub-at c = omega arith
 sub-at-2 : tie.Need-sub-at-2 Inv-loop μ-loop
 sub-at-2 c = omega arith
 
-mul-entry : tie.Need-mul-entry Inv-loop μ-loop
-mul-entry c = search needs
-
-array-copy-out-entry : tie.Need-array-copy-out-entry Inv-loop μ-loop
-array-copy-out-entry c = omega (arith, c .before .before .loop .inv .1)
+entry-at-requires : tie.Need-entry-at-requires Inv-loop μ-loop
+entry-at-requires c κs = search needs
 
 add-k : tie.Need-add-k Inv-loop μ-loop
 add-k c = omega arith
@@ -67,11 +71,16 @@ index-2-rows c = search needs
 
 add-lengths : tie.Need-add-lengths Inv-loop μ-loop
 add-lengths c =
-    let at-loop = c .before .before .before .before .before .before .before .before .before .loop in
-    let at-if1 = c .before .before .before .before .before .before .before .before .before .before .if1 in
-    let start = c .before .before .before .before .before .before .before .before .before .before .before in
-    let long : length (start .args .t1) ≡ maxMoves = search (needs, start .good) in
-    let small = fill-short (start .args .moves) (start .args .t1) (at-if1 .standing) (at-loop .k) (at-loop .rows) (at-loop .lengths) _ long (c .before .if2 .taken) (at-loop .inv) in
+    let stepped = c .before .before .before .before in
+    let read = stepped .before .before in
+    let tested = read .before .before in
+    let round = tested .before in
+    let lent = round .before .before in
+    let start = lent .before in
+    let words = now (start .args .journal) in
+    let long = words-long words maxMoves (lent .words .given .0) in
+    let small = fill-short (start .args .moves) (entriesOf words) (round .before .if1 .standing) (round .loop .k) (round .loop .rows) (round .loop .lengths) _
+    long (c .before .if2 .taken) (round .loop .inv) in
     omega (arith, small)
 
 mul-lengths : tie.Need-mul-lengths Inv-loop μ-loop
@@ -85,26 +94,28 @@ loop-less c = omega arith
 
 loop-again : tie.Need-loop-again Inv-loop μ-loop
 loop-again c =
-    let at-step = c .before .before .before .before .step in
-    let at-loop-test = c .before .before .before .before .before .before .before .before .loop-test in
-    let at-loop = c .before .before .before .before .before .before .before .before .before .loop in
-    let at-if1 = c .before .before .before .before .before .before .before .before .before .before .if1 in
-    let start = c .before .before .before .before .before .before .before .before .before .before .before in
-    let long : length (start .args .t1) ≡ maxMoves = search (needs, start .good) in
+    let stepped = c .before .before .before .before in
+    let read = stepped .before .before in
+    let tested = read .before .before in
+    let round = tested .before in
+    let lent = round .before .before in
+    let start = lent .before in
+    let words = now (start .args .journal) in
+    let long = words-long words maxMoves (lent .words .given .0) in
     fill-carried
     (start .args .moves)
-    (start .args .t1)
-    (at-if1 .standing)
-    (at-loop .k)
-    (at-loop .rows)
-    (at-loop .lengths)
+    (entriesOf words)
+    (round .before .if1 .standing)
+    (round .loop .k)
+    (round .loop .rows)
+    (round .loop .lengths)
     _
-    (at-loop-test .taken)
+    (tested .loop-test .taken)
     long
-    (at-loop .inv)
+    (round .loop .inv)
     _
     (c .if3 .rows)
-    (at-step .given .1)
+    (ap (λ (e : Entry). e .step) (sym (read .entry-at .ensures)) ∙ stepped .step .given .1)
     (c .before .if2 .taken)
     (⊎-elim (λ w. inl (w .0 .taken, w .1)) (λ w. inr (w .0 .left, w .1)) (c .if3 .came))
 
@@ -113,25 +124,27 @@ loop-less-2 c = omega arith
 
 loop-again-2 : tie.Need-loop-again-2 Inv-loop μ-loop
 loop-again-2 c =
-    let at-step = c .before .before .before .step in
-    let at-loop-test = c .before .before .before .before .before .before .before .loop-test in
-    let at-loop = c .before .before .before .before .before .before .before .before .loop in
-    let at-if1 = c .before .before .before .before .before .before .before .before .before .if1 in
-    let start = c .before .before .before .before .before .before .before .before .before .before in
-    let long : length (start .args .t1) ≡ maxMoves = search (needs, start .good) in
+    let stepped = c .before .before .before in
+    let read = stepped .before .before in
+    let tested = read .before .before in
+    let round = tested .before in
+    let lent = round .before .before in
+    let start = lent .before in
+    let words = now (start .args .journal) in
+    let long = words-long words maxMoves (lent .words .given .0) in
     fill-past
     (start .args .moves)
-    (start .args .t1)
-    (at-if1 .standing)
-    (at-loop .k)
-    (at-loop .rows)
-    (at-loop .lengths)
+    (entriesOf words)
+    (round .before .if1 .standing)
+    (round .loop .k)
+    (round .loop .rows)
+    (round .loop .lengths)
     _
-    (at-loop-test .taken)
+    (tested .loop-test .taken)
     long
-    (at-loop .inv)
+    (round .loop .inv)
     _
-    (at-step .given .1)
+    (ap (λ (e : Entry). e .step) (sym (read .entry-at .ensures)) ∙ stepped .step .given .1)
     (c .if2 .left)
 
 enum-told : tie.Need-enum-told Inv-loop μ-loop
@@ -142,29 +155,34 @@ loop-less-3 c = omega arith
 
 loop-again-3 : tie.Need-loop-again-3 Inv-loop μ-loop
 loop-again-3 c =
-    let at-loop-test = c .before .before .before .before .loop-test in
-    let at-loop = c .before .before .before .before .before .loop in
-    let at-if1 = c .before .before .before .before .before .before .if1 in
-    let start = c .before .before .before .before .before .before .before in
-    let long : length (start .args .t1) ≡ maxMoves = search (needs, start .good) in
+    let read = c .before .before in
+    let tested = read .before .before in
+    let round = tested .before in
+    let lent = round .before .before in
+    let start = lent .before in
+    let words = now (start .args .journal) in
+    let long = words-long words maxMoves (lent .words .given .0) in
     fill-turned
     (start .args .moves)
-    (start .args .t1)
-    (at-if1 .standing)
-    (at-loop .k)
-    (at-loop .rows)
-    (at-loop .lengths)
+    (entriesOf words)
+    (round .before .if1 .standing)
+    (round .loop .k)
+    (round .loop .rows)
+    (round .loop .lengths)
     _
-    (at-loop-test .taken)
+    (tested .loop-test .taken)
     long
-    (at-loop .inv)
+    (round .loop .inv)
     _
-    (c .enum-told .given .1)
+    (ap (λ (e : Entry). e .step) (sym (read .entry-at .ensures)) ∙ c .enum-told .given .1)
 
 returns : tie.Need-returns Inv-loop μ-loop
 returns c =
-    let start = c .before .before .before in
-    fill-end (start .args .moves) (start .args .t1) (c .before .before .if1 .standing) (c .before .loop .k) (c .before .loop .rows) (c .before .loop .lengths) (c .loop-test .left) (c .before .loop .inv)
+    let round = c .before in
+    let start = round .before .before .before in
+    let words = now (start .args .journal) in
+    filled-lent (start .args .moves) words (round .loop .rows) (round .loop .lengths)
+    (fill-end (start .args .moves) (entriesOf words) (round .before .if1 .standing) (round .loop .k) (round .loop .rows) (round .loop .lengths) (c .loop-test .left) (round .loop .inv))
 
 pub fill-spec : {M : Type 1} → statement M
 fill-spec =
@@ -175,8 +193,7 @@ fill-spec =
     loop-holds
     sub-at
     sub-at-2
-    mul-entry
-    array-copy-out-entry
+    entry-at-requires
     add-k
     enum-known-step
     cast-i

@@ -1,4 +1,5 @@
 -- The sum so far and what is left of the sum make the whole sum; no demand is great, so that nothing wraps.
+use denote.Ref.{now}
 use mathlib.Core.Path.{_≡_}
 use mathlib.Core.Logic.{inl, inr, ⊎-elim}
 use Prim.Native.Nat.{_+_, _-_, _*_, _≤_, _<_}
@@ -12,11 +13,11 @@ use Rattle.report_routes.proofs.load.Statement.{statement}
 use Rattle.report_routes.proofs.load.Tie as tie
 
 abbrev Inv-loop : tie.InvT-loop
-Inv-loop terminals e routes demands sum₀ i₀ sum i =
+Inv-loop routes demands terminals e sum₀ i₀ sum i =
     (sum ≤ i * maxFlow) × (sum + total (part routes demands e) i (terminals - i) ≡ total (part routes demands e) 0 terminals)
 
 abbrev μ-loop : tie.MeasureT-loop
-μ-loop terminals e routes demands sum₀ i₀ sum i = terminals - i
+μ-loop routes demands terminals e sum₀ i₀ sum i = terminals - i
 
 loop-holds : tie.Need-loop-holds Inv-loop μ-loop
 loop-holds c = load-start _ _
@@ -24,8 +25,8 @@ loop-holds c = load-start _ _
 mul-route : tie.Need-mul-route Inv-loop μ-loop
 mul-route c = search needs
 
-array-read-route : tie.Need-array-read-route Inv-loop μ-loop
-array-read-route c = omega (arith, c .before .before .pre .0, c .loop-test .taken)
+element-copy-out-route : tie.Need-element-copy-out-route Inv-loop μ-loop
+element-copy-out-route c = omega (arith, c .before .before .pre .0, c .loop-test .taken)
 
 has-requires : tie.Need-has-requires Inv-loop μ-loop
 has-requires c κs = search needs
@@ -33,32 +34,35 @@ has-requires c κs = search needs
 mul-sum : tie.Need-mul-sum Inv-loop μ-loop
 mul-sum c = search needs
 
-array-read-sum : tie.Need-array-read-sum Inv-loop μ-loop
-array-read-sum c = omega (arith, c .before .before .before .before .pre .0, c .before .before .loop-test .taken)
+element-copy-out-sum : tie.Need-element-copy-out-sum Inv-loop μ-loop
+element-copy-out-sum c =
+    let tested = c .before .before .before in
+    omega (arith, tested .before .before .pre .0, tested .loop-test .taken)
 
 add-sum : tie.Need-add-sum Inv-loop μ-loop
 add-sum c =
-    let start = c .before .before .before .before in
-    let at-loop = c .before .before .before .loop in
+    let tested = c .before .before .before .before in
+    let start = tested .before .before in
+    let at-loop = tested .before .loop in
     let small = start .pre .1 (at-loop .i) in
-    let room : at-loop .i < maxTerminals = omega (arith, start .pre .0, c .before .before .loop-test .taken) in
+    let room : at-loop .i < maxTerminals = omega (arith, start .pre .0, tested .loop-test .taken) in
     omega (arith, at-loop .inv .0)
 
 add-i : tie.Need-add-i Inv-loop μ-loop
 add-i c = search needs
 
 loop-less : tie.Need-loop-less Inv-loop μ-loop
-loop-less c = omega (arith, c .before .before .loop-test .taken)
+loop-less c = omega (arith, c .before .before .before .loop-test .taken)
 
 loop-again : tie.Need-loop-again Inv-loop μ-loop
 loop-again c =
-    let at-has = c .before .has in
-    let at-loop-test = c .before .before .loop-test in
-    let at-loop = c .before .before .before .loop in
-    let start = c .before .before .before .before in
+    let found = c .before in
+    let tested = found .before .before in
+    let at-loop = tested .before .loop in
+    let start = tested .before .before in
     load-turn
-    (start .args .t1)
-    (start .args .t2)
+    (now (start .args .routes))
+    (now (start .args .demands))
     (start .args .e)
     (start .args .terminals)
     (at-loop .i)
@@ -66,9 +70,9 @@ loop-again c =
     (c .if1 .sum)
     _
     _
-    (at-loop-test .taken)
-    (at-has .ensures)
-    (⊎-elim (λ w. inl (w .0 .taken, w .1)) (λ w. inr (w .0 .left, w .1)) (c .if1 .came))
+    (tested .loop-test .taken)
+    (found .has .ensures)
+    (⊎-elim (λ w. inl (w .0 .taken, w .2)) (λ w. inr (w .0 .left, w .1)) (c .if1 .came))
     (start .pre .1 (at-loop .i))
     (at-loop .inv)
 
@@ -84,10 +88,10 @@ load-spec =
     μ-loop
     loop-holds
     mul-route
-    array-read-route
+    element-copy-out-route
     has-requires
     mul-sum
-    array-read-sum
+    element-copy-out-sum
     add-sum
     add-i
     loop-less

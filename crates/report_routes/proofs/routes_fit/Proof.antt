@@ -14,17 +14,14 @@ use Rattle.report_routes.proofs.routes_fit.Statement.{statement}
 use Rattle.report_routes.proofs.routes_fit.Tie as tie
 
 abbrev Inv-loop : tie.InvT-loop
-Inv-loop terminals counts i₀ i =
+Inv-loop counts terminals i₀ i =
     all (λ j. leb (getD counts j 0) maxVertices) i (terminals - i) ≡ all (λ j. leb (getD counts j 0) maxVertices) 0 terminals
 
 abbrev μ-loop : tie.MeasureT-loop
-μ-loop terminals counts i₀ i = terminals - i
+μ-loop counts terminals i₀ i = terminals - i
 
 loop-holds : tie.Need-loop-holds Inv-loop μ-loop
 loop-holds c = rw sub-zero
-
-slice-aggregate-word-at : tie.Need-slice-aggregate-word-at Inv-loop μ-loop
-slice-aggregate-word-at c = search needs
 
 cast-word-at : tie.Need-cast-word-at Inv-loop μ-loop
 cast-word-at c = search needs
@@ -62,7 +59,6 @@ routes-fit-spec =
     Inv-loop
     μ-loop
     loop-holds
-    slice-aggregate-word-at
     cast-word-at
     word-at-requires
     returns

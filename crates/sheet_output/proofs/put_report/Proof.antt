@@ -1,7 +1,9 @@
 -- The report where there is one, and else its number: then nothing was written before it.
+use denote.Ref.{now}
 use mathlib.Core.Path.{ap, _∙_}
 use native.Mathlib.Omega.{arith}
 use lib.ListN.{length}
+use Rattle.journal.specs.Words.{wholeOf}
 use Rattle.sheet_output.proofs.Prints.{report-refused, report-given}
 use borrow.Author.Needs.{needs}
 use Rattle.sheet_output.proofs.put_report.Statement.{statement}
@@ -18,12 +20,14 @@ same-length c = search needs
 
 returns : tie.Need-returns
 returns c =
-    let at-put-number = c .before .before .put-number in
-    let at-put-sheet = c .before .before .before .before .before .before .before .before .put-sheet in
-    let args = c .before .before .before .before .before .before .before .before .before .before .before .args in
-    let e = report-refused (args .board) (args .buf .now) _ (args .at) _ (at-put-sheet .ensures .0) (at-put-sheet .ensures .1 .1) (c .before .before .before .before .if1 .taken) in (
+    let numbered = c .before .before in
+    let stopped = numbered .before .before in
+    let put = stopped .before .before .before .before in
+    let args = put .before .before .before .args in
+    let e = report-refused (wholeOf (args .board) (now (args .journal))) (args .buf .now) _ (args .at) _ (put .put-sheet .ensures .0) (put .put-sheet .ensures .1 .1)
+    (stopped .if1 .taken) in (
       omega (arith, ap length (e .0)),
-      (omega arith, at-put-number .ensures .1 .1 ∙ rw (e .0, e .1)),
+      (omega arith, numbered .put-number .ensures .1 .1 ∙ rw (e .0, e .1)),
     )
 
 add-result : tie.Need-add-result
@@ -34,9 +38,11 @@ same-length-2 c = search needs
 
 returns-2 : tie.Need-returns-2
 returns-2 c =
-    let at-put-sheet = c .before .before .before .before .before .put-sheet in
-    let args = c .before .before .before .before .before .before .before .before .args in
-    let e = report-given (args .board) (args .buf .now) _ (args .at) _ (at-put-sheet .ensures .0) (at-put-sheet .ensures .1 .1) (c .before .if1 .left) in
+    let passed = c .before in
+    let put = passed .before .before .before .before in
+    let args = put .before .before .before .args in
+    let e = report-given (wholeOf (args .board) (now (args .journal))) (args .buf .now) _ (args .at) _ (put .put-sheet .ensures .0) (put .put-sheet .ensures .1 .1)
+    (passed .if1 .left) in
     (omega (arith, e .0), (omega arith, e .1))
 
 pub put-report-spec : {M : Type 1} → statement M

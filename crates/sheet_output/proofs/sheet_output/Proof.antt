@@ -1,11 +1,14 @@
--- The number of the load, the number of the finish, or the report.
+-- The number of the load, the number of the finish, or the report. The words that the load emptied are those of its board, so the finish is the board's own.
 use mathlib.Core.Path.{ap, _∙_}
 use mathlib.Core.List.{List}
 use Prim.Native.Nat.{ℕ}
 use native.Mathlib.Omega.{arith}
 use lib.ListN.{length}
 use lib.Seq.{sets}
+use Rattle.load.specs.Lent.{loadedOf}
+use Rattle.solve_finish.specs.Lent.{endedOf}
 use Rattle.sheet_output.proofs.Prints.{sheet-refused, sheet-unfinished, sheet-reported}
+use Rattle.sheet_output.proofs.Lent.{refused-words, finish-loaded, finish-words}
 use borrow.Author.Needs.{needs}
 use Rattle.sheet_output.proofs.sheet_output.Statement.{statement}
 use Rattle.sheet_output.proofs.sheet_output.Tie as tie
@@ -21,13 +24,21 @@ same-length c = search needs
 
 returns : tie.Need-returns
 returns c =
-    let at-put-number = c .before .before .put-number in
-    let at-if1 = c .before .before .before .before .if1 in
-    let at-load = c .before .before .before .before .before .before .load in
-    let at-args = c .before .before .before .before .before .before .before .before .before .args in
-    let e = sheet-refused _ (at-load .result) (at-load .ensures) (at-if1 .taken) in (
+    let printing = c .before .before in
+    let refusing = printing .before .before in
+    let loading = refusing .before .before in
+    let start = loading .before .before .before .before in
+    let words = loading .load .last .1 .0 in
+    let gave = loading .load .ensures in
+    let e = sheet-refused _ (loadedOf (loading .load .result) words) (gave .0) (refusing .if1 .taken) in (
       omega (arith, ap length e),
-      (omega arith, at-put-number .ensures .1 .1 ∙ ap (λ (l : List ℕ). sets (at-args .out .now) 0 l) e),
+      (
+        omega arith,
+        (
+          printing .put-number .ensures .1 .1 ∙ ap (λ (l : List ℕ). sets (start .args .out .now) 0 l) e,
+          refused-words (start .args .input .now) (loading .load .result) words (gave .0) (gave .1) (refusing .if1 .taken),
+        ),
+      ),
     )
 
 finish-requires : tie.Need-finish-requires
@@ -41,15 +52,29 @@ same-length-2 c = search needs
 
 returns-2 : tie.Need-returns-2
 returns-2 c =
-    let at-put-number = c .before .before .put-number2 in
-    let at-if2 = c .before .before .before .before .if2 in
-    let at-finish = c .before .before .before .before .before .before .finish in
-    let at-if1 = c .before .before .before .before .before .before .before .before .if1 in
-    let at-load = c .before .before .before .before .before .before .before .before .before .before .load in
-    let at-args = c .before .before .before .before .before .before .before .before .before .before .before .before .before .args in
-    let e = sheet-unfinished _ (at-load .result) (at-load .ensures) (at-if1 .left) (at-finish .result) (at-finish .ensures) (at-if2 .taken) in (
+    let printing = c .before .before in
+    let refusing = printing .before .before in
+    let finishing = refusing .before .before in
+    let accepting = finishing .before .before .before in
+    let loading = accepting .before .before in
+    let start = loading .before .before .before .before in
+    let text = start .args .input .now in
+    let opened = loading .load .result in
+    let words = loading .load .last .1 .0 in
+    let gave = loading .load .ensures in
+    let ended = finishing .finish .result in
+    let last = finishing .finish .last .1 .0 in
+    let made = finishing .finish .ensures in
+    let finished = finish-loaded text opened words (gave .0) (gave .1) ended last (made .0) in
+    let e = sheet-unfinished _ (loadedOf opened words) (gave .0) (accepting .if1 .left) (endedOf ended last) finished (refusing .if2 .taken) in (
       omega (arith, ap length e),
-      (omega arith, at-put-number .ensures .1 .1 ∙ ap (λ (l : List ℕ). sets (at-args .out .now) 0 l) e),
+      (
+        omega arith,
+        (
+          printing .put-number2 .ensures .1 .1 ∙ ap (λ (l : List ℕ). sets (start .args .out .now) 0 l) e,
+          finish-words text opened words (gave .0) (gave .1) last (made .1),
+        ),
+      ),
     )
 
 put-report-requires : tie.Need-put-report-requires
@@ -60,15 +85,29 @@ same-length-3 c = search needs
 
 returns-3 : tie.Need-returns-3
 returns-3 c =
-    let at-put-report = c .before .before .put-report in
-    let at-if2 = c .before .before .before .before .before .if2 in
-    let at-finish = c .before .before .before .before .before .before .before .finish in
-    let at-if1 = c .before .before .before .before .before .before .before .before .before .if1 in
-    let at-load = c .before .before .before .before .before .before .before .before .before .before .before .load in
-    let at-args = c .before .before .before .before .before .before .before .before .before .before .before .before .before .before .args in
-    let e = sheet-reported _ (at-load .result) (at-load .ensures) (at-if1 .left) (at-finish .result) (at-finish .ensures) (at-if2 .left) in (
+    let printing = c .before .before in
+    let finished-so = printing .before .before .before .before in
+    let finishing = finished-so .before .before in
+    let accepting = finishing .before .before .before in
+    let loading = accepting .before .before in
+    let start = loading .before .before .before .before in
+    let text = start .args .input .now in
+    let opened = loading .load .result in
+    let words = loading .load .last .1 .0 in
+    let gave = loading .load .ensures in
+    let ended = finishing .finish .result in
+    let last = finishing .finish .last .1 .0 in
+    let made = finishing .finish .ensures in
+    let finished = finish-loaded text opened words (gave .0) (gave .1) ended last (made .0) in
+    let e = sheet-reported _ (loadedOf opened words) (gave .0) (accepting .if1 .left) (endedOf ended last) finished (finished-so .if2 .left) in (
       omega (arith, ap length e),
-      (omega arith, at-put-report .ensures .1 .1 ∙ ap (λ (l : List ℕ). sets (at-args .out .now) 0 l) e),
+      (
+        omega arith,
+        (
+          printing .put-report .ensures .1 .1 ∙ ap (λ (l : List ℕ). sets (start .args .out .now) 0 l) e,
+          finish-words text opened words (gave .0) (gave .1) last (made .1),
+        ),
+      ),
     )
 
 pub sheet-output-spec : {M : Type 1} → statement M

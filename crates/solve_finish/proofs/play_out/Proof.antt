@@ -11,15 +11,15 @@ use denote.Ref.{now}
 use borrow.Author.Needs.{needs, length-unmapped}
 use borrow.Author.Tests.{not-true, not-false}
 use Rattle.board.specs.Limits.{maxEdges, maxTerminals, maxMoves}
-use Rattle.board.specs.declared.Board.{Board}
+use Rattle.board.specs.Whole.{Board}
 use Rattle.board.specs.declared.Network.{Network}
-use Rattle.journal.specs.declared.Table.{Table}
+use Rattle.board.specs.Whole.{Table}
 use Rattle.journal.specs.Words.{wholeOf, entriesOf, journalOf, standing}
 use Rattle.journal.proofs.Laws.{add-standing}
-use Rattle.move_guard.specs.declared.Change.{Change}
+use Rattle.move_guard.specs.Moved.{Change}
 use Rattle.move_guard.proofs.Facts.{playing-moves}
 use Rattle.move_edges.specs.Incidence.{PositiveSet}
-use Rattle.solve_finish.specs.declared.Made.{Made}
+use Rattle.solve_finish.specs.Run.{Made}
 use Rattle.solve_finish.specs.Finishes.{playedOut}
 use Rattle.solve_finish.specs.Run.{PartsSized, stepChange, Makes, madeOf, Filled}
 use Rattle.solve_finish.proofs.InPlace.{step-of-bare, Keeps, step-keeps, step-long}
@@ -33,8 +33,8 @@ use Rattle.solve_finish.proofs.play_out.Lts as lts
 use Rattle.journal.proofs.is_blank.Reads as is-blank-reads
 use Rattle.journal.proofs.put_entry.Reads as put-entry-reads
 use Rattle.move_edges.proofs.at_vertices.Reads as at-vertices-reads
-use Rattle.move_edges.proofs.positive_lent.Reads as positive-lent-reads
-use Rattle.solve_finish.proofs.advance_lent.Reads as advance-lent-reads
+use Rattle.move_edges.proofs.positive.Reads as positive-reads
+use Rattle.solve_finish.proofs.advance.Reads as advance-reads
 use Rattle.solve_finish.proofs.left_after.Reads as left-after-reads
 
 -- the board at the start, with the journal of the words now
@@ -54,10 +54,10 @@ abbrev cs : lts.Claims
 cs = (
   at-vertices-reads.Asked,
   at-vertices-reads.Learnt,
-  positive-lent-reads.Asked,
-  positive-lent-reads.Learnt,
-  advance-lent-reads.Asked,
-  advance-lent-reads.Learnt,
+  positive-reads.Asked,
+  positive-reads.Learnt,
+  advance-reads.Asked,
+  advance-reads.Learnt,
   is-blank-reads.Asked,
   is-blank-reads.Learnt,
   put-entry-reads.Asked,
@@ -74,7 +74,7 @@ abbrev Looping : Type 0
 Looping = lts.At-loop cs reads.Pre reads.Post Inv-loop μ-loop
 
 abbrev Advanced : Type 0
-Advanced = lts.After-advance-lent cs reads.Pre reads.Post Inv-loop μ-loop
+Advanced = lts.After-advance cs reads.Pre reads.Post Inv-loop μ-loop
 
 abbrev Found : Type 0
 Found = lts.Else1 cs reads.Pre reads.Post Inv-loop μ-loop
@@ -119,13 +119,13 @@ starts c =
 
 -- the move that was made, with the flows and places after it
 abbrev flows-now : Advanced → List ℕ
-flows-now c = c .advance-lent .last .1 .1 .1 .1 .1 .1 .0
+flows-now c = c .advance .last .1 .1 .1 .1 .1 .1 .0
 
 abbrev places-now : Advanced → List ℕ
-places-now c = c .advance-lent .last .1 .1 .1 .1 .1 .1 .1 .0
+places-now c = c .advance .last .1 .1 .1 .1 .1 .1 .1 .0
 
 abbrev made : Advanced → Made
-made c = madeOf (c .advance-lent .result) (flows-now c) (places-now c)
+made c = madeOf (c .advance .result) (flows-now c) (places-now c)
 
 abbrev network : Advanced → Network
 network c = table (started (looping c)) .network
@@ -133,7 +133,7 @@ network c = table (started (looping c)) .network
 makes : (c : Advanced) → let loop = looping c .loop in Makes (stepChange (network c) (loop .flows) (loop .marks) (loop .places)) (made c)
 makes c =
     let loop = looping c .loop in
-    subst (λ (k : Change). Makes k (made c)) (step-of-bare (network c) (loop .flows) (loop .marks) (loop .places)) (c .advance-lent .ensures)
+    subst (λ (k : Change). Makes k (made c)) (step-of-bare (network c) (loop .flows) (loop .marks) (loop .places)) (c .advance .ensures)
 
 keeps : (c : Advanced) → let loop = looping c .loop in Keeps (loop .flows) (loop .marks) (loop .places) (made c .change)
 keeps c =
@@ -167,7 +167,7 @@ goes-on : (c : Moved)
     let start = started (looping at-move) in
     let m = looping at-move .loop .moves + 1 in
     Run (given start) (given start .network) (reached (table start) (old start) (c .before .put-entry .last .0) m) (flows-now at-move)
-    (at-move .advance-lent .result .marks) (places-now at-move) m (c .left-after .result)
+    (at-move .advance .result .marks) (places-now at-move) m (c .left-after .result)
 goes-on c =
     let at-move = advanced (found c) in
     let loop = looping at-move .loop in
@@ -175,14 +175,14 @@ goes-on c =
     run-made _ _ _ _ _ _ _ _ (loop .inv .0) (within at-move .loop-test .taken) (made at-move) (makes at-move) _ _ (found c .if1 .left) (short-now at-move)
     (ap (journaled (given (started (looping at-move))))
     (ap (standing (m + 1)) (c .before .put-entry .ensures .1)
-    ∙ sym (add-standing m (m + 1) (entriesOf (loop .journal)) (at-move .advance-lent .result .entry) (omega arith))))
+    ∙ sym (add-standing m (m + 1) (entriesOf (loop .journal)) (at-move .advance .result .entry) (omega arith))))
     (c .left-after .ensures)
 
 goes-less : (c : Moved) → c .left-after .result < looping (advanced (found c)) .loop .left
 goes-less c =
     let at-move = advanced (found c) in
     let loop = looping at-move .loop in
-    omega (arith, c .left-after .ensures, left-less (loop .left) (loop .moves + 1) (at-move .advance-lent .result .small) (within at-move .loop-test .taken))
+    omega (arith, c .left-after .ensures, left-less (loop .left) (loop .moves + 1) (at-move .advance .result .small) (within at-move .loop-test .taken))
 
 fills-on : (c : Moved)
     → let at-loop = looping (advanced (found c)) in
@@ -199,8 +199,8 @@ at-vertices-requires c κs = search needs
 at-vertices-requires-2 : tie.Need-at-vertices-requires-2 Inv-loop μ-loop
 at-vertices-requires-2 c κs = search needs
 
-positive-lent-requires : tie.Need-positive-lent-requires Inv-loop μ-loop
-positive-lent-requires c κs = search needs
+positive-requires : tie.Need-positive-requires Inv-loop μ-loop
+positive-requires c κs = search needs
 
 cast-left : tie.Need-cast-left Inv-loop μ-loop
 cast-left c = search needs
@@ -208,16 +208,16 @@ cast-left c = search needs
 loop-holds : tie.Need-loop-holds Inv-loop μ-loop
 loop-holds c =
     let start = c .before .before .before .before .before .before .before .before in
-    (rw (start .pre .1 .0, start .pre .1 .1) (starts start), c .positive-lent .ensures, filled-none (table start .moves) (old start))
+    (rw (start .pre .1 .0, start .pre .1 .1) (starts start), c .positive .ensures, filled-none (table start .moves) (old start))
 
-slice-aggregate-advance-lent : tie.Need-slice-aggregate-advance-lent Inv-loop μ-loop
-slice-aggregate-advance-lent c = search needs
+slice-aggregate-advance : tie.Need-slice-aggregate-advance Inv-loop μ-loop
+slice-aggregate-advance c = search needs
 
-slice-aggregate-advance-lent-2 : tie.Need-slice-aggregate-advance-lent-2 Inv-loop μ-loop
-slice-aggregate-advance-lent-2 c = search needs
+slice-aggregate-advance-2 : tie.Need-slice-aggregate-advance-2 Inv-loop μ-loop
+slice-aggregate-advance-2 c = search needs
 
-advance-lent-requires : tie.Need-advance-lent-requires Inv-loop μ-loop
-advance-lent-requires c κs =
+advance-requires : tie.Need-advance-requires Inv-loop μ-loop
+advance-requires c κs =
     let at-test = c .before .before .before .before .before .before .before in
     let at-loop = at-test .before in
     let at-sets = at-loop .before .before .before in
@@ -297,12 +297,12 @@ play-out-spec =
     μ-loop
     at-vertices-requires
     at-vertices-requires-2
-    positive-lent-requires
+    positive-requires
     cast-left
     loop-holds
-    slice-aggregate-advance-lent
-    slice-aggregate-advance-lent-2
-    advance-lent-requires
+    slice-aggregate-advance
+    slice-aggregate-advance-2
+    advance-requires
     loop-less
     loop-again
     cast-m

@@ -37,14 +37,14 @@ array-share-prefix-steps c =
     let g = at-cycle .before .before .before .before .before .before .before .before .before .before .pre in
     going-fits _ _ _ _ _ _ _ _ g _ (at-cycle .cycle .ensures)
 
-slice-aggregate-change-lent : tie.Need-slice-aggregate-change-lent
-slice-aggregate-change-lent c =
+slice-aggregate-change : tie.Need-slice-aggregate-change
+slice-aggregate-change c =
     let at-cycle = c .before .before .before in
     let g = at-cycle .before .before .before .before .before .before .before .before .before .before .pre in
     sym (length-take-le _ _ (going-fits _ _ _ _ _ _ _ _ g _ (at-cycle .cycle .ensures)))
 
-change-lent-requires : tie.Need-change-lent-requires
-change-lent-requires c κs =
+change-requires : tie.Need-change-requires
+change-requires c κs =
     let at-cycle = c .before .before .before .before in
     let g = at-cycle .before .before .before .before .before .before .before .before .before .before .pre in
     going-turns _ _ _ _ _ _ _ _ g
@@ -59,7 +59,7 @@ look-again-requires c κs =
     let at-cycle = at-change .before .before .before .before .before in
     let at-home = at-cycle .before .before .before .before .before .before in
     let g = at-home .before .before .before .before .pre in
-    rw (at-edges .shifted-edges .ensures) (going-right _ _ _ _ _ _ _ _ g _ _ (at-change .change-lent .ensures))
+    rw (at-edges .shifted-edges .ensures) (going-right _ _ _ _ _ _ _ _ g _ _ (at-change .change .ensures))
 
 returns-2 : tie.Need-returns-2
 returns-2 c =
@@ -69,7 +69,7 @@ returns-2 c =
     let at-home = at-if1 .before in
     let g = at-home .before .before .before .before .pre in
     record {
-      changes = going-turned _ _ _ _ _ _ _ _ g _ (at-cycle .cycle .ensures) _ _ (at-home .all-home .ensures) (at-if1 .if1 .left) (at-change .change-lent .ensures);
+      changes = going-turned _ _ _ _ _ _ _ _ g _ (at-cycle .cycle .ensures) _ _ (at-home .all-home .ensures) (at-if1 .if1 .left) (at-change .change .ensures);
       is-positive = c .look-again .ensures .is-positive;
       smalls = c .look-again .ensures .smalls;
     }
@@ -84,8 +84,8 @@ turn-on-spec =
     cycle-requires
     cast-count
     array-share-prefix-steps
-    slice-aggregate-change-lent
-    change-lent-requires
+    slice-aggregate-change
+    change-requires
     shifted-edges-requires
     look-again-requires
     returns-2)

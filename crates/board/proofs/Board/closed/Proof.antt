@@ -1,5 +1,5 @@
--- The empty network and the blank entry are what their calls ensure; every other part is that of the closed board.
-use Rattle.board.specs.Record.{closedBoard}
+-- The empty network is what its call ensures; every other part is that of the closed board.
+use Rattle.board.specs.Record.{closedTable}
 use borrow.Author.Needs.{needs}
 use Rattle.board.proofs.Board.closed.Statement.{statement}
 use Rattle.board.proofs.Board.closed.Tie as tie
@@ -7,12 +7,9 @@ use Rattle.board.proofs.Board.closed.Tie as tie
 empty-requires : tie.Need-empty-requires
 empty-requires c κs = search needs
 
-blank-requires : tie.Need-blank-requires
-blank-requires c κs = search needs
-
 returns : tie.Need-returns
-unfolding closedBoard
+unfolding closedTable
 returns c = cc
 
 pub closed-spec : {M : Type 1} → statement M
-closed-spec = tie.close (tie.spec empty-requires blank-requires returns)
+closed-spec = tie.close (tie.spec empty-requires returns)

@@ -9,11 +9,11 @@ use Rattle.replay.proofs.corpus.print_text.Tie as tie
 closed-requires : tie.Need-closed-requires
 closed-requires c κs = search needs
 
-slice-aggregate-write-lent : tie.Need-slice-aggregate-write-lent
-slice-aggregate-write-lent c = search needs
+slice-aggregate-write : tie.Need-slice-aggregate-write
+slice-aggregate-write c = search needs
 
-write-lent-requires : tie.Need-write-lent-requires
-write-lent-requires c κs = search needs
+write-requires : tie.Need-write-requires
+write-requires c κs = search needs
 
 print-line-requires : tie.Need-print-line-requires
 print-line-requires c κs = search needs
@@ -41,8 +41,8 @@ print-text-spec =
     tie.close
     (tie.spec
     closed-requires
-    slice-aggregate-write-lent
-    write-lent-requires
+    slice-aggregate-write
+    write-requires
     print-line-requires
     returns
     array-share-prefix-space

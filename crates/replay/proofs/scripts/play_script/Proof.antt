@@ -31,11 +31,11 @@ loop-less c = search needs
 loop-again : tie.Need-loop-again Inv-loop μ-loop
 loop-again c = search needs
 
-slice-aggregate-close-lent : tie.Need-slice-aggregate-close-lent Inv-loop μ-loop
-slice-aggregate-close-lent c = search needs
+slice-aggregate-close : tie.Need-slice-aggregate-close Inv-loop μ-loop
+slice-aggregate-close c = search needs
 
-close-lent-requires : tie.Need-close-lent-requires Inv-loop μ-loop
-close-lent-requires c κs = search needs
+close-requires : tie.Need-close-requires Inv-loop μ-loop
+close-requires c κs = search needs
 
 returns-2 : tie.Need-returns-2 Inv-loop μ-loop
 returns-2 c = search needs
@@ -53,6 +53,6 @@ play-script-spec =
     sub-left
     loop-less
     loop-again
-    slice-aggregate-close-lent
-    close-lent-requires
+    slice-aggregate-close
+    close-requires
     returns-2)

@@ -15,11 +15,11 @@ read-piece-requires c κs = search needs
 array-share-prefix-space : tie.Need-array-share-prefix-space
 array-share-prefix-space c = search needs
 
-slice-aggregate-serve-lent : tie.Need-slice-aggregate-serve-lent
-slice-aggregate-serve-lent c = sym (length-take-le _ _ (omega arith))
+slice-aggregate-serve : tie.Need-slice-aggregate-serve
+slice-aggregate-serve c = sym (length-take-le _ _ (omega arith))
 
-serve-lent-requires : tie.Need-serve-lent-requires
-serve-lent-requires c κs = search needs
+serve-requires : tie.Need-serve-requires
+serve-requires c κs = search needs
 
 cast-t14 : tie.Need-cast-t14
 cast-t14 c = search needs
@@ -34,7 +34,7 @@ serve-piece-spec =
     slice-aggregate-read-piece
     read-piece-requires
     array-share-prefix-space
-    slice-aggregate-serve-lent
-    serve-lent-requires
+    slice-aggregate-serve
+    serve-requires
     cast-t14
     returns)

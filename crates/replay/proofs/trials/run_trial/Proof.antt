@@ -6,14 +6,14 @@ use borrow.Author.Needs.{needs}
 use Rattle.replay.proofs.trials.run_trial.Statement.{statement}
 use Rattle.replay.proofs.trials.run_trial.Tie as tie
 
-slice-aggregate-play-through-lent : tie.Need-slice-aggregate-play-through-lent
-slice-aggregate-play-through-lent c = search needs
+slice-aggregate-play-through : tie.Need-slice-aggregate-play-through
+slice-aggregate-play-through c = search needs
 
-slice-aggregate-play-through-lent-2 : tie.Need-slice-aggregate-play-through-lent-2
-slice-aggregate-play-through-lent-2 c = search needs
+slice-aggregate-play-through-2 : tie.Need-slice-aggregate-play-through-2
+slice-aggregate-play-through-2 c = search needs
 
-play-through-lent-requires : tie.Need-play-through-lent-requires
-play-through-lent-requires c κs = search needs
+play-through-requires : tie.Need-play-through-requires
+play-through-requires c κs = search needs
 
 returns : tie.Need-returns
 returns c = search needs
@@ -43,9 +43,9 @@ pub run-trial-spec : {M : Type 1} → statement M
 run-trial-spec =
     tie.close
     (tie.spec
-    slice-aggregate-play-through-lent
-    slice-aggregate-play-through-lent-2
-    play-through-lent-requires
+    slice-aggregate-play-through
+    slice-aggregate-play-through-2
+    play-through-requires
     returns
     print-line-requires
     array-share-prefix-given
