@@ -1,5 +1,5 @@
 // The boards of the catalog, one after the other. `tools/stored` makes this file from `boards/catalog/`;
-// `specs/Board.antt` has the same numbers line by line.
+// `specs/Table.antt` has the same numbers line by line.
 pub const TABLE: [u32; 2628] = [
     2,
     1,
