@@ -20,6 +20,7 @@ struct Handed {
     printed: bool,
 }
 
+// A session, and whether it goes on: what it said was printed, and its board was not refused.
 pub struct Served {
     pub session: Session,
     pub going: bool,

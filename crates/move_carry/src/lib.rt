@@ -199,11 +199,11 @@ pub fn carry(
     if number == 0 {
         let tail = lists::word_at(&board.network.tails, edge);
         let rest = lists::minus(flow, demand);
-        let m = board.moves as usize;
+        let m = board.moves;
         board.flows[edge] = rest;
         board.places[terminal] = tail;
-        board.moves = board.moves + 1;
-        journal::put_entry(journal, m, entry_of(i, e));
+        board.moves = m + 1;
+        journal::put_entry(journal, m as usize, entry_of(i, e));
     }
     Played {
         answer: number,

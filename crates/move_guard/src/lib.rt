@@ -1,4 +1,4 @@
-// Which boards a call of play works on, and what a change stores.
+// Which boards a call of play works on.
 use board::Board;
 use board::Move;
 use journal::WORDS;
@@ -9,11 +9,17 @@ ghost use lib.Dec.{leb, ltb, eqb};
 ghost use Rattle.lists.specs.Choice.{pick};
 ghost use Rattle.lists.specs.Lists.{all};
 ghost use Rattle.board.specs.Limits.{maxEdges, maxTerminals, maxTotal};
-ghost use Rattle.move_guard.specs.Guard.{edgeNumbersIntact, edgeListsIntact, terminalNumbersIntact, terminalListsIntact, edgeBlankAt, terminalBlankAt, moveIntact, intact, playing};
-
-// ---- What a call changes, and the journal of standing moves.
-
-// ---- Which boards the calls work on.
+ghost use Rattle.move_guard.specs.Guard.{
+  edgeNumbersIntact,
+  edgeListsIntact,
+  terminalNumbersIntact,
+  terminalListsIntact,
+  edgeBlankAt,
+  terminalBlankAt,
+  moveIntact,
+  intact,
+  playing,
+};
 
 // Whether an edge's flow is small, and 0 where its acyclic flow is.
 fn small_flow(acyclic: u32, flow: u32) -> bool

@@ -349,7 +349,7 @@ pub fn change<'a>(
     augment(frame, heads, demands, leaving, places, steps, flows)
 }
 
-// Augments along the cycle of the steps, on a board whose journal is lent.
+// Augments along the cycle of the steps.
 pub fn turn(board: Board, journal: &mut [[u64; WORDS]; Board::JOURNAL], steps: &[u8]) -> Played
     ensures { λ r. ⌜ givenOf r (now (journal .exit)) ≡
         turnCall (wholeOf board (now (journal .entry))) (stepsOf (now (steps .entry))) ⌝ }

@@ -12,38 +12,15 @@ use Rattle.lists.specs.Choice.{both}
 use Rattle.lists.proofs.Laws.{Known, was-true, was-false, known, lt-or-ge, pick-yes, pick-no, both-true}
 use Rattle.board.specs.Limits.{maxMoves}
 use Rattle.board.specs.Whole.{Board}
-use Rattle.board.specs.declared.Entry.{Entry}
 use Rattle.board.specs.Whole.{Table}
-use Rattle.journal.specs.Words.{unpacked, entriesOf, standing, journalOf, wholeOf, blankWords, isZeros, isBlankAt, blankFrom, packedOn, wordsAfter}
-use Rattle.journal.proofs.Laws.{map-set, keep-standing, blank-past}
+use Rattle.journal.specs.Words.{wholeOf, blankWords, isZeros, isBlankAt, blankFrom, packedOn, wordsAfter}
+use Rattle.journal.proofs.Laws.{blank-past}
 use Rattle.journal.proofs.After.{after-none}
 use Rattle.journal.proofs.Places.{packedOn-length, packedOn-at}
+use Rattle.journal.proofs.Behind.{whole-behind}
 use Rattle.solve_finish.specs.Finishes.{Finished}
 use Rattle.solve_finish.specs.Finishes.{playedOut, finishRefusal, finishCall}
 use Rattle.solve_finish.specs.Lent.{finishOn}
-
--- ---- the board stays
-
-journal-wiped : (m k : ℕ) (w : List (List ℕ)) → journalOf m (packedOn k m [] w) ≡ journalOf m w
-unfolding packedOn
-journal-wiped m zero w = refl
-journal-wiped m (suc k) w =
-    ap (λ (es : List Entry). standing m es) (map-set unpacked (packedOn k m [] w) (m + k) blankWords)
-    ∙ keep-standing m (m + k) (entriesOf (packedOn k m [] w)) (unpacked blankWords) (omega arith)
-    ∙ journal-wiped m k w
-
-pub whole-wiped : (t : Table) (k : ℕ) (w : List (List ℕ)) → wholeOf t (packedOn k (t .moves) [] w) ≡ wholeOf t w
-whole-wiped t k w = λ i. record {
-  stage = t .stage;
-  network = t .network;
-  acyclic = t .acyclic;
-  flows = t .flows;
-  marks = t .marks;
-  places = t .places;
-  journal = journal-wiped (t .moves) k w i;
-  moves = t .moves;
-  «finish_from» = t .«finish_from»;
-}
 
 -- ---- the places are blank
 
@@ -119,5 +96,5 @@ module _ (t : Table) (w : List (List ℕ)) where
   pub finish-wiped : (k : ℕ) (v : List (List ℕ)) → v ≡ packedOn k (t .moves) [] w → ((j : ℕ) → blankFrom j (t .moves) v ≡ true)
       → finishOn t v ≡ finishCall (wholeOf t w)
   finish-wiped k v e clear =
-      let same : wholeOf t v ≡ wholeOf t w = ap (wholeOf t) e ∙ whole-wiped t k w in
+      let same : wholeOf t v ≡ wholeOf t w = ap (wholeOf t) e ∙ whole-behind t k [] w in
       blank-finished t v (clear (playedOut (wholeOf t v) .moves - t .moves)) ∙ ap finishCall same

@@ -69,6 +69,7 @@ pub struct AfterLine {
     pub used: usize,
 }
 
+// The session behind a piece of the input, how many bytes of the piece were taken, and how many were printed.
 pub struct Fed {
     pub session: Session,
     pub taken: usize,

@@ -1,19 +1,16 @@
 -- A whole play over lent words: the words that the load cleared stay those of the journal through the calls, so that the finish is that of the board; and what it
 -- stores behind the standing moves leaves the board before it as it was.
-use mathlib.Core.Path.{_≡_, refl, sym, ap, _∙_}
+use mathlib.Core.Path.{_≡_, sym, ap, _∙_}
 use mathlib.Core.List.{List}
-use Prim.Native.Nat.{ℕ, zero, suc, _+_, _-_, _≤_}
+use Prim.Native.Nat.{ℕ, _-_, _≤_}
 use native.Mathlib.Omega.{arith}
-use lib.ListN.{getD}
 use lib.Dec.{eqb}
 use Rattle.lists.proofs.Laws.{Known, was-true, was-false, known, pick-yes, pick-no}
-use Rattle.board.specs.Record.{blank}
 use Rattle.board.specs.Whole.{Board}
-use Rattle.board.specs.declared.Entry.{Entry}
-use Rattle.journal.specs.Words.{packed, unpacked, entriesOf, standing, wholeOf, noWords, packedOn, wordsAfter, packedAll}
+use Rattle.journal.specs.Words.{wholeOf, noWords, wordsAfter, packedAll}
 use Rattle.board.specs.Whole.{Table}
-use Rattle.journal.proofs.Laws.{map-set, keep-standing}
 use Rattle.journal.proofs.After.{after-many}
+use Rattle.journal.proofs.Behind.{whole-behind}
 use Rattle.load.specs.Load.{loadText}
 use Rattle.load.specs.Lent.{loadedOf}
 use Rattle.load.specs.Load.{Loaded}
@@ -30,32 +27,9 @@ use Rattle.theorem_list.proofs.Words.{calls-kept}
 use Rattle.playthrough.specs.Through.{outcome}
 use Rattle.playthrough.specs.Lent.{outcomeOf}
 
--- places behind the standing moves are no part of the board
-standing-kept : (m k : ℕ) (es : List Entry) (w : List (List ℕ)) → standing m (entriesOf (packedOn k m es w)) ≡ standing m (entriesOf w)
-unfolding packedOn
-standing-kept m zero es w = refl
-standing-kept m (suc k) es w =
-    ap (standing m) (map-set unpacked (packedOn k m es w) (m + k) (packed (getD es (m + k) blank)))
-    ∙ keep-standing m (m + k) (entriesOf (packedOn k m es w)) _ (omega arith) ∙ standing-kept m k es w
-
+-- what a call stores behind the standing moves leaves the board as it was
 whole-kept : (t : Table) (b : Board) (w : List (List ℕ)) → t .moves ≤ b .moves → wholeOf t (wordsAfter (t .moves) b w) ≡ wholeOf t w
-whole-kept t b w more =
-    ap withEntries
-    (ap (λ (v : List (List ℕ)). standing (t .moves) (entriesOf v)) (after-many (t .moves) b w more)
-    ∙ standing-kept (t .moves) (b .moves - t .moves) (b .journal) w)
-  where
-    withEntries : List Entry → Board
-    withEntries es = record {
-      stage = t .stage;
-      network = t .network;
-      acyclic = t .acyclic;
-      flows = t .flows;
-      marks = t .marks;
-      places = t .places;
-      journal = es;
-      moves = t .moves;
-      «finish_from» = t .«finish_from»;
-    }
+whole-kept t b w more = ap (wholeOf t) (after-many (t .moves) b w more) ∙ whole-behind t (b .moves - t .moves) (b .journal) w
 
 -- a finish takes no move back
 finish-moves : (b : Board) → b .moves ≤ finishCall b .board .moves

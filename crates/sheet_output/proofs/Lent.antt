@@ -2,20 +2,18 @@
 use mathlib.Core.Path.{_≡_, refl, sym, ap, _∙_}
 use mathlib.Core.Bool.{false}
 use mathlib.Core.List.{List}
-use mathlib.Core.Logic.{_⊎_, inl, inr, _≢_}
+use mathlib.Core.Logic.{_≢_}
 use Prim.Native.Nat.{ℕ}
 use Rattle.lists.specs.Choice.{both}
-use Rattle.lists.proofs.Laws.{eq-or-ne}
-use Rattle.board.specs.Limits.{maxMoves}
 use Rattle.board.specs.Record.{closedBoard}
 use Rattle.board.specs.Whole.{Board}
 use Rattle.journal.specs.Words.{wholeOf, noWords, wordsAfter, packedAll}
-use Rattle.journal.proofs.Places.{packed-none}
 use Rattle.load.specs.Load.{Loaded}
 use Rattle.load.specs.Lent.{Opened}
 use Rattle.load.specs.Load.{loadText}
 use Rattle.load.specs.Lent.{loadedOf}
-use Rattle.load.proofs.Loads.{load-accepted, load-refused}
+use Rattle.load.proofs.Loads.{load-refused}
+use Rattle.load.proofs.Lent.{loaded-words}
 use Rattle.move_guard.specs.Guard.{loaded, playing}
 use Rattle.solve_finish.specs.Lent.{Ended}
 use Rattle.solve_finish.specs.Finishes.{Finished}
@@ -23,15 +21,6 @@ use Rattle.solve_finish.specs.Finishes.{finishCall}
 use Rattle.solve_finish.specs.Lent.{endedOf, finishOn}
 use Rattle.solve_finish.proofs.Stepping.{finish-closed}
 use Rattle.solve_finish.proofs.Lent.{finish-on-packed, finish-packed}
-
--- no move stands on a board that was loaded, nor on the closed one
-loaded-words : (s : List ℕ) → noWords ≡ packedAll (loadText s .board .journal)
-unfolding closedBoard
-loaded-words s = go (eq-or-ne (loadText s .answer) 0)
-  where
-    go : (loadText s .answer ≡ 0) ⊎ (loadText s .answer ≢ 0) → noWords ≡ packedAll (loadText s .board .journal)
-    go (inl h) = sym (packed-none maxMoves) ∙ ap (λ (b : Board). packedAll (b .journal)) (sym (load-accepted s h))
-    go (inr h) = sym (packed-none maxMoves) ∙ ap (λ (b : Board). packedAll (b .journal)) (sym (load-refused s h))
 
 -- a finish of the closed board leaves it
 closed-out : playing closedBoard ≡ false

@@ -1,3 +1,4 @@
+-- The words at the place are unpacked; past the end there is the blank.
 use denote.Ref.{now}
 use mathlib.Core.Path.{_∙_}
 use Rattle.journal.proofs.Laws.{read-inside, read-past}

@@ -1,3 +1,4 @@
+-- The last of the standing moves is the one before their count; where none stands there is the blank.
 use mathlib.Core.Path.{sym, _∙_}
 use native.Mathlib.Omega.{arith}
 use denote.Ref.{now}

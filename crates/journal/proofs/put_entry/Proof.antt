@@ -1,3 +1,4 @@
+-- A store of packed words is a store of the entry; past the end nothing changes.
 use mathlib.Core.Path.{ap, _∙_}
 use lib.ListN.{set}
 use denote.Ref.{now}

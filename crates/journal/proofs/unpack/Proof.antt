@@ -1,3 +1,4 @@
+-- The first word says which move it is.
 use mathlib.Core.Path.{sym}
 use Rattle.lists.proofs.Laws.{pick-yes, pick-no}
 use borrow.Author.Tests.{eq-eqb, ne-eqb}

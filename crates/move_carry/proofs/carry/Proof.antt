@@ -122,11 +122,6 @@ word-at-requires-5 c κs = search needs
 minus-requires : tie.Need-minus-requires
 minus-requires c κs = search needs
 
-cast-m : tie.Need-cast-m
-cast-m c =
-    let accepted = c .before .before .before .before .before in
-    omega (arith, room (accepted .before) (accepted .if1 .taken))
-
 mul-board : tie.Need-mul-board
 mul-board c =
     let accepted = c .before .before .before .before .before in
@@ -150,6 +145,11 @@ element-write-board-2 c =
 add-board : tie.Need-add-board
 add-board c =
     let accepted = c .before .before .before .before .before in
+    omega (arith, room (accepted .before) (accepted .if1 .taken))
+
+cast-put-entry : tie.Need-cast-put-entry
+cast-put-entry c =
+    let accepted = c .before .before .before .before .before .before in
     omega (arith, room (accepted .before) (accepted .if1 .taken))
 
 entry-of-requires : tie.Need-entry-of-requires
@@ -192,12 +192,12 @@ carry-spec =
     number-at-requires
     word-at-requires-5
     minus-requires
-    cast-m
     mul-board
     element-write-board
     mul-board-2
     element-write-board-2
     add-board
+    cast-put-entry
     entry-of-requires
     put-entry-requires
     returns

@@ -10,7 +10,7 @@ use Rattle.board.specs.Limits.{maxMoves}
 use Rattle.board.specs.declared.Entry.{Entry}
 use Rattle.journal.specs.Words.{entriesOf}
 use Rattle.report_routes.proofs.Filling.{Filled, fill-start, fill-carried, fill-past, fill-turned, fill-short, fill-end}
-use Rattle.report_routes.proofs.Standing.{words-long, filled-lent}
+use Rattle.report_routes.proofs.Standing.{words-long, filled-standing}
 use Rattle.report_routes.proofs.fill.Statement.{statement}
 use Rattle.report_routes.proofs.fill.Tie as tie
 
@@ -181,7 +181,7 @@ returns c =
     let round = c .before in
     let start = round .before .before .before in
     let words = now (start .args .journal) in
-    filled-lent (start .args .moves) words (round .loop .rows) (round .loop .lengths)
+    filled-standing (start .args .moves) words (round .loop .rows) (round .loop .lengths)
     (fill-end (start .args .moves) (entriesOf words) (round .before .if1 .standing) (round .loop .k) (round .loop .rows) (round .loop .lengths) (c .loop-test .left) (round .loop .inv))
 
 pub fill-spec : {M : Type 1} → statement M
