@@ -50,7 +50,8 @@ drop-requires c κs = search needs
 
 loop-less : tie.Need-loop-less Inv-loop μ-loop
 loop-less c =
-    let at-lowest = c .before .before .before .before .before .before .before .before in
+    let at-put = c .before .before .before in
+    let at-lowest = at-put .before .before .before .before .before in
     let at-loop = at-lowest .before .before in
     rw (c .drop .ensures) (dropped-less _ _ (lowest-in _ _ (at-lowest .lowest .ensures) (at-loop .loop .inv .fits) (at-lowest .before .loop-test .taken)))
 

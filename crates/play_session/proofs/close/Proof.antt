@@ -50,9 +50,11 @@ returns-3 : tie.Need-returns-3
 unfolding endTold
 returns-3 c =
     let at-put-number = c .before .before .put-number in
-    let begun = sym (c .before .before .before .before .before .is-blank .ensures) ∙ c .before .before .before .before .if3 .left in
-    let t = eq-eqb _ playingStage (c .before .before .before .before .before .before .before .if2 .taken) in
-    let later = ne-eqb _ readingStage (c .before .before .before .before .before .before .before .before .before .if1 .left) in
+    let at-blank = c .before .before .before .before .before in
+    let at-stage = at-blank .before .before in
+    let begun = sym (at-blank .is-blank .ensures) ∙ c .before .before .before .before .if3 .left in
+    let t = eq-eqb _ playingStage (at-stage .if2 .taken) in
+    let later = ne-eqb _ readingStage (at-stage .before .before .if1 .left) in
     printed _ _ _ _ _ (sym (pick-no _ _ _ later ∙ pick-yes _ _ _ t ∙ pick-no _ _ _ begun)) (omega arith) (omega arith) (at-put-number .ensures .1 .1)
 
 returns-4 : tie.Need-returns-4
