@@ -8,6 +8,9 @@ pub const EDGES: usize = 64;
 pub const TERMINALS: usize = 16;
 pub const MOVES: usize = 1_056;
 
+/// What the number of an up-step of a hint has more than the number of its edge.
+pub const UP_STEP: u32 = 32_768;
+
 /// The journal that is lent to the engine: for each place the numbers of its move, all 0 where there is none.
 pub type Journal = [[u64; ENTRY]; MOVES];
 

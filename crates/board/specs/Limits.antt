@@ -1,6 +1,6 @@
--- The limits of document 01. The code has them as associated constants of `Board`; widths of sets and of steps, and sizes
--- that follow from the limits, are written out at other places, too, which docs/DECISIONS.md lists.
-use Prim.Native.Nat.{ℕ, _*_}
+-- The limits of document 01. The code has them as associated constants of `Board`, since a definition cannot name a constant of the code. Sizes that follow
+-- from them are computed from them.
+use Prim.Native.Nat.{ℕ, _+_, _-_, _*_}
 
 -- pools, channels and mills at most
 abbrev pub maxVertices : ℕ
@@ -16,9 +16,9 @@ maxTerminals = 16
 abbrev pub maxFlow : ℕ
 maxFlow = 1000000
 
--- the places of the journal
+-- the places of the journal: "channels + 2 × mills × (pools − 1), at most 1,056"
 abbrev pub maxMoves : ℕ
-maxMoves = 1056
+maxMoves = maxEdges + 2 * maxTerminals * (maxVertices - 1)
 
 -- what the terminals need together at most: no flow in play passes it
 abbrev pub maxTotal : ℕ

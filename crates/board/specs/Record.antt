@@ -1,6 +1,10 @@
 -- The fixed values of the record: the blank of the journal, the empty network and the closed board.
+use mathlib.Core.Bool.{Bool}
 use Prim.Native.Nat.{ℕ}
+use lib.Dec.{leb}
 use lib.ListN.{replicate}
+use Rattle.lists.specs.Choice.{both}
+use Rattle.sets.specs.Sets.{none, noWord}
 use Rattle.board.specs.Limits.{maxEdges, maxTerminals, maxMoves}
 use Rattle.board.specs.Whole.{Board, Table}
 use Rattle.board.specs.declared.Network.{Network}
@@ -16,6 +20,10 @@ playStage = 1
 
 abbrev pub finishedStage : ℕ
 finishedStage = 2
+
+-- the stage of a board that a load gave: in play or finished
+abbrev pub staged : ℕ → Bool
+staged stage = both (leb playStage stage) (leb stage finishedStage)
 
 -- what the places of the journal past the standing moves hold
 abbrev pub blank : Entry
@@ -42,7 +50,7 @@ closedBoard = record {
   network = emptyNetwork;
   acyclic = replicate maxEdges 0;
   flows = replicate maxEdges 0;
-  marks = 0;
+  marks = none;
   places = replicate maxTerminals 0;
   journal = replicate maxMoves blank;
   moves = 0;
@@ -56,7 +64,7 @@ closedTable = record {
   network = emptyNetwork;
   acyclic = replicate maxEdges 0;
   flows = replicate maxEdges 0;
-  marks = 0;
+  marks = noWord;
   places = replicate maxTerminals 0;
   moves = 0;
   «finish_from» = 0;

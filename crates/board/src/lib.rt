@@ -1,9 +1,7 @@
 // The board record and its limits.
+use sets::EdgeSet;
 ghost use mathlib.Core.Path.{_≡_};
-ghost use Rattle.board.specs.Record.{blank, emptyNetwork, closedTable};
-
-// A set of edges: edge e is in it where bit e is set.
-pub type EdgeSet = u64;
+ghost use Rattle.board.specs.Record.{staged, blank, emptyNetwork, closedTable};
 
 // An accepted carry: the terminal was relocated over the edge, to its tail.
 pub struct Relocation {
@@ -65,7 +63,7 @@ pub struct Played {
 }
 
 impl Board {
-    pub const MAX_VERTICES: u32 = 32;
+    pub const MAX_VERTICES: usize = 32;
 
     pub const MAX_EDGES: usize = 64;
 
@@ -73,10 +71,12 @@ impl Board {
 
     pub const MAX_FLOW: u32 = 1000000;
 
-    // What the terminals need together at most: MAX_TERMINALS × MAX_FLOW.
-    pub const MAX_TOTAL: u32 = 16000000;
+    // What the terminals need together at most.
+    pub const MAX_TOTAL: u32 = Board::MAX_TERMINALS as u32 * Board::MAX_FLOW;
 
-    pub const JOURNAL: usize = 1056;
+    // The places of the journal: no board takes more moves.
+    pub const JOURNAL: usize = Board::MAX_EDGES
+        + 2 * Board::MAX_TERMINALS * (Board::MAX_VERTICES - 1);
 
     // The stages.
     pub const CLOSED: u32 = 0;
@@ -85,17 +85,25 @@ impl Board {
 
     pub const FINISHED: u32 = 2;
 
+    // Whether a stage is that of a board that a load gave: in play or finished.
+    pub fn staged(stage: u32) -> bool
+        ensures { λ r. ⌜ r ≡ staged stage ⌝ }
+    {
+        lists::and(Board::PLAY <= stage, stage <= Board::FINISHED)
+    }
+
     // The closed board: no vertices, and no call but load takes it.
     pub fn closed() -> Board
         ensures { λ r. ⌜ r ≡ closedTable ⌝ }
     {
         let network = Network::empty();
+        let marks = sets::none();
         Board {
             stage: Board::CLOSED,
             network: network,
             acyclic: [0; Board::MAX_EDGES],
             flows: [0; Board::MAX_EDGES],
-            marks: 0,
+            marks: marks,
             places: [0; Board::MAX_TERMINALS],
             moves: 0,
             finish_from: 0,

@@ -1,2 +1,1 @@
 pub mod Copied
-pub mod Words

@@ -1,19 +1,20 @@
 // The engine as C and Rust link it: numbers and slices alone.
 use board::Board;
 use journal::WORDS;
+use sets::EdgeSet;
 ghost use mathlib.Core.Path.{_≡_};
 ghost use lib.ListN.{length};
 ghost use Rattle.text.specs.Results.{writeText, written};
-ghost use Rattle.journal.specs.Words.{wholeOf, noWords, packedAll};
+ghost use Rattle.journal.specs.Words.{noWords, packedAll};
 ghost use Rattle.load.specs.Load.{loadText};
 ghost use Rattle.solve_finish.specs.Finishes.{finishCall};
-ghost use Rattle.move_list.specs.Calls.{answers, hintsOf, noted};
+ghost use Rattle.move_list.specs.Calls.{gameOf, answers, hintsOf, noted};
 ghost use Rattle.move_list.specs.Codes.{callsOf};
 ghost use lib.Seq.{sets};
 ghost use Rattle.report.specs.Reports.{sheetCall, sheeted};
 ghost use Rattle.catalog.specs.Catalog.{catalogCall, catalogued};
-ghost use Rattle.boundary.specs.Ends.{after, finished, lastBoard};
-ghost use Rattle.boundary.specs.Lent.{LastOf};
+ghost use Rattle.sets.specs.Sets.{setOf};
+ghost use Rattle.playthrough.specs.Ends.{after, finished, lastBoard};
 
 // Loads a text, and writes the board that it gave into the buffer. Answers what the load answered; `writing` and `used`
 // get what the writer answered: its number and the length of the text.
@@ -73,21 +74,22 @@ pub extern "C" fn vulprow_play(
     hints: &mut [u32],
     flows: &mut [u32; Board::MAX_EDGES],
     places: &mut [u32; Board::MAX_TERMINALS],
-    marks: &mut u64,
+    marks: &mut EdgeSet,
     moves: &mut u32,
     journal: &mut [[u64; WORDS]; Board::JOURNAL],
 ) -> u32
     ensures { λ r. ⌜ r ≡ loadText (now (text .entry)) .answer ⌝ }
     ensures { λ _. ⌜ now (given .exit) ≡
-        sets (now (given .entry)) 0 (answers (loadText (now (text .entry)) .board)
+        sets (now (given .entry)) 0 (answers (gameOf (loadText (now (text .entry)) .board))
         (callsOf (now (steps .entry)) (now (codes .entry)))) ⌝ }
     ensures { λ _. ⌜ now (hints .exit) ≡
-        noted (now (hints .entry)) 0 (hintsOf (loadText (now (text .entry)) .board)
+        noted (now (hints .entry)) 0 (hintsOf (gameOf (loadText (now (text .entry)) .board))
         (callsOf (now (steps .entry)) (now (codes .entry)))) ⌝ }
     ensures { λ _. ⌜ now (flows .exit) ≡ after (now (text .entry)) (now (steps .entry)) (now (codes .entry)) .flows ⌝ }
     ensures { λ _. ⌜ now (places .exit) ≡
         after (now (text .entry)) (now (steps .entry)) (now (codes .entry)) .places ⌝ }
-    ensures { λ _. ⌜ now (marks .exit) ≡ after (now (text .entry)) (now (steps .entry)) (now (codes .entry)) .marks ⌝ }
+    ensures { λ _. ⌜ setOf (now (marks .exit)) ≡
+        after (now (text .entry)) (now (steps .entry)) (now (codes .entry)) .marks ⌝ }
     ensures { λ _. ⌜ now (moves .exit) ≡ after (now (text .entry)) (now (steps .entry)) (now (codes .entry)) .moves ⌝ }
     ensures { λ _. ⌜ now (journal .exit) ≡
         packedAll (after (now (text .entry)) (now (steps .entry)) (now (codes .entry)) .journal) ⌝ }
@@ -118,16 +120,16 @@ pub extern "C" fn vulprow_finish(
     count: &mut u32,
     flows: &mut [u32; Board::MAX_EDGES],
     places: &mut [u32; Board::MAX_TERMINALS],
-    marks: &mut u64,
+    marks: &mut EdgeSet,
     moves: &mut u32,
     journal: &mut [[u64; WORDS]; Board::JOURNAL],
 ) -> u32
     ensures { λ r. ⌜ r ≡ finished (now (text .entry)) (now (steps .entry)) (now (codes .entry)) .answer ⌝ }
     ensures { λ _. ⌜ now (given .exit) ≡
-        sets (now (given .entry)) 0 (answers (loadText (now (text .entry)) .board)
+        sets (now (given .entry)) 0 (answers (gameOf (loadText (now (text .entry)) .board))
         (callsOf (now (steps .entry)) (now (codes .entry)))) ⌝ }
     ensures { λ _. ⌜ now (hints .exit) ≡
-        noted (now (hints .entry)) 0 (hintsOf (loadText (now (text .entry)) .board)
+        noted (now (hints .entry)) 0 (hintsOf (gameOf (loadText (now (text .entry)) .board))
         (callsOf (now (steps .entry)) (now (codes .entry)))) ⌝ }
     ensures { λ _. ⌜ now (count .exit) ≡ finished (now (text .entry)) (now (steps .entry))
         (now (codes .entry)) .count ⌝ }
@@ -135,7 +137,7 @@ pub extern "C" fn vulprow_finish(
         (now (codes .entry)) .board .flows ⌝ }
     ensures { λ _. ⌜ now (places .exit) ≡ finished (now (text .entry)) (now (steps .entry))
         (now (codes .entry)) .board .places ⌝ }
-    ensures { λ _. ⌜ now (marks .exit) ≡ finished (now (text .entry)) (now (steps .entry))
+    ensures { λ _. ⌜ setOf (now (marks .exit)) ≡ finished (now (text .entry)) (now (steps .entry))
         (now (codes .entry)) .board .marks ⌝ }
     ensures { λ _. ⌜ now (moves .exit) ≡ finished (now (text .entry)) (now (steps .entry))
         (now (codes .entry)) .board .moves ⌝ }
@@ -166,25 +168,14 @@ pub extern "C" fn vulprow_solve(
 ) -> u32
     ensures { λ r. ⌜ r ≡ finishCall (loadText (now (text .entry)) .board) .answer ⌝ }
     ensures { λ _. ⌜ now (count .exit) ≡ finishCall (loadText (now (text .entry)) .board) .count ⌝ }
-    ensures { λ _. ⌜ now (journal .exit) ≡ packedAll (finishCall (loadText (now (text .entry)) .board) .board .journal) ⌝ }
+    ensures { λ _. ⌜ now (journal .exit) ≡
+        packedAll (finishCall (loadText (now (text .entry)) .board) .board .journal) ⌝ }
 {
     let loaded = load::load(text, journal);
     let board = loaded.board;
     let solved = solve_finish::finish(board, journal);
     *count = solved.count;
     solved.answer
-}
-
-// The board, or where `finishes` is not 0 the board that a finish gives.
-fn last_board(board: Board, journal: &mut [[u64; WORDS]; Board::JOURNAL], finishes: u32) -> Board
-    ensures { λ r. ⌜ (now (journal .entry) ≡ packedAll (wholeOf board (now (journal .entry)) .journal) →
-        LastOf finishes (wholeOf board (now (journal .entry))) r (now (journal .exit))) ⌝ }
-{
-    if finishes == 0 {
-        return board;
-    }
-    let finish = solve_finish::finish(board, journal);
-    finish.board
 }
 
 // Loads a text, makes calls on the board that it gave, finishes it where `finishes` is not 0, and writes its report
@@ -211,12 +202,7 @@ pub extern "C" fn vulprow_sheet(
     ensures { λ _. ⌜ now (journal .exit) ≡ packedAll
         (lastBoard finishes (after (now (text .entry)) (now (steps .entry)) (now (codes .entry))) .journal) ⌝ }
 {
-    let loaded = load::load(text, journal);
-    let start = loaded.board;
-    let mut given = [0u32; 1];
-    let mut hints = [0u32; 1];
-    let board = move_list::run(start, journal, codes, steps, &mut given, &mut hints);
-    let last = last_board(board, journal, finishes);
+    let last = playthrough::brought(text, codes, steps, finishes, journal);
     let written = report::sheet(last, journal, buf);
     *used = written.used;
     written.answer
@@ -246,12 +232,7 @@ pub extern "C" fn vulprow_write(
     ensures { λ _. ⌜ now (journal .exit) ≡ packedAll
         (lastBoard finishes (after (now (text .entry)) (now (steps .entry)) (now (codes .entry))) .journal) ⌝ }
 {
-    let loaded = load::load(text, journal);
-    let start = loaded.board;
-    let mut given = [0u32; 1];
-    let mut hints = [0u32; 1];
-    let board = move_list::run(start, journal, codes, steps, &mut given, &mut hints);
-    let last = last_board(board, journal, finishes);
+    let last = playthrough::brought(text, codes, steps, finishes, journal);
     let board_text = text_writer::write(last, buf);
     *used = board_text.used;
     board_text.answer

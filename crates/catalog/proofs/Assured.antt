@@ -5,7 +5,7 @@ use Prim.Native.Nat.{ℕ, _<_}
 use lib.ListN.{length, take}
 use Rattle.load.specs.Load.{loadText}
 use Rattle.load.proofs.Loads.{load-answer}
-use Rattle.move_list.specs.Calls.{Call, played}
+use Rattle.move_list.specs.Calls.{Call, gameOf, played}
 use Rattle.theorem_list.specs.Faithful.{Faithful}
 use Rattle.theorem_list.proofs.EveryList.{every-list}
 use Rattle.theorem_list.specs.Reported.{Printed}
@@ -22,7 +22,7 @@ pub written-loads : (k : ℕ) (buf : List ℕ) → catalogCall k (length buf) .a
 written-loads k buf h = load-answer (take (catalogCall k (length buf) .used) (catalogued k buf)) ∙ written-accepted k buf h
 
 -- after any list of calls, finish included
-pub plays : (k : ℕ) (cs : List Call) → k < boards → Faithful (catalogText k) cs (played (loadText (catalogText k) .board) cs)
+pub plays : (k : ℕ) (cs : List Call) → k < boards → Faithful (catalogText k) cs (played (gameOf (loadText (catalogText k) .board)) cs .board)
 plays k cs h = every-list (catalogText k) cs (loads k h)
 
 pub prints : (k : ℕ) → k < boards → Printed (catalogText k) (loadText (catalogText k) .board)

@@ -4,7 +4,7 @@ use mathlib.Core.List.{List, _++_}
 use Prim.Native.Nat.{ℕ, zero, suc, _+_, _*_}
 use lib.Dec.{leb, eqb}
 use lib.ListN.{length, getD, take, drop}
-use Rattle.lists.specs.Choice.{pick, both}
+use Rattle.lists.specs.Choice.{pick, both, unless, when}
 use Rattle.text.specs.Text.{lineText, linesText}
 use Rattle.text.specs.Results.{readText}
 use Rattle.text.specs.declared.Written.{Written}
@@ -42,11 +42,8 @@ catalogText k = boardText (boardsFrom k table)
 -- writing board k into a buffer of n bytes: 2 for a number above 39, then 8, else 0 and the length of the text
 unfoldable pub catalogCall : ℕ → ℕ → Written
 catalogCall k n =
-    pick (leb boards k)
-    (record { answer = 2; used = 0 })
-    (pick (leb (length (catalogText k)) n)
-    (record { answer = 0; used = length (catalogText k) })
-    (record { answer = 8; used = 0 }))
+    when (leb boards k) (record { answer = 2; used = 0 })
+    (unless (leb (length (catalogText k)) n) (record { answer = 8; used = 0 }) (record { answer = 0; used = length (catalogText k) }))
 
 -- the buffer then: the text with the bytes past it kept, or as it was
 unfoldable pub catalogued : ℕ → List ℕ → List ℕ

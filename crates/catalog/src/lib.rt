@@ -7,6 +7,8 @@ ghost use mathlib.Core.Path.{_≡_};
 ghost use Prim.Native.Nat.{_+_, _*_, _≤_};
 ghost use lib.ListN.{length, drop};
 ghost use lib.Seq.{sets};
+ghost use Rattle.text.specs.Sizes.{lineBytes};
+ghost use Rattle.text.specs.Room.{lineStartMost};
 ghost use Rattle.text.specs.Text.{linesText};
 ghost use Rattle.catalog.specs.Catalog.{span, boardsFrom, tableRow, boardText, catalogCall, catalogued};
 
@@ -40,9 +42,9 @@ fn start(t: &[u32], k: u32) -> usize
 
 // Writes lines of so many numbers each, the rows of a list.
 fn put_rows(buf: &mut [u8], at: usize, letter: u8, t: &[u32], width: usize, count: usize) -> usize
-    requires { ⌜ (width ≤ 4) × ((width * count ≤ length (now t)) × (at + 46 * count ≤ 131072)) ⌝ }
+    requires { ⌜ (width ≤ 4) × ((width * count ≤ length (now t)) × (at + lineBytes 4 * count ≤ lineStartMost)) ⌝ }
     ensures { λ r. ⌜ r ≡ at + length (linesText letter (tableRow width (now (t .entry))) 0 count) ⌝ }
-    ensures { λ r. ⌜ r ≤ at + 46 * count ⌝ }
+    ensures { λ r. ⌜ r ≤ at + lineBytes 4 * count ⌝ }
     ensures { λ r. ⌜ now (buf .exit) ≡
         sets (now (buf .entry)) at (linesText letter (tableRow width (now (t .entry))) 0 count) ⌝ }
 {

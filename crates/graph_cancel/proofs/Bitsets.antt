@@ -15,7 +15,7 @@ use Rattle.lists.specs.Choice.{pick, both, either}
 use Rattle.lists.specs.Lists.{lowest}
 use Rattle.lists.proofs.Laws.{Known, was-true, was-false, known, eq-or-ne, pick-yes, pick-no, lowest-hit, lowest-miss, lowest-end}
 use Rattle.sets.specs.Sets.{hasBit, withBit}
-use Rattle.sets.specs.Inner.{setWidth}
+use Rattle.sets.specs.Inner.{wordWidth}
 use Rattle.sets.proofs.Bits.{has-none, has-with-same, has-with-other}
 use Rattle.graph.specs.Graph.{reached, leads, onward}
 use Rattle.graph.specs.Bitsets.{column}
@@ -83,20 +83,20 @@ module _ (tails heads flows bitsets : List ℕ) where
         go (was-false t) = rw (stays v t, lowest-miss (leadsOf v) (length flows) e h t)
 
 -- the lowest vertex on a cycle is the lowest of the set, where that is one of the n
-module _ (tails heads flows bitsets : List ℕ) (n m v : ℕ) (fits : n ≤ setWidth)
+module _ (tails heads flows bitsets : List ℕ) (n m v : ℕ) (fits : n ≤ wordWidth)
     (rest : (u : ℕ) → column bitsets u ≡ reached heads tails flows n u)
-    (on : (u : ℕ) → hasBit m u ≡ ltb (onward tails heads flows (column bitsets u) u) (length flows)) (low : v ≡ lowest (hasBit m) 0 setWidth) where
+    (on : (u : ℕ) → hasBit m u ≡ ltb (onward tails heads flows (column bitsets u) u) (length flows)) (low : v ≡ lowest (hasBit m) 0 wordWidth) where
   same : (u : ℕ) → u < n → hasBit m u ≡ onCycle tails heads n flows u
   unfolding onCycle
   same u h = on u ∙ rw (rest u)
 
   pub vertex-found : v < n → v ≡ cycleVertex tails heads n flows
   unfolding cycleVertex
-  vertex-found h = cut-found (onCycle tails heads n flows) (hasBit m) n setWidth v fits same low h
+  vertex-found h = cut-found (onCycle tails heads n flows) (hasBit m) n wordWidth v fits same low h
 
   pub vertex-none : n ≤ v → n ≡ cycleVertex tails heads n flows
   unfolding cycleVertex
-  vertex-none h = cut-none (onCycle tails heads n flows) (hasBit m) n setWidth v fits same low h
+  vertex-none h = cut-none (onCycle tails heads n flows) (hasBit m) n wordWidth v fits same low h
 
 -- the bitsets of as many vertices as there are bitsets
 pub counted : (from to flows bitsets : List ℕ) (n k : ℕ) → n ≡ k → ((v : ℕ) → column bitsets v ≡ reached from to flows k v) → (v : ℕ)

@@ -1,5 +1,6 @@
 // Cycle cancelling, over plain slices: edge e goes from tails[e] to heads[e], and a set of vertices has a bool for
 // each, a bitset a bit.
+use sets::VertexSet;
 ghost use mathlib.Core.Path.{_≡_};
 ghost use mathlib.Core.Bool.{true};
 ghost use mathlib.Core.List.{[]};
@@ -8,7 +9,7 @@ ghost use lib.Dec.{ltb};
 ghost use lib.ListN.{length, take, drop, getD};
 ghost use Rattle.lists.specs.Choice.{pick};
 ghost use Rattle.sets.specs.Sets.{hasBit, withBit};
-ghost use Rattle.sets.specs.Inner.{setWidth};
+ghost use Rattle.sets.specs.Inner.{wordWidth, setWidth};
 ghost use Rattle.graph.specs.Graph.{reached, onward};
 ghost use Rattle.graph.specs.Bitsets.{column};
 ghost use Rattle.graph_cancel.specs.Cycles.{since, follow, cycleVertex, cycleFrom};
@@ -24,26 +25,35 @@ pub struct Span {
 }
 
 // The set, with v where it is to join.
-fn with_vertex(m: u64, joins: bool, v: usize) -> u64
-    requires { ⌜ (joins ≡ true → v < setWidth) ⌝ }
+fn with_vertex(m: VertexSet, joins: bool, v: usize) -> VertexSet
+    requires { ⌜ (joins ≡ true → v < wordWidth) ⌝ }
     ensures { λ r. ⌜ r ≡ pick joins (withBit m v) m ⌝ }
 {
-    if joins { sets::with(m, true, v) } else { m }
+    if joins {
+        sets::word::with(m, true, v)
+    } else {
+        m
+    }
 }
 
 // The set of the vertices that a positive edge leaves from whose head they can be reached: the head's bitset has them.
-fn on_cycles<'a>(tails: &'a [u32], heads: &'a [u32], flows: &'a [u32], bitsets: &'a [u64]) -> u64
+fn on_cycles<'a>(
+    tails: &'a [u32],
+    heads: &'a [u32],
+    flows: &'a [u32],
+    bitsets: &'a [VertexSet],
+) -> VertexSet
     ensures { λ r. ⌜ ((v : ℕ) → hasBit r v ≡
         ltb (onward (now (tails .entry)) (now (heads .entry)) (now (flows .entry)) (column (now (bitsets .entry)) v) v)
         (length (now (flows .entry)))) ⌝ }
 {
-    let mut m: u64 = 0;
+    let mut m = sets::word::none();
     let mut e: usize = 0;
     while e < flows.len() {
         let tail = lists::word_at(tails, e) as usize;
         let head = lists::word_at(heads, e) as usize;
         let bitset = graph::bitset_at(bitsets, head);
-        let back = lists::and(0 < flows[e], sets::has(bitset, tail));
+        let back = lists::and(0 < flows[e], sets::word::has(bitset, tail));
         m = with_vertex(m, back, tail);
         e += 1;
     }
@@ -57,16 +67,16 @@ fn cycle_vertex<'a>(
     heads: &'a [u32],
     flows: &'a [u32],
     n: u32,
-    bitsets: &mut [u64],
+    bitsets: &mut [VertexSet],
 ) -> u32
-    requires { ⌜ (n ≡ length (now bitsets)) × (n ≤ setWidth) ⌝ }
+    requires { ⌜ (n ≡ length (now bitsets)) × (n ≤ wordWidth) ⌝ }
     ensures { λ r. ⌜ r ≡ cycleVertex (now (tails .entry)) (now (heads .entry)) n (now (flows .entry)) ⌝ }
     ensures { λ _. ⌜ ((v : ℕ) → column (now (bitsets .exit)) v ≡
         reached (now (heads .entry)) (now (tails .entry)) (now (flows .entry)) n v) ⌝ }
 {
     graph::reach(heads, tails, flows, bitsets);
     let on = on_cycles(tails, heads, flows, &*bitsets);
-    let v = sets::lowest(on);
+    let v = sets::word::lowest(on);
     if v < n { v } else { n }
 }
 
@@ -86,7 +96,7 @@ fn since<'a>(tails: &'a [u32], v: u32, walk: &'a [usize]) -> usize
 }
 
 // Walks from `start` until a vertex comes a second time, filling `walk` from its end; answers the part since that
-// vertex was left. The bitsets are for its use.
+// vertex was left.
 fn follow<'a>(
     tails: &'a [u32],
     heads: &'a [u32],
@@ -94,21 +104,22 @@ fn follow<'a>(
     seen: &'a [bool],
     start: u32,
     walk: &mut [usize],
-    bitsets: &mut [u64],
 ) -> Span
     requires { ⌜ (length (now heads) ≤ length (now flows)) × (length (now flows) ≤ setWidth) ⌝ }
-    requires { ⌜ (length (now seen) ≡ length (now bitsets)) × (start < length (now bitsets)) ⌝ }
+    requires { ⌜ (length (now seen) ≤ wordWidth) × (start < length (now seen)) ⌝ }
     ensures { λ r. ⌜ r .from + r .count ≤ length (now (walk .exit)) ⌝ }
     ensures { λ r. ⌜ take (r .count) (drop (r .from) (now (walk .exit))) ≡
         follow (now (tails .entry)) (now (heads .entry)) (now (flows .entry)) (now (seen .entry))
         (length (now (walk .entry))) [] start ⌝ }
 {
-    graph::leaving(tails, heads, flows, seen, bitsets);
+    let none = sets::none();
+    let mut edges = [none; sets::word::WIDTH];
+    graph::leaving(tails, heads, flows, seen, &mut edges);
     let mut v = start;
     let mut at = walk.len();
     while 0 < at {
-        let bitset = graph::bitset_at(&*bitsets, v as usize);
-        let e = graph::lowest_edge(bitset, flows.len());
+        let onward = graph::edges_at(&edges, v as usize);
+        let e = graph::lowest_edge(onward, flows.len());
         at -= 1;
         lists::put_index(walk, at, e);
         v = lists::word_at(heads, e);
@@ -170,8 +181,8 @@ fn lower_cycle(flows: &mut [u32], cycle: &[usize])
 
 // ---- All rounds.
 
-// Cancels the cycle that the walk from v finds: the bitsets have the vertices that each vertex reaches. The set, the
-// walk and then the bitsets are for its use.
+// Cancels the cycle that the walk from v finds: the bitsets have the vertices that each vertex reaches. The set and the
+// walk are for its use.
 fn cancel_from<'a>(
     tails: &'a [u32],
     heads: &'a [u32],
@@ -179,18 +190,18 @@ fn cancel_from<'a>(
     v: u32,
     seen: &mut [bool],
     walk: &mut [usize],
-    bitsets: &mut [u64],
+    bitsets: &[VertexSet],
 )
     requires { ⌜ (length (now heads) ≤ length (now flows)) × (length (now flows) ≤ setWidth) ⌝ }
     requires { ⌜ (length (now seen) ≡ length (now walk)) × (length (now seen) ≡ length (now bitsets))
-        × (v < length (now bitsets)) ⌝ }
+        × (v < length (now bitsets)) × (length (now bitsets) ≤ wordWidth) ⌝ }
     requires { ⌜ column (now bitsets) v ≡ reached (now heads) (now tails) (now flows) (length (now seen)) v ⌝ }
     ensures { λ _. ⌜ now (flows .exit) ≡
         lowerCycle (now (flows .entry)) (cycleFrom (now (tails .entry)) (now (heads .entry))
         (length (now (seen .entry))) (now (flows .entry)) v) ⌝ }
 {
-    graph::column(&*bitsets, v, seen);
-    let span = follow(tails, heads, &*flows, &*seen, v, walk, bitsets);
+    graph::column(bitsets, v, seen);
+    let span = follow(tails, heads, &*flows, &*seen, v, walk);
     let from = span.from;
     let to = span.from + span.count;
     lower_cycle(flows, &walk[from..to]);
@@ -204,10 +215,10 @@ fn cancel_all<'a>(
     n: u32,
     seen: &mut [bool],
     walk: &mut [usize],
-    bitsets: &mut [u64],
+    bitsets: &mut [VertexSet],
 )
     requires { ⌜ (length (now heads) ≤ length (now flows)) × (length (now flows) ≤ setWidth) ⌝ }
-    requires { ⌜ (n ≡ length (now seen)) × (n ≡ length (now walk)) × (n ≡ length (now bitsets)) × (n ≤ setWidth) ⌝ }
+    requires { ⌜ (n ≡ length (now seen)) × (n ≡ length (now walk)) × (n ≡ length (now bitsets)) × (n ≤ wordWidth) ⌝ }
     ensures { λ _. ⌜ now (flows .exit) ≡ acyclicFlows (now (tails .entry)) (now (heads .entry)) n
         (now (flows .entry)) ⌝ }
 {
@@ -217,7 +228,7 @@ fn cancel_all<'a>(
         if n <= v {
             return;
         }
-        cancel_from(tails, heads, flows, v, seen, walk, bitsets);
+        cancel_from(tails, heads, flows, v, seen, walk, &*bitsets);
         round += 1;
     }
 }
@@ -225,13 +236,14 @@ fn cancel_all<'a>(
 // Cancels every cycle, the lowest vertex on one first.
 pub fn cancel<'a>(tails: &'a [u32], heads: &'a [u32], flows: &mut [u32], n: u32)
     requires { ⌜ (length (now heads) ≤ length (now flows)) × (length (now flows) ≤ setWidth) ⌝ }
-    requires { ⌜ n ≤ setWidth ⌝ }
+    requires { ⌜ n ≤ wordWidth ⌝ }
     ensures { λ _. ⌜ now (flows .exit) ≡ acyclicFlows (now (tails .entry)) (now (heads .entry)) n
         (now (flows .entry)) ⌝ }
 {
-    let mut seen = [false; 64];
-    let mut walk = [0usize; 64];
-    let mut bitsets = [0u64; 64];
+    let none = sets::word::none();
+    let mut seen = [false; sets::word::WIDTH];
+    let mut walk = [0usize; sets::word::WIDTH];
+    let mut bitsets = [none; sets::word::WIDTH];
     let k = n as usize;
     cancel_all(
         tails,

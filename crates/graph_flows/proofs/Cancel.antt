@@ -20,10 +20,10 @@ use Rattle.graph_cancel.specs.Cycles.{onCycle, cycleVertex, cycleFrom}
 use Rattle.graph_cancel.specs.Lowering.{smallest, lowered, lowerCycle}
 use Rattle.graph_cancel.specs.Cancelling.{cancelled, acyclicFlows}
 use Rattle.graph_flows.specs.Trails.{down, edgesOf, downs, In}
-use Rattle.graph_flows.specs.Inner.{changedAlong, Fits}
+use Rattle.graph_flows.specs.Inner.{positives, changedAlong, Fits}
 use Rattle.graph_flows.specs.Paths.{Acyclic, EndsBelow}
 use Rattle.graph_flows.proofs.Change.{changed-length, closed-trail, changed-at}
-use Rattle.graph_flows.proofs.Positives.{positives, positives-some, positives-most, positives-fewer}
+use Rattle.graph_flows.proofs.Positives.{positives-some, positives-most, positives-fewer}
 use Rattle.graph_flows.proofs.Walk.{Cycle, cycle-found, first-on-cycle, on-cycle-first}
 
 -- the smallest flow is one of the flows, and at most each

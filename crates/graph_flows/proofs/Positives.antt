@@ -6,11 +6,7 @@ use Prim.Native.Nat.{ℕ, zero, suc, _≤_, _<_}
 use native.Mathlib.Omega.{arith}
 use lib.ListN.{length, getD}
 use Rattle.lists.proofs.Laws.{above-inside}
-
-unfoldable pub positives : List ℕ → ℕ
-positives [] = 0
-positives (zero ∷ fs) = positives fs
-positives (suc x ∷ fs) = suc (positives fs)
+use Rattle.graph_flows.specs.Inner.{positives}
 
 pub positives-some : (flows : List ℕ) (e : ℕ) → 0 < getD flows e 0 → 0 < positives flows
 unfolding positives

@@ -1,8 +1,8 @@
--- For inner contracts only: the rank of a vertex, and flows changed along a trail.
+-- For inner contracts only: the rank of a vertex, how many flows are positive, and flows changed along a trail.
 use mathlib.Core.Path.{_≡_}
 use mathlib.Core.Bool.{false, not}
 use mathlib.Core.List.{List, [], _∷_}
-use Prim.Native.Nat.{ℕ, _<_, _+_, _-_, _≤_}
+use Prim.Native.Nat.{ℕ, zero, suc, _<_, _+_, _-_, _≤_}
 use lib.Dec.{eqb}
 use lib.ListN.{length, getD, set}
 use Rattle.lists.specs.Choice.{both}
@@ -14,6 +14,12 @@ use Rattle.graph_flows.specs.Trails.{Step, edgeOf, edgesOf, down, up}
 -- how many other vertices, of n, reach v over positive edges
 unfoldable pub rank : List ℕ → List ℕ → List ℕ → ℕ → ℕ → ℕ
 rank tails heads flows n v = count (λ u. both (not (eqb u v)) (getD (reached heads tails flows n v) u false)) 0 n
+
+-- how many flows are positive
+unfoldable pub positives : List ℕ → ℕ
+positives [] = 0
+positives (zero ∷ fs) = positives fs
+positives (suc x ∷ fs) = suc (positives fs)
 
 -- the flows, lowered by x on each down-step and raised by x on each up-step
 unfoldable pub changedAlong : List ℕ → ℕ → List Step → List ℕ

@@ -5,6 +5,7 @@ use Prim.Native.Nat.{ℕ, zero, suc, _+_, _-_, _%_}
 use lib.Dec.{eqb}
 use lib.ListN.{getD, set, replicate}
 use Rattle.lists.specs.Choice.{pick, both}
+use Rattle.sets.specs.Sets.{setOf}
 use Rattle.board.specs.Limits.{maxMoves}
 use Rattle.board.specs.Record.{blank}
 use Rattle.board.specs.Whole.{Board}
@@ -61,7 +62,7 @@ wholeOf t words = record {
   network = t .network;
   acyclic = t .acyclic;
   flows = t .flows;
-  marks = t .marks;
+  marks = setOf (t .marks);
   places = t .places;
   journal = journalOf (t .moves) words;
   moves = t .moves;

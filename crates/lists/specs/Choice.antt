@@ -15,3 +15,10 @@ both false b = false
 unfoldable pub either : Bool → Bool → Bool
 either true b = true
 either false b = b
+
+-- a row of refusals, read from the first to the last: n unless a test holds, or when one does, else what the rest says
+abbrev pub unless : {A : Type 0} → Bool → A → A → A
+unless ok n rest = pick ok rest n
+
+abbrev pub when : {A : Type 0} → Bool → A → A → A
+when bad n rest = pick bad n rest

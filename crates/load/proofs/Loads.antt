@@ -28,7 +28,7 @@ read-lawful s h = accepted-text s (readText s .network) (read-accepted s h) .1
 
 module _ (s : List ℕ) (t : Reading) (read : t ≡ readText s) where
   pub bounded : t .answer ≡ 0 → t .network .vertices ≤ maxVertices
-  bounded h = rw read (read-lawful s (rw read at h) .vertices .1)
+  bounded h = rw read (read-lawful s (rw read at h) .within .vertices .1)
 
   pub refused-load : (b : Board) → (t .answer ≡ 0 → ⊥) → b ≡ closedBoard → record { answer = t .answer; board = b } ≡ loadText s
   unfolding loadText pick

@@ -1,6 +1,7 @@
 -- For inner contracts only: the board of a network before the first move, without its journal.
 use mathlib.Core.List.{List}
 use Prim.Native.Nat.{ℕ}
+use Rattle.sets.specs.Sets.{noWord}
 use Rattle.board.specs.Record.{playStage}
 use Rattle.board.specs.declared.Network.{Network}
 use Rattle.board.specs.Whole.{Table}
@@ -11,7 +12,7 @@ openedTable net flows = record {
   network = net;
   acyclic = flows;
   flows = flows;
-  marks = 0;
+  marks = noWord;
   places = net .homes;
   moves = 0;
   «finish_from» = 0;

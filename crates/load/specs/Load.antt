@@ -4,6 +4,7 @@ use Prim.Native.Nat.{ℕ}
 use lib.Dec.{eqb}
 use lib.ListN.{replicate}
 use Rattle.lists.specs.Choice.{pick}
+use Rattle.sets.specs.Sets.{none}
 use Rattle.board.specs.Limits.{maxMoves}
 use Rattle.board.specs.Record.{playStage, blank, closedBoard}
 use Rattle.board.specs.declared.Network.{Network}
@@ -27,7 +28,7 @@ opened net flows = record {
   network = net;
   acyclic = flows;
   flows = flows;
-  marks = 0;
+  marks = none;
   places = net .homes;
   journal = replicate maxMoves blank;
   moves = 0;

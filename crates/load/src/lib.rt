@@ -34,12 +34,13 @@ fn opened(net: Network, flows: [u32; Board::MAX_EDGES]) -> Board
     ensures { λ r. ⌜ r ≡ openedTable net flows ⌝ }
 {
     let homes = net.homes;
+    let marks = sets::none();
     Board {
         stage: Board::PLAY,
         network: net,
         acyclic: flows,
         flows: flows,
-        marks: 0,
+        marks: marks,
         places: homes,
         moves: 0,
         finish_from: 0,

@@ -1,3 +1,3 @@
-pub mod Same
 pub mod Makes
+pub mod Refusing
 pub mod Lent

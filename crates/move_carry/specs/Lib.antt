@@ -1,3 +1,3 @@
 pub mod Opens
 pub mod Carries
-pub mod Numbers
+pub mod Frames

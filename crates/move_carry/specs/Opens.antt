@@ -1,4 +1,5 @@
--- Which carries are open: document 01, "Moves".
+-- Which carries are open: document 01, "Moves". A name that ends in In is said of the parts of a board: its network, flows, marks and places; the name without it
+-- of the board.
 use mathlib.Core.Bool.{Bool}
 use mathlib.Core.List.{List}
 use Prim.Native.Nat.{ℕ}
@@ -9,43 +10,59 @@ use Rattle.lists.specs.Lists.{lowest}
 use Rattle.sets.specs.Sets.{hasBit}
 use Rattle.board.specs.Whole.{Board}
 use Rattle.board.specs.declared.Network.{Network}
-use Rattle.move_guard.specs.Parts.{flow, head, marked, demand, place}
 
 -- "the channel is unmarked with flow at or above the need, or marked with flow equal to the need"
 unfoldable pub flowFits : Bool → ℕ → ℕ → Bool
 flowFits mark flow demand = pick mark (eqb flow demand) (leb demand flow)
 
+-- a mill is at the spring
+unfoldable pub isHomeIn : ℕ → List ℕ → ℕ → Bool
+isHomeIn source places i = eqb (getD places i 0) source
+
+abbrev pub isHome : Board → ℕ → Bool
+isHome b = isHomeIn (b .network .source) (b .places)
+
 -- "a channel entering that pool"
-unfoldable pub enters : Board → ℕ → ℕ → Bool
-enters b i e = eqb (head b e) (place b i)
+unfoldable pub entersIn : Network → List ℕ → ℕ → ℕ → Bool
+entersIn net places i e = eqb (getD (net .heads) e 0) (getD places i 0)
 
--- the carry of terminal i over edge e is open
-unfoldable pub isOpen : Board → ℕ → ℕ → Bool
-isOpen b i e = both (enters b i e) (flowFits (marked b e) (flow b e) (demand b i))
+abbrev pub enters : Board → ℕ → ℕ → Bool
+enters b = entersIn (b .network) (b .places)
 
--- the lowest edge of an open carry of terminal i, and the lowest terminal that has one; the count of edges or of terminals where there is none
-unfoldable pub openEdge : Board → ℕ → ℕ
-openEdge b i = lowest (isOpen b i) 0 (b .network .edges)
+module _ (net : Network) (flows : List ℕ) (marks : ℕ) (places : List ℕ) where
+  -- the flow of edge e allows a carry of terminal i, and the carry is open
+  abbrev pub fitsIn : ℕ → ℕ → Bool
+  fitsIn i e = flowFits (hasBit marks e) (getD flows e 0) (getD (net .demands) i 0)
 
-unfoldable pub hasOpen : Board → ℕ → Bool
-hasOpen b i = ltb (openEdge b i) (b .network .edges)
+  unfoldable pub isOpenIn : ℕ → ℕ → Bool
+  isOpenIn i e = both (entersIn net places i e) (fitsIn i e)
 
-unfoldable pub openTerminal : Board → ℕ
-openTerminal b = lowest (hasOpen b) 0 (b .network .terminals)
+  -- the lowest edge of an open carry of terminal i, and the lowest terminal that has one; the count of edges or of terminals where there is none
+  unfoldable pub openEdgeIn : ℕ → ℕ
+  openEdgeIn i = lowest (isOpenIn i) 0 (net .edges)
 
--- some carry is open
-unfoldable pub someOpen : Board → Bool
-someOpen b = ltb (openTerminal b) (b .network .terminals)
+  unfoldable pub hasOpenIn : ℕ → Bool
+  hasOpenIn i = ltb (openEdgeIn i) (net .edges)
 
--- `isOpen` over the lists of a board: the carry over edge e is open for a terminal with that place and demand
-unfoldable pub isOpenAt : List ℕ → List ℕ → ℕ → ℕ → ℕ → ℕ → Bool
-isOpenAt heads flows marks place demand e = both (eqb (getD heads e 0) place) (flowFits (hasBit marks e) (getD flows e 0) demand)
+  unfoldable pub openTerminalIn : ℕ
+  openTerminalIn = lowest hasOpenIn 0 (net .terminals)
 
--- `hasOpen` over the parts of a board: terminal i of a network with these flows, marks and places has an open carry
-unfoldable pub hasOpenIn : Network → List ℕ → ℕ → List ℕ → ℕ → Bool
-hasOpenIn net flows marks places i =
-    ltb (lowest (isOpenAt (net .heads) flows marks (getD places i 0) (getD (net .demands) i 0)) 0 (net .edges)) (net .edges)
+  -- some carry is open
+  unfoldable pub someOpenIn : Bool
+  someOpenIn = ltb openTerminalIn (net .terminals)
 
--- `someOpen` over the parts of a board: some carry of a network with these flows, marks and places is open
-unfoldable pub someOpenIn : Network → List ℕ → ℕ → List ℕ → Bool
-someOpenIn net flows marks places = ltb (lowest (hasOpenIn net flows marks places) 0 (net .terminals)) (net .terminals)
+module _ (b : Board) where
+  abbrev pub isOpen : ℕ → ℕ → Bool
+  isOpen = isOpenIn (b .network) (b .flows) (b .marks) (b .places)
+
+  abbrev pub openEdge : ℕ → ℕ
+  openEdge = openEdgeIn (b .network) (b .flows) (b .marks) (b .places)
+
+  abbrev pub hasOpen : ℕ → Bool
+  hasOpen = hasOpenIn (b .network) (b .flows) (b .marks) (b .places)
+
+  abbrev pub openTerminal : ℕ
+  openTerminal = openTerminalIn (b .network) (b .flows) (b .marks) (b .places)
+
+  abbrev pub someOpen : Bool
+  someOpen = someOpenIn (b .network) (b .flows) (b .marks) (b .places)

@@ -1,4 +1,4 @@
-pub mod Bytes
+pub mod Codes
 pub mod Cycled
 pub mod Raising
 pub mod Shifting

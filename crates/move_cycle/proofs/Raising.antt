@@ -13,8 +13,8 @@ use Rattle.lists.specs.Choice.{pick}
 use Rattle.board.specs.Whole.{Board}
 use Rattle.graph_flows.specs.Trails.{Step, down, up, edgeOf}
 use Rattle.move_guard.specs.Parts.{flow, demand}
-use Rattle.move_cycle.specs.Steps.{stepOf, stepsOf, isUp}
-use Rattle.move_cycle.specs.Amounts.{smaller, shortAt, lessened, raiseIn, allowedIn, amountIn, amountFrom, amount}
+use Rattle.move_cycle.specs.Steps.{codeStep, codeSteps, isUp}
+use Rattle.move_cycle.specs.Amounts.{smaller, isShortIn, lessened, raiseIn, allowedIn, amountIn, amount}
 
 -- a run over the terminals below n that has passed i
 module _ (places demands : List ℕ) (head flow a i n total : ℕ) where
@@ -40,17 +40,17 @@ module _ (heads flows places demands : List ℕ) (terminals a : ℕ) where
   allowed-up (down e) h = absurd (false≢true h)
   allowed-up (up e) h = refl
 
-  -- a run over the bytes of the steps that has passed i of them
-  module _ (bytes : List ℕ) (i total : ℕ) where
-    pub amount-turn : (r : ℕ) → i < length bytes → r ≡ allowedIn heads flows places demands terminals a (stepOf (getD bytes i 0))
-        → amountIn heads flows places demands terminals a (stepsOf (drop i bytes)) ≡ total
-        → amountIn heads flows places demands terminals r (stepsOf (drop (i + 1) bytes)) ≡ total
-    unfolding amountIn stepsOf
-    amount-turn r h e inv = rw (add-one i, e) (rw (drop-cons bytes i 0 h) at inv)
+  -- a run over the codes of the steps that has passed i of them
+  module _ (codes : List ℕ) (i total : ℕ) where
+    pub amount-turn : (r : ℕ) → i < length codes → r ≡ allowedIn heads flows places demands terminals a (codeStep (getD codes i 0))
+        → amountIn heads flows places demands terminals a (codeSteps (drop i codes)) ≡ total
+        → amountIn heads flows places demands terminals r (codeSteps (drop (i + 1) codes)) ≡ total
+    unfolding amountIn codeSteps
+    amount-turn r h e inv = rw (add-one i, e) (rw (drop-cons codes i 0 h) at inv)
 
-    pub amount-end : length bytes ≤ i → amountIn heads flows places demands terminals a (stepsOf (drop i bytes)) ≡ total → a ≡ total
-    unfolding amountIn stepsOf
-    amount-end h inv = rw (drop-of-length-le bytes h) at inv
+    pub amount-end : length codes ≤ i → amountIn heads flows places demands terminals a (codeSteps (drop i codes)) ≡ total → a ≡ total
+    unfolding amountIn codeSteps
+    amount-end h inv = rw (drop-of-length-le codes h) at inv
 
 -- a bound of both is one of the choice
 pick-most : (t : Bool) (a x c : ℕ) → a ≤ c → x ≤ c → pick t a x ≤ c
@@ -69,7 +69,7 @@ module _ (heads flows places demands : List ℕ) (terminals c : ℕ) (most : (e 
   raise-most head flow a i (suc k) h =
       let x = getD demands i 0 - flow in
       raise-most head flow (lessened head flow (getD places i 0) (getD demands i 0) a) (suc i) k
-      (pick-most (shortAt head flow (getD places i 0) (getD demands i 0)) (smaller a x) a c (smaller-most a x c h (omega (arith, asked i))) h)
+      (pick-most (isShortIn head flow (getD places i 0) (getD demands i 0)) (smaller a x) a c (smaller-most a x c h (omega (arith, asked i))) h)
 
   allowed-most : (a : ℕ) (s : Step) → a ≤ c → allowedIn heads flows places demands terminals a s ≤ c
   unfolding allowedIn
@@ -85,5 +85,4 @@ module _ (heads flows places demands : List ℕ) (terminals c : ℕ) (most : (e 
   least-small w = amount-most 0 w (omega arith)
 
 pub amount-small : (b : Board) (w : List Step) (c : ℕ) → ((e : ℕ) → flow b e ≤ c) → ((i : ℕ) → demand b i ≤ c) → amount b w ≤ c
-unfolding amount amountFrom
 amount-small b w c flows demands = least-small (b .network .heads) (b .flows) (b .places) (b .network .demands) (b .network .terminals) c flows demands w

@@ -12,13 +12,12 @@ use lib.ListN.{length, getD, set, length-set, List·getD-eq-default}
 use lib.Seq.{getD-set-same, getD-set-other, ext-getD}
 use borrow.Author.Tests.{eq-eqb, ne-eqb}
 use Rattle.lists.specs.Choice.{pick, both, either}
-use Rattle.lists.specs.Lists.{lowest}
 use Rattle.lists.specs.Members.{has, Distinct}
 use Rattle.lists.proofs.Laws.{Known, was-true, was-false, known, eq-or-ne, pick-yes, pick-no, either-left, either-right}
 use Rattle.sets.specs.Sets.{hasBit, joined}
 use Rattle.sets.specs.Inner.{setWidth, dropped}
 use Rattle.sets.proofs.Bits.{has-none, has-joined}
-use Rattle.sets.proofs.Scan.{lowest-has, has-dropped, dropped-less}
+use Rattle.sets.proofs.Scan.{has-dropped, dropped-less}
 use Rattle.graph_flows.specs.Trails.{Step, down, up, edgeOf, edgesOf, In}
 use Rattle.graph_flows.specs.Inner.{changedAlong, Fits}
 use Rattle.graph_flows.proofs.Change.{over, in-edges, after, changed-length, changed-other, changed-at}
@@ -98,10 +97,6 @@ module _ (x d u : ℕ) where
   pub shift-end : (flows new total : List ℕ) (e n : ℕ) → n ≤ e → shiftFrom x d u flows new e (n - e) ≡ total → new ≡ total
   unfolding shiftFrom
   shift-end flows new total e n h inv = let s : n - e ≡ 0 = omega arith in rw (s, shiftFrom) at inv
-
--- a set that is not empty has the number that the code finds
-pub lowest-in : (rest e : ℕ) → e ≡ lowest (hasBit rest) 0 setWidth → rest < 2 ^ setWidth → rest ≢ 0 → hasBit rest e ≡ true
-lowest-in rest e q fits some = rw q (lowest-has rest fits (omega (arith, some)))
 
 -- the edges of `rest` have their old flow, and all others their new one
 pub record ShiftedBut (x d u : ℕ) (flows new : List ℕ) (rest : ℕ) : Type 0 where

@@ -14,15 +14,15 @@ unfoldable pub smaller : ℕ → ℕ → ℕ
 smaller a x = pick (eqb a 0) x (pick (ltb x a) x a)
 
 -- a terminal is at the head of an edge and its need exceeds the flow: by its place and demand, and on a board
-abbrev pub shortAt : ℕ → ℕ → ℕ → ℕ → Bool
-shortAt head flow place demand = both (eqb place head) (ltb flow demand)
+abbrev pub isShortIn : ℕ → ℕ → ℕ → ℕ → Bool
+isShortIn head flow place demand = both (eqb place head) (ltb flow demand)
 
-unfoldable pub isShort : Board → ℕ → ℕ → Bool
-isShort b e i = shortAt (head b e) (flow b e) (place b i) (demand b i)
+abbrev pub isShort : Board → ℕ → ℕ → Bool
+isShort b e i = isShortIn (head b e) (flow b e) (place b i) (demand b i)
 
 -- the smaller of a and "need minus flow", where the terminal is short
 unfoldable pub lessened : ℕ → ℕ → ℕ → ℕ → ℕ → ℕ
-lessened head flow place demand a = pick (shortAt head flow place demand) (smaller a (demand - flow)) a
+lessened head flow place demand a = pick (isShortIn head flow place demand) (smaller a (demand - flow)) a
 
 -- the smallest of a and "need minus flow" over the terminals i, i + 1, .., i + k - 1 that are short at e
 unfoldable pub raiseIn : List ℕ → List ℕ → ℕ → ℕ → ℕ → ℕ → ℕ → ℕ
@@ -30,14 +30,16 @@ unfolding lessened
 raiseIn places demands head flow a i zero = a
 raiseIn places demands head flow a i (suc k) = raiseIn places demands head flow (lessened head flow (getD places i 0) (getD demands i 0) a) (suc i) k
 
-unfoldable pub raise : Board → ℕ → ℕ → ℕ → ℕ → ℕ
-unfolding isShort raiseIn
-raise b e a i k = raiseIn (b .places) (b .network .demands) (head b e) (flow b e) a i k
+abbrev pub raise : Board → ℕ → ℕ → ℕ → ℕ → ℕ
+raise b e = raiseIn (b .places) (b .network .demands) (head b e) (flow b e)
 
 -- the smallest of a and what a step allows: "the least flow on a down-step", "the least (need minus flow) over up-step channels and mills at their heads"
 unfoldable pub allowedIn : List ℕ → List ℕ → List ℕ → List ℕ → ℕ → ℕ → Step → ℕ
 allowedIn heads flows places demands terminals a s =
     elim s [ down e ↦ smaller a (getD flows e 0) | up e ↦ raiseIn places demands (getD heads e 0) (getD flows e 0) a 0 terminals ]
+
+abbrev pub allowed : Board → ℕ → Step → ℕ
+allowed b = allowedIn (b .network .heads) (b .flows) (b .places) (b .network .demands) (b .network .terminals)
 
 -- "The amount is the smaller of" these, over all steps
 unfoldable pub amountIn : List ℕ → List ℕ → List ℕ → List ℕ → ℕ → ℕ → List Step → ℕ
@@ -45,10 +47,9 @@ unfolding allowedIn
 amountIn heads flows places demands terminals a [] = a
 amountIn heads flows places demands terminals a (s ∷ w) = amountIn heads flows places demands terminals (allowedIn heads flows places demands terminals a s) w
 
-unfoldable pub amountFrom : Board → ℕ → List Step → ℕ
-unfolding raise amountIn
-amountFrom b a w = amountIn (b .network .heads) (b .flows) (b .places) (b .network .demands) (b .network .terminals) a w
+abbrev pub amountFrom : Board → ℕ → List Step → ℕ
+amountFrom b = amountIn (b .network .heads) (b .flows) (b .places) (b .network .demands) (b .network .terminals)
 
 -- from none on
-unfoldable pub amount : Board → List Step → ℕ
-amount b w = amountFrom b 0 w
+abbrev pub amount : Board → List Step → ℕ
+amount b = amountFrom b 0

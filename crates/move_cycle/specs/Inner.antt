@@ -1,17 +1,12 @@
--- For inner contracts only: steps that sets have room for, flows that are small, and what one step allows.
-use mathlib.Core.List.{List}
+-- For inner contracts only: steps that sets have room for, their greatest edge, and flows that are small.
+use mathlib.Core.List.{List, [], _∷_}
 use Prim.Native.Nat.{ℕ, _≤_, _<_}
+use lib.Dec.{ltb}
 use lib.ListN.{getD, length}
-use Rattle.board.specs.Whole.{Board}
-use Rattle.graph_flows.specs.Trails.{Step, down, up, edgeOf}
-use Rattle.move_guard.specs.Parts.{flow}
+use Rattle.lists.specs.Choice.{pick}
+use Rattle.graph_flows.specs.Trails.{Step, edgeOf}
 use Rattle.sets.specs.Inner.{setWidth}
-use Rattle.move_cycle.specs.Amounts.{smaller, raise}
-use Rattle.move_cycle.specs.Steps.{stepOf}
-
--- `allowedIn` on a board: what a step allows beside an amount
-abbrev pub allowed : Board → ℕ → Step → ℕ
-allowed b a s = elim s [ down e ↦ smaller a (flow b e) | up e ↦ raise b e a 0 (b .network .terminals) ]
+use Rattle.move_cycle.specs.Steps.{codeStep}
 
 -- no flow is above c
 abbrev pub AtMost : ℕ → List ℕ → Type 0
@@ -19,4 +14,9 @@ AtMost c flows = (e : ℕ) → getD flows e 0 ≤ c
 
 -- every step's edge has a place in a set
 abbrev pub InSets : List ℕ → Type 0
-InSets s = (i : ℕ) → i < length s → edgeOf (stepOf (getD s i 0)) < setWidth
+InSets s = (i : ℕ) → i < length s → edgeOf (codeStep (getD s i 0)) < setWidth
+
+-- the greatest edge of the steps, 0 for none
+unfoldable pub greatestEdge : List Step → ℕ
+greatestEdge [] = 0
+greatestEdge (s ∷ w) = pick (ltb (edgeOf s) (greatestEdge w)) (greatestEdge w) (edgeOf s)

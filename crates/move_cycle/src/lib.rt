@@ -1,59 +1,140 @@
 // The steps of a turn, the amount that they allow, and the flows that they change.
 use board::Board;
-use board::EdgeSet;
+use sets::EdgeSet;
 ghost use mathlib.Core.Path.{_≡_};
-ghost use Rattle.graph_flows.specs.Trails.{edgeOf, startOf, endOf};
-ghost use Rattle.move_cycle.specs.Steps.{stepOf, stepsOf, isUp, goes, leadsBack, isCycle, gather};
+ghost use Rattle.graph_flows.specs.Trails.{down, up, edgeOf, startOf, endOf};
+ghost use Rattle.move_cycle.specs.Steps.{
+  stepOf,
+  codeUp,
+  codeStep,
+  codeSteps,
+  stepCode,
+  stride,
+  isUp,
+  goes,
+  leadsBack,
+  isCycle,
+  gather,
+};
 ghost use Rattle.move_cycle.specs.Inner.{InSets, AtMost};
 ghost use Rattle.move_cycle.specs.Amounts.{smaller, lessened, raiseIn, allowedIn, amountIn};
-ghost use Prim.Native.Nat.{_≤_};
+ghost use Prim.Native.Nat.{_<_, _≤_};
+ghost use lib.Dec.{ltb};
+ghost use lib.ListN.{set};
+ghost use Rattle.sets.specs.Sets.{none, setOf};
 ghost use Rattle.board.specs.Limits.{maxTotal};
 ghost use Rattle.move_cycle.specs.Shifts.{shiftedAt, shifted};
 
-// ---- The steps of a turn, a byte each: an edge's number, plus 128 for a step from its head to its tail.
+// A step as one number: its edge, and with UP added for a step up, from the edge's head to its tail.
+pub type StepCode = u16;
+
+// The code of a step up over edge 0.
+const UP: StepCode = 32768;
+
+// The byte of a step up over edge 0: a step of a lent list is a byte, and `decoded` alone reads it.
+const UP_BYTE: u8 = 128;
+
+// ---- The steps of a turn.
+
+// A step down over e.
+pub fn down(e: u32) -> StepCode
+    requires { ⌜ e < codeUp ⌝ }
+    ensures { λ r. ⌜ r ≡ stepCode (down e) ⌝ }
+{
+    e as StepCode
+}
+
+// A step up over e.
+pub fn up(e: u32) -> StepCode
+    requires { ⌜ e < codeUp ⌝ }
+    ensures { λ r. ⌜ r ≡ stepCode (up e) ⌝ }
+{
+    e as StepCode + UP
+}
+
+// A step over e, up or down.
+pub fn stride(ups: bool, e: u32) -> StepCode
+    requires { ⌜ e < codeUp ⌝ }
+    ensures { λ r. ⌜ r ≡ stepCode (stride ups e) ⌝ }
+{
+    if ups { up(e) } else { down(e) }
+}
+
+// Whether steps over e have codes.
+pub fn has_code(e: u32) -> bool
+    ensures { λ r. ⌜ r ≡ ltb e codeUp ⌝ }
+{
+    e < UP as u32
+}
+
+// The steps with another one at i.
+pub fn put_step(
+    steps: [StepCode; Board::MAX_EDGES],
+    i: usize,
+    step: StepCode,
+) -> [StepCode; Board::MAX_EDGES]
+    ensures { λ r. ⌜ r ≡ set steps i step ⌝ }
+{
+    let mut next = steps;
+    if i < Board::MAX_EDGES {
+        next[i] = step;
+    }
+    next
+}
+
+// The step of a byte.
+pub fn decoded(byte: u8) -> StepCode
+    ensures { λ r. ⌜ codeStep r ≡ stepOf byte ⌝ }
+{
+    if byte >= UP_BYTE {
+        return up((byte - UP_BYTE) as u32);
+    }
+    down(byte as u32)
+}
 
 // The edge of a step.
-pub fn edge_of(s: u8) -> u32
-    ensures { λ r. ⌜ r ≡ edgeOf (stepOf s) ⌝ }
+pub fn edge_of(s: StepCode) -> u32
+    ensures { λ r. ⌜ r ≡ edgeOf (codeStep s) ⌝ }
 {
-    if s >= 128 { (s - 128) as u32 } else { s as u32 }
+    if s >= UP { (s - UP) as u32 } else { s as u32 }
 }
 
 // Whether a step goes up.
-pub fn is_up(s: u8) -> bool
-    ensures { λ r. ⌜ r ≡ isUp (stepOf s) ⌝ }
+pub fn is_up(s: StepCode) -> bool
+    ensures { λ r. ⌜ r ≡ isUp (codeStep s) ⌝ }
 {
-    s >= 128
+    s >= UP
 }
 
 // Where a step starts.
-pub fn start_of<'a>(tails: &'a [u32], heads: &'a [u32], s: u8) -> u32
-    ensures { λ r. ⌜ r ≡ startOf (now (tails .entry)) (now (heads .entry)) (stepOf s) ⌝ }
+pub fn start_of<'a>(tails: &'a [u32], heads: &'a [u32], s: StepCode) -> u32
+    ensures { λ r. ⌜ r ≡ startOf (now (tails .entry)) (now (heads .entry)) (codeStep s) ⌝ }
 {
-    if s >= 128 {
-        lists::word_at(heads, (s - 128) as usize)
+    if s >= UP {
+        lists::word_at(heads, (s - UP) as usize)
     } else {
         lists::word_at(tails, s as usize)
     }
 }
 
 // Where a step ends.
-fn end_of<'a>(tails: &'a [u32], heads: &'a [u32], s: u8) -> u32
-    ensures { λ r. ⌜ r ≡ endOf (now (tails .entry)) (now (heads .entry)) (stepOf s) ⌝ }
+fn end_of<'a>(tails: &'a [u32], heads: &'a [u32], s: StepCode) -> u32
+    ensures { λ r. ⌜ r ≡ endOf (now (tails .entry)) (now (heads .entry)) (codeStep s) ⌝ }
 {
-    if s >= 128 {
-        lists::word_at(tails, (s - 128) as usize)
+    if s >= UP {
+        lists::word_at(tails, (s - UP) as usize)
     } else {
         lists::word_at(heads, s as usize)
     }
 }
 
 // Whether the steps lead from r back to r, each from where the last one ended, over no edge twice.
-fn leads_back<'a>(tails: &'a [u32], heads: &'a [u32], steps: &'a [u8], r: u32) -> bool
+fn leads_back<'a>(tails: &'a [u32], heads: &'a [u32], steps: &'a [StepCode], r: u32) -> bool
     requires { ⌜ InSets (now steps) ⌝ }
-    ensures { λ q. ⌜ q ≡ leadsBack (now (tails .entry)) (now (heads .entry)) r 0 r (stepsOf (now (steps .entry))) ⌝ }
+    ensures { λ q. ⌜ q ≡
+        leadsBack (now (tails .entry)) (now (heads .entry)) r none r (codeSteps (now (steps .entry))) ⌝ }
 {
-    let mut seen: EdgeSet = 0;
+    let mut seen = sets::none();
     let mut v = r;
     let mut i: usize = 0;
     while i < steps.len() {
@@ -73,9 +154,9 @@ fn leads_back<'a>(tails: &'a [u32], heads: &'a [u32], steps: &'a [u8], r: u32) -
 }
 
 // Whether the steps are a cycle.
-pub fn is_cycle<'a>(tails: &'a [u32], heads: &'a [u32], steps: &'a [u8]) -> bool
+pub fn is_cycle<'a>(tails: &'a [u32], heads: &'a [u32], steps: &'a [StepCode]) -> bool
     requires { ⌜ InSets (now steps) ⌝ }
-    ensures { λ r. ⌜ r ≡ isCycle (now (tails .entry)) (now (heads .entry)) (stepsOf (now (steps .entry))) ⌝ }
+    ensures { λ r. ⌜ r ≡ isCycle (now (tails .entry)) (now (heads .entry)) (codeSteps (now (steps .entry))) ⌝ }
 {
     if steps.len() == 0 {
         return false;
@@ -85,18 +166,18 @@ pub fn is_cycle<'a>(tails: &'a [u32], heads: &'a [u32], steps: &'a [u8]) -> bool
 }
 
 // Whether a step goes the given way: up, or down.
-fn goes(ups: bool, s: u8) -> bool
-    ensures { λ r. ⌜ r ≡ goes ups (stepOf s) ⌝ }
+fn goes(ups: bool, s: StepCode) -> bool
+    ensures { λ r. ⌜ r ≡ goes ups (codeStep s) ⌝ }
 {
     if ups { is_up(s) } else { !is_up(s) }
 }
 
 // The set of the edges of the steps that go the given way.
-pub fn gather(ups: bool, steps: &[u8]) -> EdgeSet
+pub fn gather(ups: bool, steps: &[StepCode]) -> EdgeSet
     requires { ⌜ InSets (now steps) ⌝ }
-    ensures { λ r. ⌜ r ≡ gather ups 0 (stepsOf (now (steps .entry))) ⌝ }
+    ensures { λ r. ⌜ setOf r ≡ gather ups none (codeSteps (now (steps .entry))) ⌝ }
 {
-    let mut m: EdgeSet = 0;
+    let mut m = sets::none();
     let mut i: usize = 0;
     while i < steps.len() {
         let s = steps[i];
@@ -164,10 +245,10 @@ fn allowed<'a>(
     demands: &'a [u32],
     terminals: u32,
     a: u32,
-    s: u8,
+    s: StepCode,
 ) -> u32
     ensures { λ r. ⌜ r ≡ allowedIn (now (heads .entry)) (now (flows .entry)) (now (places .entry))
-        (now (demands .entry)) terminals a (stepOf s) ⌝ }
+        (now (demands .entry)) terminals a (codeStep s) ⌝ }
 {
     let edge = edge_of(s) as usize;
     let flow = lists::word_at(flows, edge);
@@ -185,11 +266,11 @@ pub fn least_allowed<'a>(
     places: &'a [u32],
     demands: &'a [u32],
     terminals: u32,
-    steps: &'a [u8],
+    steps: &'a [StepCode],
 ) -> u32
     ensures { λ r. ⌜ r ≡ amountIn (now (heads .entry)) (now (flows .entry)) (now (places .entry))
         (now (demands .entry)) terminals 0
-        (stepsOf (now (steps .entry))) ⌝ }
+        (codeSteps (now (steps .entry))) ⌝ }
 {
     let mut a: u32 = 0;
     let mut i: usize = 0;
@@ -205,7 +286,7 @@ pub fn least_allowed<'a>(
 // The new flow of edge e: lowered or raised by x, or as it is.
 fn shifted_at(x: u32, downs: EdgeSet, ups: EdgeSet, e: usize, f: u32) -> u32
     requires { ⌜ (x ≤ maxTotal) × (f ≤ maxTotal) ⌝ }
-    ensures { λ r. ⌜ r ≡ shiftedAt x downs ups e f ⌝ }
+    ensures { λ r. ⌜ r ≡ shiftedAt x (setOf downs) (setOf ups) e f ⌝ }
 {
     if sets::has(downs, e) {
         return lists::minus(f, x);
@@ -225,7 +306,7 @@ pub fn shifted(
 ) -> [u32; Board::MAX_EDGES]
     requires { ⌜ x ≤ maxTotal ⌝ }
     requires { ⌜ AtMost maxTotal flows ⌝ }
-    ensures { λ r. ⌜ r ≡ shifted x downs ups flows ⌝ }
+    ensures { λ r. ⌜ r ≡ shifted x (setOf downs) (setOf ups) flows ⌝ }
 {
     let mut new = flows;
     let mut e: usize = 0;
@@ -241,10 +322,10 @@ pub fn shifted(
 pub fn shift(x: u32, downs: EdgeSet, ups: EdgeSet, flows: &mut [u32])
     requires { ⌜ x ≤ maxTotal ⌝ }
     requires { ⌜ AtMost maxTotal (now flows) ⌝ }
-    ensures { λ _. ⌜ now (flows .exit) ≡ shifted x downs ups (now (flows .entry)) ⌝ }
+    ensures { λ _. ⌜ now (flows .exit) ≡ shifted x (setOf downs) (setOf ups) (now (flows .entry)) ⌝ }
 {
     let mut rest = sets::joined(downs, ups);
-    while rest != 0 {
+    while !sets::is_empty(rest) {
         let e = sets::lowest(rest);
         let f = lists::word_at(flows, e as usize);
         let new = shifted_at(x, downs, ups, e as usize, f);

@@ -6,9 +6,8 @@ use Prim.Native.Nat.{ℕ, zero, suc}
 use lib.Dec.{ltb}
 use lib.ListN.{length, getD}
 use Rattle.lists.specs.Choice.{both}
-use Rattle.lists.specs.Lists.{lowest}
-use Rattle.sets.specs.Sets.{hasBit, collect}
-use Rattle.sets.specs.Inner.{setWidth, dropped}
+use Rattle.sets.specs.Sets.{none, hasBit, collect}
+use Rattle.sets.specs.Inner.{isEmpty, dropped, lowestIn}
 use Rattle.move_edges.specs.Singular.{straight}
 use Rattle.board.specs.Whole.{Board}
 use Rattle.move_edges.specs.Incidence.{touchingAt}
@@ -17,31 +16,32 @@ use Rattle.move_edges.specs.Incidence.{touchingAt}
 unfoldable pub singularIn : List ℕ → List ℕ → List ℕ → ℕ → ℕ → Bool
 singularIn tails heads flows vertices e = straight tails heads flows vertices (getD heads e 0)
 
-unfoldable pub singular : Board → ℕ → Bool
-unfolding singularIn
-singular b e = singularIn (b .network .tails) (b .network .heads) (b .flows) (b .network .vertices) e
+abbrev pub singular : Board → ℕ → Bool
+singular b = singularIn (b .network .tails) (b .network .heads) (b .flows) (b .network .vertices)
 
 -- an edge that is not marked, wet and single
 abbrev pub isFreshIn : List ℕ → List ℕ → List ℕ → ℕ → ℕ → ℕ → Bool
 isFreshIn tails heads flows vertices marks e = both (not (hasBit marks e)) (both (ltb 0 (getD flows e 0)) (singularIn tails heads flows vertices e))
 
-unfoldable pub isFresh : Board → ℕ → Bool
-unfolding singular
-isFresh b e = isFreshIn (b .network .tails) (b .network .heads) (b .flows) (b .network .vertices) (b .marks) e
+abbrev pub isFresh : Board → ℕ → Bool
+isFresh b = isFreshIn (b .network .tails) (b .network .heads) (b .flows) (b .network .vertices) (b .marks)
 
 -- "An accepted turn first marks every channel that is wet and single at that moment": those that it marks newly
-unfoldable pub fresh : Board → ℕ
-fresh b = collect (isFresh b) 0 0 (length (b .flows))
+unfoldable pub freshIn : List ℕ → List ℕ → List ℕ → ℕ → ℕ → ℕ
+freshIn tails heads flows vertices marks = collect (isFreshIn tails heads flows vertices marks) none 0 (length flows)
+
+abbrev pub fresh : Board → ℕ
+fresh b = freshIn (b .network .tails) (b .network .heads) (b .flows) (b .network .vertices) (b .marks)
 
 -- `straight` by the set of the edges that leave each vertex and the set of the wet channels: what leaves v is what the two have in common
 unfoldable pub straightBy : List ℕ → List ℕ → ℕ → ℕ → ℕ → Bool
 straightBy heads leaving positive zero v = true
 straightBy heads leaving positive (suc k) v =
     let out = touchingAt leaving positive v in
-    let e = lowest (hasBit out) 0 setWidth in
-    elim (ltb 0 out) [
-      | true ↦ elim (ltb 0 (dropped out e)) [ true ↦ false | false ↦ straightBy heads leaving positive k (getD heads e 0) ]
-      | false ↦ true
+    let e = lowestIn out in
+    elim (isEmpty out) [
+      | true ↦ true
+      | false ↦ elim (isEmpty (dropped out e)) [ true ↦ straightBy heads leaving positive k (getD heads e 0) | false ↦ false ]
     ]
 
 -- `singularIn` and `isFreshIn` by the sets

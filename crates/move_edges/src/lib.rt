@@ -1,11 +1,11 @@
 // The edges at a vertex as sets, which edges are singular, and which ones a turn marks newly.
 use board::Board;
-use board::EdgeSet;
+use sets::EdgeSet;
 ghost use mathlib.Core.Path.{_≡_};
 ghost use Prim.Native.Nat.{_<_};
 ghost use lib.ListN.{getD, set};
-ghost use Rattle.sets.specs.Sets.{withBit, collect};
-ghost use Rattle.sets.specs.Inner.{setWidth};
+ghost use Rattle.sets.specs.Sets.{none, withBit, collect, setOf};
+ghost use Rattle.sets.specs.Inner.{setWidth, setsOf};
 ghost use Rattle.move_edges.specs.Incidence.{Incident, PositiveSet, touchingAt};
 ghost use Rattle.move_edges.specs.Marking.{straightBy, singularBy, isFreshBy};
 
@@ -14,7 +14,8 @@ ghost use Rattle.move_edges.specs.Marking.{straightBy, singularBy, isFre
 // Adds edge e to the set of vertex v, where there is such a vertex.
 fn join(edges: &mut [EdgeSet], v: u32, e: usize)
     requires { ⌜ e < setWidth ⌝ }
-    ensures { λ r. ⌜ now (edges .exit) ≡ set (now (edges .entry)) v (withBit (getD (now (edges .entry)) v 0) e) ⌝ }
+    ensures { λ r. ⌜ setsOf (now (edges .exit)) ≡
+        set (setsOf (now (edges .entry))) v (withBit (getD (setsOf (now (edges .entry))) v none) e) ⌝ }
 {
     let at = v as usize;
     if at < edges.len() {
@@ -23,10 +24,11 @@ fn join(edges: &mut [EdgeSet], v: u32, e: usize)
 }
 
 // For each vertex the set of the edges that have this end there.
-pub fn at_vertices(ends: [u32; Board::MAX_EDGES]) -> [EdgeSet; Board::MAX_VERTICES as usize]
-    ensures { λ r. ⌜ Incident ends r ⌝ }
+pub fn at_vertices(ends: [u32; Board::MAX_EDGES]) -> [EdgeSet; Board::MAX_VERTICES]
+    ensures { λ r. ⌜ Incident ends (setsOf r) ⌝ }
 {
-    let mut edges: [EdgeSet; Board::MAX_VERTICES as usize] = [0; Board::MAX_VERTICES as usize];
+    let none = sets::none();
+    let mut edges: [EdgeSet; Board::MAX_VERTICES] = [none; Board::MAX_VERTICES];
     let mut e: usize = 0;
     while e < Board::MAX_EDGES {
         join(&mut edges, ends[e], e);
@@ -37,9 +39,9 @@ pub fn at_vertices(ends: [u32; Board::MAX_EDGES]) -> [EdgeSet; Board::MAX_VERTIC
 
 // The set of the positive edges.
 pub fn positive(flows: &[u32; Board::MAX_EDGES]) -> EdgeSet
-    ensures { λ r. ⌜ PositiveSet (now (flows .entry)) r ⌝ }
+    ensures { λ r. ⌜ PositiveSet (now (flows .entry)) (setOf r) ⌝ }
 {
-    let mut m: EdgeSet = 0;
+    let mut m = sets::none();
     let mut e: usize = 0;
     while e < Board::MAX_EDGES {
         m = sets::with(m, 0 < flows[e], e);
@@ -50,13 +52,13 @@ pub fn positive(flows: &[u32; Board::MAX_EDGES]) -> EdgeSet
 
 // The set of the positive edges that have this end at v, and the empty set where there is no such vertex.
 pub fn touching(edges: &[EdgeSet], positive: EdgeSet, v: u32) -> EdgeSet
-    ensures { λ r. ⌜ r ≡ touchingAt (now (edges .entry)) positive v ⌝ }
+    ensures { λ r. ⌜ setOf r ≡ touchingAt (setsOf (now (edges .entry))) (setOf positive) v ⌝ }
 {
     let at = v as usize;
     if at < edges.len() {
         sets::common(edges[at], positive)
     } else {
-        0
+        sets::none()
     }
 }
 
@@ -71,17 +73,18 @@ fn straight<'a>(
     left: u32,
     v: u32,
 ) -> bool
-    ensures { λ r. ⌜ r ≡ straightBy (now (heads .entry)) (now (leaving .entry)) positive left v ⌝ }
+    ensures { λ r. ⌜ r ≡ straightBy (now (heads .entry)) (setsOf (now (leaving .entry))) (setOf positive) left v ⌝ }
 {
     if left == 0 {
         return true;
     }
     let out = touching(leaving, positive, v);
-    if out == 0 {
+    if sets::is_empty(out) {
         return true;
     }
     let e = sets::lowest(out);
-    if sets::drop(out, e) != 0 {
+    let others = sets::drop(out, e);
+    if !sets::is_empty(others) {
         return false;
     }
     let next = lists::word_at(heads, e as usize);
@@ -96,7 +99,7 @@ pub fn singular_by<'a>(
     vertices: u32,
     e: usize,
 ) -> bool
-    ensures { λ r. ⌜ r ≡ singularBy (now (heads .entry)) (now (leaving .entry)) positive vertices e ⌝ }
+    ensures { λ r. ⌜ r ≡ singularBy (now (heads .entry)) (setsOf (now (leaving .entry))) (setOf positive) vertices e ⌝ }
 {
     let head = lists::word_at(heads, e);
     straight(heads, leaving, positive, vertices, head)
@@ -110,13 +113,12 @@ pub fn fresh_by<'a>(
     vertices: u32,
     marks: EdgeSet,
 ) -> EdgeSet
-    ensures { λ r. ⌜ r ≡ collect
-        (isFreshBy (now (heads .entry)) (now (leaving .entry)) positive vertices marks) 0 0 setWidth ⌝ }
+    ensures { λ r. ⌜ setOf r ≡ collect (isFreshBy (now (heads .entry)) (setsOf (now (leaving .entry)))
+        (setOf positive) vertices (setOf marks)) none 0 setWidth ⌝ }
 {
-    let marked = sets::common(positive, marks);
-    let mut rest = sets::without(positive, marked);
-    let mut m: EdgeSet = 0;
-    while rest != 0 {
+    let mut rest = sets::without(positive, marks);
+    let mut m = sets::none();
+    while !sets::is_empty(rest) {
         let e = sets::lowest(rest);
         let joins = singular_by(heads, leaving, positive, vertices, e as usize);
         m = sets::with(m, joins, e as usize);

@@ -4,3 +4,4 @@ pub mod Facts
 pub mod Parts
 pub mod Lent
 pub mod Past
+pub mod Bounds

@@ -8,7 +8,7 @@ use lib.ListN.{getD}
 use Rattle.lists.specs.Choice.{pick, both}
 use Rattle.lists.specs.Lists.{all}
 use Rattle.board.specs.Limits.{maxEdges, maxTerminals, maxMoves, maxTotal}
-use Rattle.board.specs.Record.{playStage, finishedStage}
+use Rattle.board.specs.Record.{playStage, staged}
 use Rattle.board.specs.Whole.{Board}
 use Rattle.board.specs.declared.Network.{Network}
 use Rattle.board.specs.declared.Move.{Move}
@@ -77,7 +77,7 @@ intact b = intactIn (b .network) (b .acyclic) (b .flows) (b .places) (b .moves) 
 
 -- a board that a load gave: in play or finished, and intact
 unfoldable pub loaded : Board → Bool
-loaded b = both (both (leb playStage (b .stage)) (leb (b .stage) finishedStage)) (intact b)
+loaded b = both (staged (b .stage)) (intact b)
 
 -- 20: "play is over (a finish was accepted), or no board was loaded"
 unfoldable pub playing : Board → Bool

@@ -1,3 +1,4 @@
 pub mod Moved
 pub mod Parts
 pub mod Guard
+pub mod Bounds

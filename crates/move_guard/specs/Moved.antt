@@ -57,9 +57,16 @@ answered number b next = pick (eqb number 0) (record { answer = 0; board = next 
 abbrev pub unchanged : ℕ → List ℕ → ℕ → List ℕ → Change
 unchanged number flows marks places = record { answer = number; flows = flows; marks = marks; places = places; entry = blank }
 
+-- the board after a change, by one more move or by one less
+abbrev pub afterChange : Board → Change → Board
+afterChange b c = moved b (c .flows) (c .marks) (c .places) (c .entry)
+
+abbrev pub afterBack : Board → Change → Board
+afterBack b c = movedBack b (c .flows) (c .marks) (c .places)
+
 -- a call on a board by what it changes: one more move, or one less
 abbrev pub changed : Board → Change → Played
-changed b c = answered (c .answer) b (moved b (c .flows) (c .marks) (c .places) (c .entry))
+changed b c = answered (c .answer) b (afterChange b c)
 
 abbrev pub changedBack : Board → Change → Played
-changedBack b c = answered (c .answer) b (movedBack b (c .flows) (c .marks) (c .places))
+changedBack b c = answered (c .answer) b (afterBack b c)

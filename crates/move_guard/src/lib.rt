@@ -18,6 +18,7 @@ ghost use Rattle.move_guard.specs.Guard.{
   terminalBlankAt,
   moveIntact,
   intact,
+  loaded,
   playing,
 };
 
@@ -179,7 +180,7 @@ fn terminals_intact<'a>(
 }
 
 // Whether no number of the board can lead a call astray.
-pub fn intact(board: Board, journal: &[[u64; WORDS]; Board::JOURNAL]) -> bool
+fn intact(board: Board, journal: &[[u64; WORDS]; Board::JOURNAL]) -> bool
     ensures { λ r. ⌜ r ≡ intact (wholeOf board (now (journal .entry))) ⌝ }
 {
     let vertices = board.network.vertices;
@@ -208,6 +209,14 @@ pub fn intact(board: Board, journal: &[[u64; WORDS]; Board::JOURNAL]) -> bool
     let step = last.step;
     let room = lists::and(board.moves <= Board::JOURNAL as u32, move_intact(step));
     lists::and(edges_fit, lists::and(terminals_fit, room))
+}
+
+// Whether the board was loaded: it is in play or finished, and intact.
+pub fn loaded(board: Board, journal: &[[u64; WORDS]; Board::JOURNAL]) -> bool
+    ensures { λ r. ⌜ r ≡ loaded (wholeOf board (now (journal .entry))) ⌝ }
+{
+    let fits = intact(board, journal);
+    lists::and(Board::staged(board.stage), fits)
 }
 
 // Whether the board is in play.

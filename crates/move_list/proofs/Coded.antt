@@ -1,6 +1,6 @@
 -- The laws that the functions cite: what a list of numbers holds is read and written from its front, so each round of a
 -- loop does the first of what is left, and leaves the rest.
-use mathlib.Core.Path.{_≡_, refl, sym}
+use mathlib.Core.Path.{_≡_, refl, sym, ap, _∙_}
 use mathlib.Core.Bool.{true, false}
 use mathlib.Core.List.{List, [], _∷_, _++_}
 use Prim.Native.Nat.{ℕ, suc, _+_, _-_, _≤_, _<_}
@@ -14,11 +14,10 @@ use Rattle.lists.specs.Choice.{both}
 use Rattle.lists.proofs.Laws.{pick-yes, pick-no, both-left, both-right}
 use Rattle.lists.proofs.Stored.{stored-turn, stored-past}
 use Rattle.board.specs.Whole.{Board}
-use Rattle.board.specs.Whole.{Played}
 use Rattle.solve_next.specs.declared.Advice.{Advice}
 use Rattle.solve_next.specs.declared.Suggestion.{Suggestion}
 use Rattle.solve_next.specs.Hints.{hintCall}
-use Rattle.move_list.specs.Calls.{Call, hint, made, played, answers, hintedBy, hintsOf, adviceCode, adviceWidth, behind, noted}
+use Rattle.move_list.specs.Calls.{Call, hint, Game, Reply, made, played, answers, hintedBy, hintsOf, adviceCode, adviceWidth, behind, noted}
 use Rattle.move_list.specs.Codes.{part, callOf, callsOf}
 
 -- the steps of a turn
@@ -47,7 +46,7 @@ module _ (steps codes : List ℕ) (i : ℕ) where
       rw (one, two, three, drop-cons codes i 0 (omega arith), drop-cons codes (suc i) 0 (omega arith), drop-cons codes (suc (suc i)) 0 (omega arith))
 
   pub calls-turn : i + 3 ≤ length codes
-      → callsOf steps (drop i codes) ≡ callOf steps (getD codes i 0) (getD codes (i + 1) 0) (getD codes (i + 2) 0) ∷ callsOf steps (drop (i + 3) codes)
+      → callsOf steps (drop i codes) ≡ callOf steps (getD codes i 0) (getD codes (i + 1) 0) (getD codes (i + 2) 0) ++ callsOf steps (drop (i + 3) codes)
   unfolding callsOf
   calls-turn h = rw (three-left h)
 
@@ -69,7 +68,7 @@ module _ (b : Board) (c : Call) (rest : List Suggestion) (buf buf' : List ℕ) (
   unfolding noted
   one-hinted h n eh e ek = rw (n, e, ek, eh)
 
--- the calls that are left, with this many numbers; one round makes the first of them
+-- the calls that are left, with this many numbers; one round makes the call of the first three of them, or leaves them out
 module _ (steps codes : List ℕ) (left : ℕ) where
   abbrev at : ℕ
   at = length codes - left
@@ -77,42 +76,53 @@ module _ (steps codes : List ℕ) (left : ℕ) where
   abbrev pub calls : List Call
   calls = callsOf steps (drop (length codes - left) codes)
 
+  abbrev pub first : List Call
+  first = callOf steps (getD codes (length codes - left) 0) (getD codes (length codes - left + 1) 0) (getD codes (length codes - left + 2) 0)
+
+  abbrev pub others : List Call
+  others = callsOf steps (drop (length codes - (left - 3)) codes)
+
   pub calls-none : left < 3 → calls ≡ []
   calls-none h = calls-few steps (drop at codes) (rw (length-drop at codes) (omega arith))
 
-  module _ (b : Board) where
-    pub played-end : left < 3 → b ≡ played b calls
+  module _ (some : 3 ≤ left) (inside : left ≤ length codes) where
+    calls-first : calls ≡ first ++ others
+    calls-first =
+        let next : length codes - (left - 3) ≡ at + 3 = omega arith in
+        rw (calls-turn steps codes at (omega arith), next)
+
+    pub calls-one : (call : Call) → first ≡ call ∷ [] → calls ≡ call ∷ others
+    calls-one call alone = calls-first ∙ ap (λ (l : List Call). l ++ others) alone
+
+    pub calls-skipped : first ≡ [] → others ≡ calls
+    calls-skipped none = sym (calls-first ∙ ap (λ (l : List Call). l ++ others) none)
+
+  module _ (g : Game) where
+    pub played-end : left < 3 → g ≡ played g calls
     unfolding played
     played-end h = rw (calls-none h)
 
-    pub answers-end : (buf : List ℕ) (k : ℕ) → left < 3 → buf ≡ sets buf k (answers b calls)
+    pub answers-end : (buf : List ℕ) (k : ℕ) → left < 3 → buf ≡ sets buf k (answers g calls)
     unfolding answers
     answers-end buf k h = rw (calls-none h)
 
-    pub hints-end : (buf : List ℕ) (k : ℕ) → left < 3 → buf ≡ noted buf k (hintsOf b calls)
+    pub hints-end : (buf : List ℕ) (k : ℕ) → left < 3 → buf ≡ noted buf k (hintsOf g calls)
     unfolding noted hintsOf
     hints-end buf k h = rw (calls-none h)
 
-    module _ (p : Played) (some : 3 ≤ left) (inside : left ≤ length codes)
-        (makes : p ≡ made b (callOf steps (getD codes at 0) (getD codes (at + 1) 0) (getD codes (at + 2) 0))) where
-      next : length codes - (left - 3) ≡ at + 3
-      next = omega arith
-
-      pub played-turn : played (p .board) (callsOf steps (drop (length codes - (left - 3)) codes)) ≡ played b calls
+    module _ (call : Call) (r : Reply) (is : calls ≡ call ∷ others) (makes : r ≡ made g call) where
+      pub played-turn : played (r .game) others ≡ played g calls
       unfolding played
-      played-turn = rw (calls-turn steps codes at (omega arith), next, makes)
+      played-turn = rw (is, makes)
 
-      pub answers-turn : (buf r : List ℕ) (k : ℕ) → r ≡ set buf k (p .answer)
-          → sets r (k + 1) (answers (p .board) (callsOf steps (drop (length codes - (left - 3)) codes))) ≡ sets buf k (answers b calls)
+      pub answers-turn : (buf buf' : List ℕ) (k : ℕ) → buf' ≡ set buf k (r .answer) → sets buf' (k + 1) (answers (r .game) others) ≡ sets buf k (answers g calls)
       unfolding answers
-      answers-turn buf r k e = rw (calls-turn steps codes at (omega arith), next, e, makes, add-one k)
+      answers-turn buf buf' k e = rw (is, e, makes, add-one k)
 
-      pub hints-turn : (buf buf' : List ℕ) (k k' : ℕ)
-          → ((rest : List Suggestion)
-          → noted buf' k' rest ≡ noted buf k (hintedBy b (callOf steps (getD codes at 0) (getD codes (at + 1) 0) (getD codes (at + 2) 0)) ++ rest))
-          → noted buf' k' (hintsOf (p .board) (callsOf steps (drop (length codes - (left - 3)) codes))) ≡ noted buf k (hintsOf b calls)
+      pub hints-turn : (buf buf' : List ℕ) (k k' : ℕ) → ((rest : List Suggestion) → noted buf' k' rest ≡ noted buf k (hintedBy (g .board) call ++ rest))
+          → noted buf' k' (hintsOf (r .game) others) ≡ noted buf k (hintsOf g calls)
       unfolding hintsOf
-      hints-turn buf buf' k k' told = rw (calls-turn steps codes at (omega arith), next, makes) (told _)
+      hints-turn buf buf' k k' told = rw (is, makes) (told _)
 
 -- before the first round all is left
 pub all-left : (codes : List ℕ) → drop (length codes - length codes) codes ≡ codes

@@ -21,10 +21,10 @@ use Rattle.journal.proofs.After.{after-none}
 use Rattle.move_guard.specs.Guard.{playing}
 use Rattle.move_guard.specs.Moved.{lastEntry, moved, movedBack, answered}
 use Rattle.move_guard.proofs.Answers.{answered-yes, answered-no}
-use Rattle.move_carry.specs.Carries.{carryRefusal, carried, carryCall}
-use Rattle.move_turn.specs.Turns.{turnRefusal, turned, turnCall}
-use Rattle.move_undo.specs.Undone.{undoRefusal, undoneMove, undone, undoCall}
-use Rattle.move_list.specs.Calls.{Call, carry, turn, undo, hint, made, played}
+use Rattle.move_carry.specs.Carries.{carryRefusal, carryCall, carriedIn}
+use Rattle.move_turn.specs.Turns.{turnRefusal, turnCall, turnedIn}
+use Rattle.move_undo.specs.Undone.{undoRefusal, undoneMove, undoCall, undoRefusalIn}
+use Rattle.move_list.specs.Calls.{Call, carry, turn, undo, hint, Game, gameOf, made, played}
 use Rattle.move_list.specs.Words.{wordsPlayed}
 
 -- the words of a board's journal
@@ -81,7 +81,7 @@ module _ (b : Board) (w : List (List ℕ)) (kept : Kept b w) where
 
   -- an accepted undo takes a move back
   some-moves : undoRefusal b ≡ 0 → 0 < b .moves
-  unfolding undoRefusal
+  unfolding undoRefusalIn
   some-moves h =
       let n = eqb-false (b .moves) 0 (pick-avoided (eqb (b .moves) 0) 0 26 (pick-passed (playing b) _ 19 h .1) .0) in
       above n
@@ -97,15 +97,15 @@ module _ (b : Board) (w : List (List ℕ)) (kept : Kept b w) where
   undone-kept (Carry r) = back-kept (undoRefusal b) _ _ _ some-moves
   undone-kept (Turn a) = back-kept (undoRefusal b) _ _ _ some-moves
 
-  pub made-kept : (c : Call) → Kept (made b c .board) (wordsAfter (b .moves) (made b c .board) w)
-  unfolding carryCall carried turnCall turned undoCall undone
+  pub made-kept : (c : Call) → Kept (made (gameOf b) c .game .board) (wordsAfter (b .moves) (made (gameOf b) c .game .board) w)
+  unfolding carryCall carriedIn turnCall turnedIn undoCall
   made-kept (carry i e) = moved-kept (carryRefusal b i e) _ _ _ _
   made-kept (turn s) = moved-kept (turnRefusal b s) _ _ _ _
   made-kept undo = undone-kept (lastEntry b .step)
   made-kept hint = same
 
 -- and so do they over a list of calls
-pub played-kept : (b : Board) (cs : List Call) (w : List (List ℕ)) → Kept b w → Kept (played b cs) (wordsPlayed b cs w)
+pub played-kept : (g : Game) (cs : List Call) (w : List (List ℕ)) → Kept (g .board) w → Kept (played g cs .board) (wordsPlayed g cs w)
 unfolding played wordsPlayed
-played-kept b [] w kept = kept
-played-kept b (c ∷ cs) w kept = played-kept (made b c .board) cs (wordsAfter (b .moves) (made b c .board) w) (made-kept b w kept c)
+played-kept g [] w kept = kept
+played-kept g (c ∷ cs) w kept = played-kept (made g c .game) cs (wordsAfter (g .board .moves) (made g c .game .board) w) (made-kept (g .board) w kept c)

@@ -1,4 +1,4 @@
--- A list of calls on a board: what they answer, and the board after them.
+-- A list of calls: what they answer, and the game after them.
 use mathlib.Core.List.{List, [], _∷_, _++_}
 use Prim.Native.Nat.{ℕ, _+_}
 use lib.Dec.{ltb}
@@ -14,6 +14,7 @@ use Rattle.move_turn.specs.Turns.{turnCall}
 use Rattle.move_undo.specs.Undone.{undoCall}
 use Rattle.solve_next.specs.declared.Advice.{Advice}
 use Rattle.solve_next.specs.declared.Suggestion.{Suggestion}
+use Rattle.solve_next.specs.Choosing.{Act, relocate, augment}
 use Rattle.solve_next.specs.Hints.{hintRefusal, hintCall}
 
 -- a call with its arguments: a carry of a terminal over an edge, a turn along steps, an undo, or a hint
@@ -23,21 +24,40 @@ pub data Call : Type 0 where
   undo : Call
   hint : Call
 
--- what one call gives; of a hint, its number
-abbrev pub made : Board → Call → Played
-made b (carry i e) = carryCall b i e
-made b (turn w) = turnCall b w
-made b undo = undoCall b
-made b hint = record { answer = hintRefusal b; board = b }
+-- the call that makes a move
+abbrev pub callFor : Act → Call
+callFor (relocate i e) = carry i e
+callFor (augment w) = turn w
+
+-- what calls are made on, and what a list of calls hands on from one to the next
+pub record Game : Type 0 where
+  pub board : Board
+
+abbrev pub gameOf : Board → Game
+gameOf b = record { board = b }
+
+-- what one call gives: its number, and the game after it
+pub record Reply : Type 0 where
+  pub answer : ℕ
+  pub game : Game
+
+abbrev pub replyOf : Played → Reply
+replyOf p = record { answer = p .answer; game = gameOf (p .board) }
+
+abbrev pub made : Game → Call → Reply
+made g (carry i e) = replyOf (carryCall (g .board) i e)
+made g (turn w) = replyOf (turnCall (g .board) w)
+made g undo = replyOf (undoCall (g .board))
+made g hint = record { answer = hintRefusal (g .board); game = g }
 
 -- "Each call gets the board as the call before it gave or left it"
-unfoldable pub played : Board → List Call → Board
-played b [] = b
-played b (c ∷ cs) = played (made b c .board) cs
+unfoldable pub played : Game → List Call → Game
+played g [] = g
+played g (c ∷ cs) = played (made g c .game) cs
 
-unfoldable pub answers : Board → List Call → List ℕ
-answers b [] = []
-answers b (c ∷ cs) = made b c .answer ∷ answers (made b c .board) cs
+unfoldable pub answers : Game → List Call → List ℕ
+answers g [] = []
+answers g (c ∷ cs) = made g c .answer ∷ answers (made g c .game) cs
 
 -- the hint that one call gives, if it is one; and the hints of the calls, in order
 abbrev pub hintedBy : Board → Call → List Suggestion
@@ -46,11 +66,11 @@ hintedBy b (turn w) = []
 hintedBy b undo = []
 hintedBy b hint = hintCall b ∷ []
 
-unfoldable pub hintsOf : Board → List Call → List Suggestion
-hintsOf b [] = []
-hintsOf b (c ∷ cs) = hintedBy b c ++ hintsOf (made b c .board) cs
+unfoldable pub hintsOf : Game → List Call → List Suggestion
+hintsOf g [] = []
+hintsOf g (c ∷ cs) = hintedBy (g .board) c ++ hintsOf (made g c .game) cs
 
--- a hint's move in numbers: its kind, terminal, edge, count of steps, and the steps
+-- a hint's move in numbers: its kind, terminal, edge, count of steps, and the codes of the steps
 abbrev pub adviceCode : Advice → List ℕ
 adviceCode a = a .kind ∷ a .terminal ∷ a .edge ∷ a .count ∷ a .steps
 

@@ -1,5 +1,5 @@
 -- Lists of calls in numbers, and answers and journals written into buffers of numbers: how other programs drive the engine.
-use mathlib.Core.List.{List, [], _∷_}
+use mathlib.Core.List.{List, [], _∷_, _++_}
 use Prim.Native.Nat.{ℕ, _-_}
 use lib.Dec.{leb, eqb}
 use lib.ListN.{length, take, drop}
@@ -11,13 +11,31 @@ use Rattle.move_list.specs.Calls.{Call, carry, turn, undo, hint}
 unfoldable pub part : List ℕ → ℕ → ℕ → List ℕ
 part steps a c = pick (both (leb a c) (leb c (length steps))) (take (c - a) (drop a steps)) []
 
--- 0: a carry of terminal a over edge c; 1: a turn along the steps of the bytes from a up to c; 2: an undo; anything else: a hint
-unfoldable pub callOf : List ℕ → ℕ → ℕ → ℕ → Call
-callOf steps kind a c = pick (eqb kind 0) (carry a c) (pick (eqb kind 1) (turn (stepsOf (part steps a c))) (pick (eqb kind 2) undo hint))
+-- each kind of call has its number; 4 finish, 5 keep, 6 back, 7 careful finish, 8 careful hint, 9 close and 10 open are kept for calls to come
+abbrev pub carryCode : ℕ
+carryCode = 0
 
--- three numbers a call; one or two left over are no call
+abbrev pub turnCode : ℕ
+turnCode = 1
+
+abbrev pub undoCode : ℕ
+undoCode = 2
+
+abbrev pub hintCode : ℕ
+hintCode = 3
+
+-- the call of three numbers: a carry of terminal a over edge c, a turn along the steps of the bytes from a up to c, an undo, a hint; a kind without a number is no call
+unfoldable pub callOf : List ℕ → ℕ → ℕ → ℕ → List Call
+callOf steps kind a c =
+    pick (eqb kind carryCode) (carry a c ∷ [])
+    (pick (eqb kind turnCode) (turn (stepsOf (part steps a c)) ∷ [])
+    (pick (eqb kind undoCode) (undo ∷ [])
+    (pick (eqb kind hintCode) (hint ∷ [])
+    [])))
+
+-- three numbers a call, and what is no call is left out; one or two numbers left over are none
 unfoldable pub callsOf : List ℕ → List ℕ → List Call
 callsOf steps [] = []
 callsOf steps (k ∷ []) = []
 callsOf steps (k ∷ a ∷ []) = []
-callsOf steps (k ∷ a ∷ c ∷ codes) = callOf steps k a c ∷ callsOf steps codes
+callsOf steps (k ∷ a ∷ c ∷ codes) = callOf steps k a c ++ callsOf steps codes

@@ -2,17 +2,38 @@
 use board::Board;
 use board::Played;
 use journal::WORDS;
+use move_cycle::StepCode;
 use solve_next::Advice;
 ghost use mathlib.Core.Path.{_≡_};
-ghost use Prim.Native.Nat.{_+_, _-_, _<_, _≤_};
+ghost use mathlib.Core.List.{List};
+ghost use Prim.Native.Nat.{ℕ, _+_, _-_, _<_, _≤_};
 ghost use Rattle.move_turn.specs.Turns.{turnCall};
 ghost use Rattle.move_cycle.specs.Steps.{stepsOf};
 ghost use Rattle.journal.specs.Words.{wholeOf, givenOf, wordsAfter};
 ghost use Rattle.move_list.specs.Words.{wordsPlayed};
-ghost use Rattle.move_list.specs.Calls.{made, played, answers, hintsOf, adviceCode, behind, noted};
-ghost use Rattle.move_list.specs.Inner.{lastPlace};
-ghost use Rattle.move_list.specs.Codes.{part, callOf, callsOf};
+ghost use Rattle.move_list.specs.Calls.{gameOf, played, answers, hintsOf, adviceCode, behind, noted};
+ghost use Rattle.move_list.specs.Inner.{lastPlace, OneMade};
+ghost use Rattle.move_list.specs.Codes.{part, hintCode, callOf, callsOf};
+ghost use lib.ListN.{length};
 ghost use lib.Seq.{sets};
+
+// A call in numbers: its kind, and two numbers more. A kind without a number here is no call.
+pub struct CallCode {
+    pub kind: u32,
+    pub first: u32,
+    pub second: u32,
+}
+
+impl CallCode {
+    // A carry of terminal `first` over edge `second`.
+    pub const CARRY: u32 = 0;
+    // A turn along the steps from `first` up to `second`.
+    pub const TURN: u32 = 1;
+    // An undo.
+    pub const UNDO: u32 = 2;
+    // A hint.
+    pub const HINT: u32 = 3;
+}
 
 // A turn along the steps from a up to c.
 fn turn_part(
@@ -37,33 +58,39 @@ fn turn_part(
     move_turn::turn(board, journal, &steps[from..to])
 }
 
-// A call that is no hint: a carry of terminal a over edge c (0), a turn along the steps from a up to c (1), an undo (2).
+// A call that is no hint.
 fn make(
     board: Board,
     journal: &mut [[u64; WORDS]; Board::JOURNAL],
     steps: &[u8],
-    kind: u32,
-    a: u32,
-    c: u32,
+    call: CallCode,
 ) -> Played
-    requires { ⌜ kind < 3 ⌝ }
-    ensures { λ r. ⌜ givenOf r (now (journal .exit)) ≡
-        made (wholeOf board (now (journal .entry))) (callOf (now (steps .entry)) kind a c) ⌝ }
-    ensures { λ _. ⌜ now (journal .exit) ≡ wordsAfter (board .moves)
-        (made (wholeOf board (now (journal .entry))) (callOf (now (steps .entry)) kind a c) .board)
-        (now (journal .entry)) ⌝ }
+    requires { ⌜ call .kind < hintCode ⌝ }
+    ensures { λ r. ⌜ OneMade (wholeOf board (now (journal .entry))) (now (journal .entry))
+        (callOf (now (steps .entry)) (call .kind) (call .first) (call .second))
+        (givenOf r (now (journal .exit))) (now (journal .exit)) ⌝ }
 {
-    if kind == 0 {
-        return move_carry::carry(board, journal, a, c);
+    if call.kind == CallCode::CARRY {
+        return move_carry::carry(board, journal, call.first, call.second);
     }
-    if kind == 1 {
-        return turn_part(board, journal, steps, a, c);
+    if call.kind == CallCode::TURN {
+        return turn_part(board, journal, steps, call.first, call.second);
     }
     move_undo::undo(board, journal)
 }
 
-// Stores the steps from place k on.
-fn put_steps(buf: &mut [u32], k: usize, steps: [u8; Board::MAX_EDGES])
+// How many answers numbers of this kind leave: one, or none where the kind has no number.
+fn answer_count(kind: u32) -> usize
+    ensures { λ r. ⌜ ((steps : List ℕ) (a c : ℕ) → r ≡ length (callOf steps kind a c)) ⌝ }
+{
+    if kind <= CallCode::HINT {
+        return 1;
+    }
+    0
+}
+
+// Stores the codes of the steps from place k on.
+fn put_steps(buf: &mut [u32], k: usize, steps: [StepCode; Board::MAX_EDGES])
     requires { ⌜ k ≤ lastPlace + 4 ⌝ }
     ensures { λ _. ⌜ now (buf .exit) ≡ sets (now (buf .entry)) k steps ⌝ }
 {
@@ -99,8 +126,8 @@ fn note(buf: &mut [u32], k: usize, advice: Advice) -> usize
     k + 68
 }
 
-// Makes the calls, one after the other; writes their answers into one buffer, and the moves of the hints into the
-// other.
+// Makes the calls, one after the other, and leaves out what is none; writes their answers into one buffer, and the
+// moves of the hints into the other.
 pub fn run(
     board: Board,
     journal: &mut [[u64; WORDS]; Board::JOURNAL],
@@ -110,14 +137,17 @@ pub fn run(
     hints: &mut [u32],
 ) -> Board
     ensures { λ r. ⌜ wholeOf r (now (journal .exit)) ≡
-        played (wholeOf board (now (journal .entry))) (callsOf (now (steps .entry)) (now (codes .entry))) ⌝ }
+        played (gameOf (wholeOf board (now (journal .entry)))) (callsOf (now (steps .entry)) (now (codes .entry)))
+        .board ⌝ }
     ensures { λ _. ⌜ now (journal .exit) ≡
-        wordsPlayed (wholeOf board (now (journal .entry))) (callsOf (now (steps .entry)) (now (codes .entry)))
+        wordsPlayed (gameOf (wholeOf board (now (journal .entry)))) (callsOf (now (steps .entry)) (now (codes .entry)))
         (now (journal .entry)) ⌝ }
     ensures { λ _. ⌜ now (buf .exit) ≡ sets (now (buf .entry)) 0
-        (answers (wholeOf board (now (journal .entry))) (callsOf (now (steps .entry)) (now (codes .entry)))) ⌝ }
+        (answers (gameOf (wholeOf board (now (journal .entry))))
+        (callsOf (now (steps .entry)) (now (codes .entry)))) ⌝ }
     ensures { λ _. ⌜ now (hints .exit) ≡ noted (now (hints .entry)) 0
-        (hintsOf (wholeOf board (now (journal .entry))) (callsOf (now (steps .entry)) (now (codes .entry)))) ⌝ }
+        (hintsOf (gameOf (wholeOf board (now (journal .entry))))
+        (callsOf (now (steps .entry)) (now (codes .entry)))) ⌝ }
 {
     let mut b = board;
     let mut left = codes.len();
@@ -125,19 +155,23 @@ pub fn run(
     let mut j: usize = 0;
     while left >= 3 {
         let i = codes.len() - left;
-        let kind = codes[i];
-        if kind < 3 {
-            let given = make(b, journal, steps, kind, codes[i + 1], codes[i + 2]);
+        let call = CallCode {
+            kind: codes[i],
+            first: codes[i + 1],
+            second: codes[i + 2],
+        };
+        if call.kind < CallCode::HINT {
+            let given = make(b, journal, steps, call);
             lists::put_word(buf, k, given.answer);
             b = given.board;
-        } else {
+        } else if call.kind == CallCode::HINT {
             let given = solve_next::hint(b, journal);
             lists::put_word(buf, k, given.answer);
             let advice = given.advice;
             j = note(hints, j, advice);
         }
         left -= 3;
-        k += 1;
+        k += answer_count(call.kind);
     }
     b
 }

@@ -9,51 +9,19 @@ use native.Mathlib.Omega.{arith}
 use lib.Dec.{leb, eqb}
 use lib.ListN.{length, set}
 use borrow.Author.Tests.{eq-eqb, ne-eqb}
-use Rattle.lists.specs.Choice.{pick, both}
-use Rattle.lists.proofs.Laws.{eq-or-ne, pick-yes, pick-no, pick-passed}
-use Rattle.board.specs.Limits.{maxEdges, maxMoves}
+use Rattle.lists.proofs.Laws.{eq-or-ne, pick-yes, pick-no}
 use Rattle.board.specs.Whole.{Board}
 use Rattle.board.specs.declared.Network.{Network}
 use Rattle.board.specs.declared.Entry.{Entry}
-use Rattle.board.specs.declared.Move.{Move}
 use Rattle.graph_flows.specs.Trails.{Step}
-use Rattle.move_edges.specs.Incidence.{Incident, PositiveSet}
-use Rattle.move_guard.specs.Guard.{intactIn, playing}
-use Rattle.move_guard.proofs.Facts.{playing-edges, playing-head, playing-flow, playing-demand}
+use Rattle.move_guard.specs.Guard.{playing}
 use Rattle.move_guard.specs.Moved.{Change}
 use Rattle.move_guard.specs.Moved.{moved, answered, unchanged, changed}
 use Rattle.move_guard.proofs.Answers.{answered-yes, answered-no}
 use Rattle.move_guard.proofs.Stores.{withParts, numbered}
 use Rattle.move_guard.proofs.Stores as stores
 use Rattle.move_carry.specs.Opens.{someOpen}
-use Rattle.move_edges.specs.Marking.{singular, isFresh, fresh}
-use Rattle.move_edges.specs.Inner.{ChartedOut}
-use Rattle.move_cycle.specs.Amounts.{amountFrom, amount}
-use Rattle.move_turn.specs.Turns.{stepsRefusal, turnRefusalIn, turnRefusal, turned, turnedIn, turnChange, turnCall}
-use Rattle.move_turn.specs.Inner.{Sound}
-
--- a board in play is sound
-pub playing-sound : (b : Board) → playing b ≡ true → Sound (b .network) (b .flows)
-playing-sound b play = record {
-  room = playing-edges b play;
-  headed = playing-head b play;
-  small = playing-flow b play;
-  asked = λ long j. let d = playing-demand b play long j in omega (arith, d);
-}
-
--- the sets of a sound network chart it
-pub charted-out : (net : Network) (flows leaving : List ℕ) (positive : ℕ) → Sound net flows → length (net .heads) ≡ maxEdges → length flows ≡ maxEdges
-    → Incident (net .tails) leaving → PositiveSet flows positive → ChartedOut (net .tails) (net .heads) flows leaving positive
-charted-out net flows leaving positive sound wide long at is-positive = record { leave = at; is-positive = is-positive; all = long; headed = sound .headed wide }
-
-module _ (b : Board) (w : List Step) where
-  pub refusal-same : turnRefusalIn (playing b) (someOpen b) (b .network) (b .flows) w ≡ turnRefusal b w
-  unfolding turnRefusalIn stepsRefusal turnRefusal singular
-  refusal-same = refl
-
-  pub turned-same : (let t = turnedIn (b .network) (b .flows) (b .marks) (b .places) w in moved b (t .flows) (t .marks) (t .places) (t .entry)) ≡ turned b w
-  unfolding turnedIn turned amount amountFrom fresh isFresh
-  turned-same = refl
+use Rattle.move_turn.specs.Turns.{turnRefusalIn, turnRefusal, turned, turnedIn, turnChange, turnCall}
 
 -- by the number of the refusal
 module _ (play anyOpen : Bool) (net : Network) (flows : List ℕ) (marks : ℕ) (places : List ℕ) (w : List Step) where
@@ -84,25 +52,6 @@ module _ (play anyOpen : Bool) (net : Network) (flows : List ℕ) (marks : ℕ) 
       go (inl z) = ap (λ (c : Change). c .places) (change-accepted z)
       go (inr n) = ap (λ (c : Change). c .places) (change-refused n)
 
--- an accepted turn has passed the first two tests, so the board is in play and the sets have room for the steps
-module _ (play anyOpen : Bool) (net : Network) (flows : List ℕ) where
-  pub accepted-plays : (w : List Step) → turnRefusalIn play anyOpen net flows w ≡ 0 → play ≡ true
-  unfolding turnRefusalIn
-  accepted-plays w h = pick-passed play _ 19 h .0
-
--- whether a carry is open counts on a board in play alone
-pub refusal-in-play : (play anyOpen : Bool) (net : Network) (flows : List ℕ) (w : List Step)
-    → turnRefusalIn play (both play anyOpen) net flows w ≡ turnRefusalIn play anyOpen net flows w
-unfolding turnRefusalIn pick both
-refusal-in-play true anyOpen net flows w = refl
-refusal-in-play false anyOpen net flows w = refl
-
-change-in-play : (play anyOpen : Bool) (net : Network) (flows : List ℕ) (marks : ℕ) (places : List ℕ) (w : List Step)
-    → turnChange play (both play anyOpen) net flows marks places w ≡ turnChange play anyOpen net flows marks places w
-unfolding turnChange
-change-in-play play anyOpen net flows marks places w =
-    ap (λ n. pick (eqb n 0) (turnedIn net flows marks places w) (unchanged n flows marks places)) (refusal-in-play play anyOpen net flows w)
-
 -- what the call changes on a board
 abbrev pub turnMade : Board → List Step → Change
 turnMade b w = turnChange (playing b) (someOpen b) (b .network) (b .flows) (b .marks) (b .places) w
@@ -116,12 +65,10 @@ turn-changes b w = go (eq-or-ne number 0)
 
     go : (number ≡ 0) ⊎ (number ≢ 0) → answered (turnRefusal b w) b (turned b w) ≡ changed b (turnMade b w)
     go (inl z) =
-        answered-yes _ b (turned b w) (sym (refusal-same b w) ∙ z)
-        ∙ ap (λ (n : Board). record { answer = 0; board = n }) (sym (turned-same b w))
+        answered-yes _ b (turned b w) z
         ∙ sym (ap (changed b) (change-accepted _ _ _ _ _ _ w z) ∙ answered-yes _ b _ (ap (λ (c : Change). c .answer) (sym (change-accepted _ _ _ _ _ _ w z)) ∙ change-answer _ _ _ _ _ _ w ∙ z))
     go (inr n) =
-        ap (λ k. answered k b (turned b w)) (sym (refusal-same b w))
-        ∙ answered-no number b (turned b w) n
+        answered-no number b (turned b w) n
         ∙ sym (ap (changed b) (change-refused _ _ _ _ _ _ w n) ∙ answered-no number b _ n)
 
 -- the call's answer by the change
@@ -141,7 +88,3 @@ module _ (b : Board) (w : List Step) (c : Change) (e : c ≡ turnMade b w) where
   pub turn-stored : (j : List Entry) → c .answer ≡ 0 → j ≡ set (b .journal) (b .moves) (c .entry)
       → numbered c (withParts b (c .flows) (c .marks) (b .places) j (b .moves + 1)) ≡ turnCall b w
   turn-stored j h e = rw e (turn-change-made h)
-
-past-room : (net : Network) (acyclic flows places : List ℕ) (moves : ℕ) (x y : Move) → leb moves maxMoves ≡ false → intactIn net acyclic flows places moves x ≡ intactIn net acyclic flows places moves y
-unfolding both
-past-room net acyclic flows places moves x y h = rw h

@@ -2,16 +2,14 @@
 -- its words.
 use mathlib.Core.Path.{_≡_, refl, sym, ap, _∙_}
 use mathlib.Core.Bool.{Bool, true, false}
-use mathlib.Core.List.{List}
+use mathlib.Core.List.{List, []}
 use mathlib.Core.Logic.{_≢_}
 use Prim.Native.Nat.{ℕ, _+_, _<_, _^_}
 use native.Mathlib.Omega.{arith}
 use lib.ListN.{length, set}
-use Rattle.lists.specs.Choice.{pick}
 use Rattle.lists.proofs.Laws.{pick-no, pick-passed}
 use Rattle.sets.specs.Sets.{joined}
 use Rattle.sets.specs.Inner.{setWidth}
-use Rattle.board.specs.Limits.{maxEdges, maxTerminals}
 use Rattle.board.specs.Record.{blank}
 use Rattle.board.specs.Whole.{Board}
 use Rattle.board.specs.declared.Entry.{Entry}
@@ -28,42 +26,42 @@ use Rattle.move_guard.proofs.Lent.{words-stored, words-kept}
 use Rattle.move_edges.specs.Incidence.{Incident, PositiveSet}
 use Rattle.move_edges.proofs.Following.{fresh-same}
 use Rattle.move_carry.specs.Opens.{someOpen, someOpenIn}
-use Rattle.move_carry.proofs.Same.{some-same}
-use Rattle.move_cycle.specs.Steps.{stepsOf, gather, every}
+use Rattle.move_cycle.specs.Steps.{codeSteps, gather, every}
 use Rattle.move_cycle.specs.Amounts.{amountIn}
 use Rattle.move_cycle.specs.Shifts.{shifted}
 use Rattle.move_cycle.specs.Inner.{InSets}
-use Rattle.move_turn.specs.declared.Frame.{Frame}
+use Rattle.move_carry.specs.declared.Frame.{Frame}
+use Rattle.move_carry.specs.Frames.{frameOf, netOf, bareOf}
 use Rattle.move_turn.specs.declared.StepRule.the-variants.{OnBoard}
-use Rattle.move_turn.specs.Turns.{meetsOn, stepsRefusal, turnRefusalIn, turnedIn, turnChange, turnCall}
-use Rattle.move_turn.specs.Inner.{Sound}
-use Rattle.move_turn.specs.Lent.{frameOf, netOf, bareOf, augmentedBy, Turnable}
+use Rattle.move_turn.specs.Turns.{meetsIn, turnRefusalIn, turnedIn, turnChange, turnCall}
+use Rattle.move_guard.specs.Bounds.{InBounds}
+use Rattle.move_edges.specs.Marking.{singularIn}
+use Rattle.move_turn.specs.Lent.{augmentedBy, Turnable}
 use Rattle.move_turn.proofs.Passing.{in-sets}
-use Rattle.move_turn.proofs.Changes.{charted-out, change-accepted, change-refused, turnMade, turn-changes, turn-refused, turn-stored}
+use Rattle.move_turn.proofs.Changes.{change-accepted, change-refused, turnMade, turn-changes, turn-refused, turn-stored}
 
--- a sound network can be turned on
-pub sound-turnable : (net : Network) (flows leaving : List ℕ) (marks positive : ℕ) → Sound net flows → length (net .heads) ≡ maxEdges → length flows ≡ maxEdges
-    → length (net .demands) ≡ maxTerminals → Incident (net .tails) leaving → PositiveSet flows positive
+-- what a turn needs holds of the parts of a board in play
+pub bounds-turnable : (net : Network) (flows places leaving : List ℕ) (marks positive : ℕ) → InBounds net flows places → Incident (net .tails) leaving → PositiveSet flows positive
     → Turnable (frameOf net marks positive) (net .tails) (net .heads) (net .demands) leaving flows
-sound-turnable net flows leaving marks positive sound wide long asked at is-positive = record {
-  room = sound .room;
-  chart = charted-out net flows leaving positive sound wide long at is-positive;
-  small = sound .small long;
-  asked = sound .asked asked;
+bounds-turnable net flows places leaving marks positive bounds leave is-positive = record {
+  room = bounds .edges;
+  chart = record { leave = leave; is-positive = is-positive; all = bounds .all; headed = bounds .headed };
+  small = bounds .small;
+  asked = bounds .asked;
 }
 
 module _ (frame : Frame) (tails heads demands leaving flows : List ℕ) (can : Turnable frame tails heads demands leaving flows) where
-  -- the tests of the steps are those of the turn
-  pub turn-tests : (anyOpen : Bool) (w : List Step)
-      → stepsRefusal anyOpen (frame .edges) tails heads flows (frame .vertices) w ≡ turnRefusalIn true anyOpen (netOf frame tails heads demands) flows w
-  unfolding turnRefusalIn pick
+  -- no test of the steps looks at the demands
+  turn-tests : (anyOpen : Bool) (w : List Step)
+      → turnRefusalIn true anyOpen (netOf frame tails heads []) flows w ≡ turnRefusalIn true anyOpen (netOf frame tails heads demands) flows w
+  unfolding turnRefusalIn
   turn-tests anyOpen w = refl
 
-  pub turn-sets : (anyOpen : Bool) (s : List ℕ) → stepsRefusal anyOpen (frame .edges) tails heads flows (frame .vertices) (stepsOf s) ≡ 0 → InSets s
-  unfolding stepsRefusal
+  pub turn-sets : (anyOpen : Bool) (s : List ℕ) → turnRefusalIn true anyOpen (netOf frame tails heads []) flows (codeSteps s) ≡ 0 → InSets s
+  unfolding turnRefusalIn
   turn-sets anyOpen s h =
-      in-sets (frame .edges) tails heads flows (frame .vertices) (can .room) s
-      (pick-passed (every (meetsOn OnBoard (frame .edges) tails heads flows (frame .vertices)) (stepsOf s)) _ 5 h .0)
+      in-sets (frame .edges) flows (singularIn tails heads flows (frame .vertices)) (can .room) s
+      (pick-passed (every (meetsIn OnBoard (frame .edges) flows (singularIn tails heads flows (frame .vertices))) (codeSteps s)) _ 5 (pick-passed true _ 19 h .1) .0)
 
   -- an accepted turn by the sets
   augmented : frame .positive < 2 ^ setWidth → (places : List ℕ) (w : List Step)
@@ -80,7 +78,7 @@ module _ (frame : Frame) (tails heads demands leaving flows : List ℕ) (can : T
       (fresh-same tails heads flows leaving (frame .positive) (can .chart) fits (frame .vertices) (frame .marks))
 
   module _ (anyOpen : Bool) (places : List ℕ) (w : List Step) (number : ℕ)
-      (h : number ≡ stepsRefusal anyOpen (frame .edges) tails heads flows (frame .vertices) w) where
+      (h : number ≡ turnRefusalIn true anyOpen (netOf frame tails heads []) flows w) where
     pub turn-not-made : (entry : Entry) → number ≢ 0 → entry ≡ blank
         → record { answer = number; flows = flows; marks = frame .marks; places = places; entry = entry }
         ≡ turnChange true anyOpen (netOf frame tails heads demands) flows (frame .marks) places w
@@ -97,7 +95,7 @@ module _ (frame : Frame) (tails heads demands leaving flows : List ℕ) (can : T
 -- a network and its bare one
 pub turn-of-bare : (net : Network) (play anyOpen : Bool) (flows : List ℕ) (marks : ℕ) (places : List ℕ) (w : List Step)
     → turnChange play anyOpen (bareOf net) flows marks places w ≡ turnChange play anyOpen net flows marks places w
-unfolding turnChange turnRefusalIn turnedIn stepsRefusal
+unfolding turnChange turnRefusalIn turnedIn
 turn-of-bare net play anyOpen flows marks places w = refl
 
 module _ (b : Board) (w : List Step) where
@@ -111,7 +109,7 @@ module _ (b : Board) (w : List Step) where
 
   pub open-made : (c : Change) (anyOpen : Bool) → playing b ≡ true → anyOpen ≡ someOpenIn (b .network) (b .flows) (b .marks) (b .places)
       → c ≡ turnChange true anyOpen (b .network) (b .flows) (b .marks) (b .places) w → c ≡ turnMade b w
-  open-made c anyOpen play o e = rw (play, ← some-same b, ← o) e
+  open-made c anyOpen play o e = rw (play, ← o) e
 
   -- the call and its words by the change
   module _ (c : Change) (e : c ≡ turnMade b w) (words : List (List ℕ)) where

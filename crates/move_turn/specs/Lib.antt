@@ -1,3 +1,2 @@
 pub mod Turns
-pub mod Inner
 pub mod Lent

@@ -3,9 +3,9 @@ use mathlib.Core.Bool.{Bool, true, false}
 use mathlib.Core.List.{List}
 use Prim.Native.Nat.{ℕ}
 use lib.Dec.{ltb, eqb}
-use lib.ListN.{length, getD}
-use Rattle.lists.specs.Choice.{pick}
-use Rattle.sets.specs.Sets.{joined, collect}
+use lib.ListN.{getD}
+use Rattle.lists.specs.Choice.{pick, unless, when}
+use Rattle.sets.specs.Sets.{none, joined}
 use Rattle.board.specs.Whole.{Board}
 use Rattle.board.specs.declared.Network.{Network}
 use Rattle.board.specs.Whole.{Played}
@@ -13,13 +13,13 @@ use Rattle.board.specs.declared.Move.the-variants.{Turn}
 use Rattle.graph_flows.specs.Trails.{Step, edgeOf}
 use Rattle.move_guard.specs.Guard.{playing}
 use Rattle.move_guard.specs.Moved.{Change}
-use Rattle.move_guard.specs.Moved.{moved, answered, unchanged}
+use Rattle.move_guard.specs.Moved.{afterChange, answered, unchanged}
 use Rattle.move_carry.specs.Opens.{someOpen}
 use Rattle.move_cycle.specs.Steps.{isUp, every, isCycle, gather}
 use Rattle.move_turn.specs.declared.StepRule.{StepRule}
 use Rattle.move_turn.specs.declared.StepRule.the-variants.{OnBoard, Positive, UpSingular}
-use Rattle.move_edges.specs.Marking.{singularIn, singular, isFreshIn, fresh}
-use Rattle.move_cycle.specs.Amounts.{amountIn, amount}
+use Rattle.move_edges.specs.Marking.{singularIn, singular, freshIn}
+use Rattle.move_cycle.specs.Amounts.{amountIn}
 use Rattle.move_cycle.specs.Shifts.{shifted}
 
 -- 6, 25 and 26, of one step: a channel that the board has; a wet one; "up-steps use single channels". By the count of edges, the
@@ -32,60 +32,46 @@ meetsIn UpSingular edges flows single s = pick (isUp s) (single (edgeOf s)) true
 abbrev pub meets : StepRule → Board → Step → Bool
 meets rule b s = meetsIn rule (b .network .edges) (b .flows) (singular b) s
 
--- "Turn: 20, 6, 7, 24, 25, 26"
-unfoldable pub turnRefusal : Board → List Step → ℕ
-turnRefusal b w =
-    pick (playing b)
-    (pick (every (meets OnBoard b) w)
-    (pick (isCycle (b .network .tails) (b .network .heads) w)
-    (pick (someOpen b) 24 (pick (every (meets Positive b) w) (pick (every (meets UpSingular b) w) 0 26) 25))
-    7)
-    6)
-    20
-
--- the rules of a step, and the tests of the steps in their order, by the lists of a network with these flows; `anyOpen` says whether a carry is open
-abbrev pub meetsOn : StepRule → ℕ → List ℕ → List ℕ → List ℕ → ℕ → Step → Bool
-meetsOn rule edges tails heads flows vertices s = meetsIn rule edges flows (singularIn tails heads flows vertices) s
-
-unfoldable pub stepsRefusal : Bool → ℕ → List ℕ → List ℕ → List ℕ → ℕ → List Step → ℕ
-stepsRefusal anyOpen edges tails heads flows vertices w =
-    pick (every (meetsOn OnBoard edges tails heads flows vertices) w)
-    (pick (isCycle tails heads w)
-    (pick anyOpen 24 (pick (every (meetsOn Positive edges tails heads flows vertices) w) (pick (every (meetsOn UpSingular edges tails heads flows vertices) w) 0 26) 25))
-    7)
-    6
-
--- `turnRefusal` by the parts of a board: whether it is in play, whether a carry is open, the network and the flows
+-- "Turn: 20, 6, 7, 24, 25, 26", by the parts of a board: whether it is in play, whether a carry is open, the network and the flows
 unfoldable pub turnRefusalIn : Bool → Bool → Network → List ℕ → List Step → ℕ
-unfolding stepsRefusal
-turnRefusalIn play anyOpen net flows w = pick play (stepsRefusal anyOpen (net .edges) (net .tails) (net .heads) flows (net .vertices) w) 20
+turnRefusalIn inPlay anyOpen net flows w =
+    let single = singularIn (net .tails) (net .heads) flows (net .vertices) in
+    unless inPlay 20
+    (unless (every (meetsIn OnBoard (net .edges) flows single) w) 6
+    (unless (isCycle (net .tails) (net .heads) w) 7
+    (when anyOpen 24
+    (unless (every (meetsIn Positive (net .edges) flows single) w) 25
+    (unless (every (meetsIn UpSingular (net .edges) flows single) w) 26 0)))))
 
 -- the marks of before with the new ones, and the flows changed by the amount; the entry holds the amount and the sets
-unfoldable pub turned : Board → List Step → Board
-turned b w =
-    moved b (shifted (amount b w) (gather false 0 w) (gather true 0 w) (b .flows)) (joined (b .marks) (fresh b)) (b .places)
-    (record { step = Turn (record { amount = amount b w; down = gather false 0 w; up = gather true 0 w; marked = fresh b }) })
-
--- the call
-unfoldable pub turnCall : Board → List Step → Played
-turnCall b w = answered (turnRefusal b w) b (turned b w)
-
--- the amount and the new marks by the parts of a board
-abbrev pub amountOn : Network → List ℕ → List ℕ → List Step → ℕ
-amountOn net flows places w = amountIn (net .heads) flows places (net .demands) (net .terminals) 0 w
-
-abbrev pub freshOn : Network → List ℕ → ℕ → ℕ
-freshOn net flows marks = collect (isFreshIn (net .tails) (net .heads) flows (net .vertices) marks) 0 0 (length flows)
-
--- `turned` by the parts of a board: what an accepted turn changes
 unfoldable pub turnedIn : Network → List ℕ → ℕ → List ℕ → List Step → Change
-turnedIn net flows marks places w = record {
-  answer = 0;
-  flows = shifted (amountOn net flows places w) (gather false 0 w) (gather true 0 w) flows;
-  marks = joined marks (freshOn net flows marks);
-  places = places;
-  entry = record { step = Turn (record { amount = amountOn net flows places w; down = gather false 0 w; up = gather true 0 w; marked = freshOn net flows marks }) };
-}
+turnedIn net flows marks places w =
+    let amount = amountIn (net .heads) flows places (net .demands) (net .terminals) 0 w in
+    let fresh = freshIn (net .tails) (net .heads) flows (net .vertices) marks in
+    record {
+      answer = 0;
+      flows = shifted amount (gather false none w) (gather true none w) flows;
+      marks = joined marks fresh;
+      places = places;
+      entry = record { step = Turn (record { amount = amount; down = gather false none w; up = gather true none w; marked = fresh }) };
+    }
+
+-- on a board
+module _ (b : Board) where
+  abbrev pub turnRefusal : List Step → ℕ
+  turnRefusal = turnRefusalIn (playing b) (someOpen b) (b .network) (b .flows)
+
+  abbrev pub turned : List Step → Board
+  turned w = afterChange b (turnedIn (b .network) (b .flows) (b .marks) (b .places) w)
+
+  -- the call
+  unfoldable pub turnCall : List Step → Played
+  turnCall w = answered (turnRefusal w) b (turned w)
+
+-- the number of a turn that is refused by its greatest edge alone: it has more steps than there are edges, so that one comes twice and they are no cycle, or an
+-- edge that the board has not
+unfoldable pub turnUnkept : Board → ℕ → ℕ
+turnUnkept b greatest = unless (playing b) 20 (unless (ltb greatest (b .network .edges)) 6 7)
 
 -- `turnCall` by the parts of a board: what the call changes
 unfoldable pub turnChange : Bool → Bool → Network → List ℕ → ℕ → List ℕ → List Step → Change

@@ -1,31 +1,32 @@
 // The call `turn`.
 use board::Augmentation;
 use board::Board;
-use board::EdgeSet;
 use board::Entry;
 use board::Move;
-use board::Network;
 use board::Played;
 use journal::WORDS;
+use move_carry::Frame;
+use move_cycle::StepCode;
+use sets::EdgeSet;
 ghost use mathlib.Core.Path.{_≡_};
 ghost use mathlib.Core.Bool.{true};
+ghost use mathlib.Core.List.{[]};
 ghost use Prim.Native.Nat.{_-_, _≤_, _<_};
 ghost use lib.Dec.{ltb};
-ghost use lib.ListN.{getD};
-ghost use Rattle.lists.specs.Choice.{pick, both};
+ghost use lib.ListN.{length, getD, take};
+ghost use Rattle.sets.specs.Sets.{setOf};
+ghost use Rattle.sets.specs.Inner.{setsOf};
+ghost use Rattle.lists.specs.Choice.{pick};
 ghost use Rattle.graph_flows.specs.Trails.{edgeOf};
 ghost use Rattle.board.specs.Limits.{maxEdges};
-ghost use Rattle.move_carry.specs.Opens.{someOpenIn};
-ghost use Rattle.move_cycle.specs.Steps.{stepOf, stepsOf, isUp, every};
-ghost use Rattle.move_cycle.specs.Inner.{InSets};
-ghost use Rattle.move_edges.specs.Incidence.{Incident, PositiveSet};
+ghost use Rattle.move_cycle.specs.Steps.{stepsOf, codeStep, codeSteps, isUp, every};
+ghost use Rattle.move_cycle.specs.Inner.{InSets, AtMost, greatestEdge};
 ghost use Rattle.move_edges.specs.Marking.{singularBy};
 ghost use Rattle.move_edges.specs.Inner.{ChartedOut};
-ghost use Rattle.move_turn.specs.Turns.{meetsIn, stepsRefusal, turnRefusalIn, turnChange, turnCall};
-ghost use Rattle.move_turn.specs.Inner.{Sound};
-ghost use Rattle.move_turn.specs.Lent.{netOf, changeOf, augmentedBy, Turnable};
+ghost use Rattle.move_turn.specs.Turns.{meetsIn, turnRefusalIn, turnChange, turnCall, turnUnkept};
+ghost use Rattle.move_carry.specs.Frames.{netOf};
+ghost use Rattle.move_turn.specs.Lent.{changeOf, augmentedBy, Turnable};
 ghost use Rattle.journal.specs.Words.{wholeOf, givenOf, wordsAfter};
-ghost use Rattle.move_cycle.specs.Inner.{AtMost};
 ghost use Rattle.board.specs.Limits.{maxTotal};
 
 // The rules that each step of a turn keeps.
@@ -33,17 +34,6 @@ pub enum StepRule {
     OnBoard,
     Positive,
     UpSingular,
-}
-
-// The numbers that a move goes by, beside the lists of its board: the counts, the source, the marked edges and the
-// positive ones.
-pub struct Frame {
-    pub vertices: u32,
-    pub edges: u32,
-    pub terminals: u32,
-    pub source: u32,
-    pub marks: EdgeSet,
-    pub positive: EdgeSet,
 }
 
 // What a turn gives beside the flows that it changes.
@@ -54,15 +44,15 @@ pub struct Augmented {
 }
 
 // The board has the edge.
-fn on_board(edges: u32, s: u8) -> bool
-    ensures { λ r. ⌜ r ≡ ltb (edgeOf (stepOf s)) edges ⌝ }
+fn on_board(edges: u32, s: StepCode) -> bool
+    ensures { λ r. ⌜ r ≡ ltb (edgeOf (codeStep s)) edges ⌝ }
 {
     move_cycle::edge_of(s) < edges
 }
 
 // The edge has a flow.
-fn has_flow(flows: &[u32], s: u8) -> bool
-    ensures { λ r. ⌜ r ≡ ltb 0 (getD (now (flows .entry)) (edgeOf (stepOf s)) 0) ⌝ }
+fn has_flow(flows: &[u32], s: StepCode) -> bool
+    ensures { λ r. ⌜ r ≡ ltb 0 (getD (now (flows .entry)) (edgeOf (codeStep s)) 0) ⌝ }
 {
     let e = move_cycle::edge_of(s) as usize;
     0 < lists::word_at(flows, e)
@@ -74,10 +64,11 @@ fn up_singular<'a>(
     leaving: &'a [EdgeSet],
     positive: EdgeSet,
     vertices: u32,
-    s: u8,
+    s: StepCode,
 ) -> bool
-    ensures { λ r. ⌜ r ≡ pick (isUp (stepOf s))
-        (singularBy (now (heads .entry)) (now (leaving .entry)) positive vertices (edgeOf (stepOf s))) true ⌝ }
+    ensures { λ r. ⌜ r ≡ pick (isUp (codeStep s))
+        (singularBy (now (heads .entry)) (setsOf (now (leaving .entry))) (setOf positive) vertices
+        (edgeOf (codeStep s))) true ⌝ }
 {
     if !move_cycle::is_up(s) {
         return true;
@@ -89,51 +80,39 @@ fn up_singular<'a>(
 // Whether a step keeps a rule.
 fn meets<'a>(
     rule: StepRule,
-    edges: u32,
+    frame: Frame,
     heads: &'a [u32],
-    flows: &'a [u32],
     leaving: &'a [EdgeSet],
-    positive: EdgeSet,
-    vertices: u32,
-    s: u8,
+    flows: &'a [u32],
+    s: StepCode,
 ) -> bool
-    ensures { λ r. ⌜ r ≡ meetsIn rule edges (now (flows .entry))
-        (singularBy (now (heads .entry)) (now (leaving .entry)) positive vertices) (stepOf s) ⌝ }
+    ensures { λ r. ⌜ r ≡ meetsIn rule (frame .edges) (now (flows .entry))
+        (singularBy (now (heads .entry)) (setsOf (now (leaving .entry))) (setOf (frame .positive)) (frame .vertices))
+        (codeStep s) ⌝ }
 {
     match rule {
-        StepRule::OnBoard => on_board(edges, s),
+        StepRule::OnBoard => on_board(frame.edges, s),
         StepRule::Positive => has_flow(flows, s),
-        StepRule::UpSingular => up_singular(heads, leaving, positive, vertices, s),
+        StepRule::UpSingular => up_singular(heads, leaving, frame.positive, frame.vertices, s),
     }
 }
 
 // Whether every step keeps a rule.
 fn all_meet<'a>(
     rule: StepRule,
-    edges: u32,
+    frame: Frame,
     heads: &'a [u32],
-    flows: &'a [u32],
     leaving: &'a [EdgeSet],
-    positive: EdgeSet,
-    vertices: u32,
-    steps: &'a [u8],
+    flows: &'a [u32],
+    steps: &'a [StepCode],
 ) -> bool
-    ensures { λ r. ⌜ r ≡ every (meetsIn rule edges (now (flows .entry))
-        (singularBy (now (heads .entry)) (now (leaving .entry)) positive vertices))
-        (stepsOf (now (steps .entry))) ⌝ }
+    ensures { λ r. ⌜ r ≡ every (meetsIn rule (frame .edges) (now (flows .entry))
+        (singularBy (now (heads .entry)) (setsOf (now (leaving .entry))) (setOf (frame .positive)) (frame .vertices)))
+        (codeSteps (now (steps .entry))) ⌝ }
 {
     let mut i: usize = 0;
     while i < steps.len() {
-        if !meets(
-            rule,
-            edges,
-            heads,
-            flows,
-            leaving,
-            positive,
-            vertices,
-            steps[i],
-        ) {
+        if !meets(rule, frame, heads, leaving, flows, steps[i]) {
             return false;
         }
         i += 1;
@@ -141,33 +120,22 @@ fn all_meet<'a>(
     true
 }
 
-// 6, 7, 24, 25 or 26, in this order; 0 where the steps are accepted.
-fn steps_refusal<'a>(
+// 6, 7, 24, 25 or 26, in this order, on a board in play; 0 where the steps are accepted.
+pub fn refusal_in<'a>(
     any_open: bool,
-    edges: u32,
+    frame: Frame,
     tails: &'a [u32],
     heads: &'a [u32],
-    flows: &'a [u32],
     leaving: &'a [EdgeSet],
-    positive: EdgeSet,
-    vertices: u32,
-    steps: &'a [u8],
+    flows: &'a [u32],
+    steps: &'a [StepCode],
 ) -> u32
-    requires { ⌜ edges ≤ maxEdges ⌝ }
-    requires { ⌜ ChartedOut (now tails) (now heads) (now flows) (now leaving) positive ⌝ }
-    ensures { λ r. ⌜ r ≡ stepsRefusal «any_open» edges (now (tails .entry)) (now (heads .entry))
-        (now (flows .entry)) vertices (stepsOf (now (steps .entry))) ⌝ }
+    requires { ⌜ frame .edges ≤ maxEdges ⌝ }
+    requires { ⌜ ChartedOut (now tails) (now heads) (now flows) (setsOf (now leaving)) (setOf (frame .positive)) ⌝ }
+    ensures { λ r. ⌜ r ≡ turnRefusalIn true «any_open» (netOf frame (now (tails .entry)) (now (heads .entry)) [])
+        (now (flows .entry)) (codeSteps (now (steps .entry))) ⌝ }
 {
-    if !all_meet(
-        StepRule::OnBoard,
-        edges,
-        heads,
-        flows,
-        leaving,
-        positive,
-        vertices,
-        steps,
-    ) {
+    if !all_meet(StepRule::OnBoard, frame, heads, leaving, flows, steps) {
         return 6;
     }
     if !move_cycle::is_cycle(tails, heads, steps) {
@@ -176,100 +144,13 @@ fn steps_refusal<'a>(
     if any_open {
         return 24;
     }
-    if !all_meet(
-        StepRule::Positive,
-        edges,
-        heads,
-        flows,
-        leaving,
-        positive,
-        vertices,
-        steps,
-    ) {
+    if !all_meet(StepRule::Positive, frame, heads, leaving, flows, steps) {
         return 25;
     }
-    if !all_meet(
-        StepRule::UpSingular,
-        edges,
-        heads,
-        flows,
-        leaving,
-        positive,
-        vertices,
-        steps,
-    ) {
+    if !all_meet(StepRule::UpSingular, frame, heads, leaving, flows, steps) {
         return 26;
     }
     0
-}
-
-// 20 where the board is not in play, or what the steps are refused with. The sets are of the edges that leave each
-// vertex, and of the positive ones.
-fn refusal<'a>(
-    in_play: bool,
-    any_open: bool,
-    net: Network,
-    flows: [u32; Board::MAX_EDGES],
-    leaving: &'a [EdgeSet],
-    positive: EdgeSet,
-    steps: &'a [u8],
-) -> u32
-    requires { ⌜ («in_play» ≡ true → Sound net flows) ⌝ }
-    requires { ⌜ Incident (net .tails) (now leaving) ⌝ }
-    requires { ⌜ PositiveSet flows positive ⌝ }
-    ensures { λ r. ⌜ r ≡ turnRefusalIn «in_play» «any_open» net flows (stepsOf (now (steps .entry))) ⌝ }
-{
-    if !in_play {
-        return 20;
-    }
-    steps_refusal(
-        any_open,
-        net.edges,
-        &net.tails,
-        &net.heads,
-        &flows,
-        leaving,
-        positive,
-        net.vertices,
-        steps,
-    )
-}
-
-// Whether the board is in play and a carry is open. The search runs over the network's own counts, and so on a board in
-// play alone, whose counts are within the limits.
-fn open_in_play<'a>(
-    in_play: bool,
-    net: Network,
-    flows: &'a [u32],
-    marks: EdgeSet,
-    places: &'a [u32],
-) -> bool
-    ensures { λ r. ⌜ r ≡ both «in_play» (someOpenIn net (now (flows .entry)) marks (now (places .entry))) ⌝ }
-{
-    if !in_play {
-        return false;
-    }
-    move_carry::some_open_in(net, flows, marks, places)
-}
-
-// The same of the parts of a board; `in_play` says whether the board is in play.
-pub fn turn_refusal_in<'a>(
-    in_play: bool,
-    net: Network,
-    flows: [u32; Board::MAX_EDGES],
-    marks: EdgeSet,
-    places: &'a [u32],
-    steps: &'a [u8],
-) -> u32
-    requires { ⌜ («in_play» ≡ true → Sound net flows) ⌝ }
-    ensures { λ r. ⌜ r ≡ turnRefusalIn «in_play» (both «in_play» (someOpenIn net flows marks (now (places .entry))))
-        net flows (stepsOf (now (steps .entry))) ⌝ }
-{
-    let any_open = open_in_play(in_play, net, &flows, marks, places);
-    let tails = net.tails;
-    let leaving = move_edges::at_vertices(tails);
-    let positive = move_edges::positive(&flows);
-    refusal(in_play, any_open, net, flows, &leaving, positive, steps)
 }
 
 // Makes an accepted turn on the flows.
@@ -279,15 +160,16 @@ fn augment<'a>(
     demands: &'a [u32],
     leaving: &'a [EdgeSet],
     places: &'a [u32],
-    steps: &'a [u8],
+    steps: &'a [StepCode],
     flows: &mut [u32],
 ) -> Augmented
     requires { ⌜ AtMost maxTotal (now flows) ⌝ }
     requires { ⌜ AtMost maxTotal (now demands) ⌝ }
     requires { ⌜ InSets (now steps) ⌝ }
     ensures { λ r. ⌜ changeOf r (now (flows .exit)) (now (places .entry)) ≡
-        augmentedBy frame (now (heads .entry)) (now (demands .entry)) (now (leaving .entry)) (now (flows .entry))
-        (now (places .entry)) (stepsOf (now (steps .entry))) ⌝ }
+        augmentedBy frame (now (heads .entry)) (now (demands .entry)) (setsOf (now (leaving .entry)))
+        (now (flows .entry))
+        (now (places .entry)) (codeSteps (now (steps .entry))) ⌝ }
 {
     let amount = move_cycle::least_allowed(heads, flows, places, demands, frame.terminals, steps);
     let down = move_cycle::gather(false, steps);
@@ -319,25 +201,15 @@ pub fn change<'a>(
     demands: &'a [u32; Board::MAX_TERMINALS],
     leaving: &'a [EdgeSet],
     places: &'a [u32; Board::MAX_TERMINALS],
-    steps: &'a [u8],
+    steps: &'a [StepCode],
     flows: &mut [u32; Board::MAX_EDGES],
 ) -> Augmented
-    requires { ⌜ Turnable frame (now tails) (now heads) (now demands) (now leaving) (now flows) ⌝ }
+    requires { ⌜ Turnable frame (now tails) (now heads) (now demands) (setsOf (now leaving)) (now flows) ⌝ }
     ensures { λ r. ⌜ changeOf r (now (flows .exit)) (now (places .entry)) ≡
         turnChange true «any_open» (netOf frame (now (tails .entry)) (now (heads .entry)) (now (demands .entry)))
-        (now (flows .entry)) (frame .marks) (now (places .entry)) (stepsOf (now (steps .entry))) ⌝ }
+        (now (flows .entry)) (setOf (frame .marks)) (now (places .entry)) (codeSteps (now (steps .entry))) ⌝ }
 {
-    let number = steps_refusal(
-        any_open,
-        frame.edges,
-        tails,
-        heads,
-        flows,
-        leaving,
-        frame.positive,
-        frame.vertices,
-        steps,
-    );
+    let number = refusal_in(any_open, frame, tails, heads, leaving, flows, steps);
     if number != 0 {
         let blank = Entry::blank();
         return Augmented {
@@ -349,12 +221,16 @@ pub fn change<'a>(
     augment(frame, heads, demands, leaving, places, steps, flows)
 }
 
-// Augments along the cycle of the steps.
-pub fn turn(board: Board, journal: &mut [[u64; WORDS]; Board::JOURNAL], steps: &[u8]) -> Played
+// Augments along the cycle of the steps, given by their codes.
+pub fn turn_steps(
+    board: Board,
+    journal: &mut [[u64; WORDS]; Board::JOURNAL],
+    steps: &[StepCode],
+) -> Played
     ensures { λ r. ⌜ givenOf r (now (journal .exit)) ≡
-        turnCall (wholeOf board (now (journal .entry))) (stepsOf (now (steps .entry))) ⌝ }
+        turnCall (wholeOf board (now (journal .entry))) (codeSteps (now (steps .entry))) ⌝ }
     ensures { λ _. ⌜ now (journal .exit) ≡ wordsAfter (board .moves)
-        (turnCall (wholeOf board (now (journal .entry))) (stepsOf (now (steps .entry))) .board)
+        (turnCall (wholeOf board (now (journal .entry))) (codeSteps (now (steps .entry))) .board)
         (now (journal .entry)) ⌝ }
 {
     if !move_guard::playing(board, journal) {
@@ -366,11 +242,11 @@ pub fn turn(board: Board, journal: &mut [[u64; WORDS]; Board::JOURNAL], steps: &
     let net = board.network;
     let mut flows = board.flows;
     let places = board.places;
-    let any_open = move_carry::some_open_in(net, &flows, board.marks, &places);
     let tails = net.tails;
     let heads = net.heads;
     let demands = net.demands;
     let leaving = move_edges::at_vertices(tails);
+    let entering = move_edges::at_vertices(heads);
     let positive = move_edges::positive(&flows);
     let frame = Frame {
         vertices: net.vertices,
@@ -380,8 +256,9 @@ pub fn turn(board: Board, journal: &mut [[u64; WORDS]; Board::JOURNAL], steps: &
         marks: board.marks,
         positive: positive,
     };
+    let found = solve_carry::open_carry(frame, &heads, &demands, &entering, &flows, &places);
     let made = change(
-        any_open,
+        found.terminal < net.terminals,
         frame,
         &tails,
         &heads,
@@ -407,4 +284,68 @@ pub fn turn(board: Board, journal: &mut [[u64; WORDS]; Board::JOURNAL], steps: &
         answer: 0,
         board: next,
     }
+}
+
+// What a turn is refused with whose steps are more than a board has edges, or one of whose edges is too large for a
+// code:
+// 20, 6 or 7, by the greatest edge alone.
+pub fn turn_unkept(board: Board, journal: &[[u64; WORDS]; Board::JOURNAL], greatest: u32) -> u32
+    ensures { λ r. ⌜ r ≡ turnUnkept (wholeOf board (now (journal .entry))) greatest ⌝ }
+{
+    if !move_guard::playing(board, journal) {
+        return 20;
+    }
+    let net = board.network;
+    if greatest < net.edges { 7 } else { 6 }
+}
+
+// The greatest edge of the steps of bytes, 0 for none.
+fn greatest_edge(steps: &[u8]) -> u32
+    ensures { λ r. ⌜ r ≡ greatestEdge (stepsOf (now (steps .entry))) ⌝ }
+{
+    let mut most: u32 = 0;
+    let mut left = steps.len();
+    while 0 < left {
+        left -= 1;
+        let edge = move_cycle::edge_of(move_cycle::decoded(steps[left]));
+        if most <= edge {
+            most = edge;
+        }
+    }
+    most
+}
+
+// The codes of the steps of bytes, in the first places.
+fn codes_of(steps: &[u8]) -> [StepCode; Board::MAX_EDGES]
+    requires { ⌜ length (now steps) ≤ maxEdges ⌝ }
+    ensures { λ r. ⌜ codeSteps (take (length (now (steps .entry))) r) ≡ stepsOf (now (steps .entry)) ⌝ }
+{
+    let mut codes: [StepCode; Board::MAX_EDGES] = [0; Board::MAX_EDGES];
+    let mut i: usize = 0;
+    while i < steps.len() {
+        let code = move_cycle::decoded(steps[i]);
+        codes[i] = code;
+        i += 1;
+    }
+    codes
+}
+
+// Augments along the cycle of the steps, a byte each.
+pub fn turn(board: Board, journal: &mut [[u64; WORDS]; Board::JOURNAL], steps: &[u8]) -> Played
+    ensures { λ r. ⌜ givenOf r (now (journal .exit)) ≡
+        turnCall (wholeOf board (now (journal .entry))) (stepsOf (now (steps .entry))) ⌝ }
+    ensures { λ _. ⌜ now (journal .exit) ≡ wordsAfter (board .moves)
+        (turnCall (wholeOf board (now (journal .entry))) (stepsOf (now (steps .entry))) .board)
+        (now (journal .entry)) ⌝ }
+{
+    if Board::MAX_EDGES < steps.len() {
+        let greatest = greatest_edge(steps);
+        let number = turn_unkept(board, journal, greatest);
+        return Played {
+            answer: number,
+            board: board,
+        };
+    }
+    let codes = codes_of(steps);
+    turn_steps(board, journal, &codes[..steps.len()])
 }

@@ -1,10 +1,10 @@
 -- A turn one step longer. While there is a place for it the step goes behind those that the form keeps; the first step too many is counted, and later ones
--- change nothing but the greatest edge. A byte gives back its step where its edge is below 128, and the greatest edge tells whether all are.
-use mathlib.Core.Path.{_≡_, refl, ap, _∙_}
-use mathlib.Core.Bool.{Bool, true, false}
+-- change nothing but the greatest edge. A code gives back its step where its edge has one, and the greatest edge tells whether all are.
+use mathlib.Core.Path.{_≡_, ap, _∙_}
+use mathlib.Core.Bool.{Bool}
 use mathlib.Core.Logic.{_⊎_, inl, inr}
 use mathlib.Core.List.{List, [], _∷_, _++_}
-use Prim.Native.Nat.{ℕ, suc, _+_, _-_, _<_, _≤_, max}
+use Prim.Native.Nat.{ℕ, suc, _+_, _<_, _≤_, max}
 use native.Mathlib.Numerals.{add-one}
 use native.Mathlib.Omega.{arith}
 use lib.Dec.{leb, ltb}
@@ -14,12 +14,13 @@ use borrow.Author.Tests.{ltb-true, ltb-false, leb-true, leb-false, lt-ltb, le-le
 use Rattle.lists.specs.Choice.{pick}
 use Rattle.lists.proofs.Laws.{Known, was-true, was-false, known, lt-or-ge, pick-yes, pick-no}
 use Rattle.board.specs.Limits.{maxEdges}
-use Rattle.graph_flows.specs.Trails.{Step, down, up, edgeOf}
-use Rattle.move_cycle.specs.Steps.{upFrom, stepOf, stepsOf}
-use Rattle.move_cycle.proofs.Bytes.{step-up, step-down}
+use Rattle.graph_flows.specs.Trails.{Step, edgeOf}
+use Rattle.move_cycle.specs.Steps.{codeUp, codeStep, codeSteps, stepCode, stride}
+use Rattle.move_cycle.specs.Inner.{greatestEdge}
+use Rattle.move_cycle.proofs.Codes.{stride-edge, stride-code, steps-join}
 use Rattle.play_lines.specs.declared.Form.{Form}
-use Rattle.play_lines.specs.Scans.{stepByte, withStep, turnForm}
-use Rattle.play_lines.specs.Inner.{greatestEdge, KeepsSteps}
+use Rattle.play_lines.specs.Scans.{keptCode, withStep, turnForm}
+use Rattle.play_lines.specs.Inner.{KeepsSteps}
 
 -- what a form keeps of the steps w
 pub record HoldsSteps (w : List Step) (f : Form) : Type 0 where
@@ -27,28 +28,12 @@ pub record HoldsSteps (w : List Step) (f : Form) : Type 0 where
   pub greatest : f .greatest ≡ greatestEdge w
   pub few : length w ≤ maxEdges → f .count ≡ length w
   pub many : maxEdges < length w → maxEdges < f .count
-  pub steps : length w ≤ maxEdges → greatestEdge w < upFrom → stepsOf (take (f .count) (f .steps)) ≡ w
+  pub steps : length w ≤ maxEdges → greatestEdge w < codeUp → codeSteps (take (f .count) (f .steps)) ≡ w
 
--- the step of an edge, the given way
-abbrev pub stepBy : Bool → ℕ → Step
-stepBy true e = up e
-stepBy false e = down e
-
-edge-by : (goesUp : Bool) (e : ℕ) → edgeOf (stepBy goesUp e) ≡ e
-edge-by true e = refl
-edge-by false e = refl
-
-byte-step : (goesUp : Bool) (e : ℕ) → e < upFrom → stepOf (stepByte goesUp e) ≡ stepBy goesUp e
-unfolding stepByte pick
-byte-step true e h =
-    let b : e + upFrom - upFrom ≡ e = omega arith in
-    rw (lt-ltb e upFrom h) (step-up (e + upFrom) (omega arith) ∙ ap up b)
-byte-step false e h = rw (lt-ltb e upFrom h) (step-down e h)
-
-steps-join : (a b : List ℕ) → stepsOf (a ++ b) ≡ stepsOf a ++ stepsOf b
-unfolding stepsOf
-steps-join [] b = refl
-steps-join (s ∷ a) b = rw (steps-join a b)
+-- the step of an edge that has a code
+kept-step : (goesUp : Bool) (e : ℕ) → e < codeUp → codeStep (keptCode goesUp e) ≡ stride goesUp e
+unfolding keptCode
+kept-step goesUp e h = rw (pick-yes (ltb e codeUp) (stepCode (stride goesUp e)) 0 (lt-ltb e codeUp h)) (stride-code goesUp e h)
 
 -- the larger of two numbers
 larger : (a b : ℕ) → pick (ltb a b) b a ≡ max a b
@@ -66,13 +51,13 @@ greatest-join (t ∷ w) s = rw (larger (edgeOf t) (greatestEdge (w ++ (s ∷ [])
 -- one step more
 module _ (w : List Step) (f : Form) (goesUp : Bool) (h : HoldsSteps w f) where
   abbrev added : List Step
-  added = w ++ (stepBy goesUp (f .first) ∷ [])
+  added = w ++ (stride goesUp (f .first) ∷ [])
 
   long : length added ≡ length w + 1
-  long = length-append w (stepBy goesUp (f .first) ∷ [])
+  long = length-append w (stride goesUp (f .first) ∷ [])
 
   greatest-added : greatestEdge added ≡ max (greatestEdge w) (f .first)
-  greatest-added = greatest-join w (stepBy goesUp (f .first)) ∙ ap (max (greatestEdge w)) (edge-by goesUp (f .first))
+  greatest-added = greatest-join w (stride goesUp (f .first)) ∙ ap (max (greatestEdge w)) (stride-edge goesUp (f .first))
 
   grown-greatest : withStep goesUp f .greatest ≡ greatestEdge added
   unfolding withStep
@@ -93,24 +78,24 @@ module _ (w : List Step) (f : Form) (goesUp : Bool) (h : HoldsSteps w f) where
       split (was-true e) (inr m) = rw (pick-yes (leb (f .count) maxEdges) (f .count + 1) (f .count) e) (omega (arith, h .few m))
       split (was-false e) m = rw (pick-no (leb (f .count) maxEdges) (f .count + 1) (f .count) e) (leb-false (f .count) maxEdges e)
 
-  grown-steps : length w + 1 ≤ maxEdges → greatestEdge w < upFrom → f .first < upFrom
-      → stepsOf (take (withStep goesUp f .count) (withStep goesUp f .steps)) ≡ added
-  unfolding withStep stepsOf
+  grown-steps : length w + 1 ≤ maxEdges → greatestEdge w < codeUp → f .first < codeUp
+      → codeSteps (take (withStep goesUp f .count) (withStep goesUp f .steps)) ≡ added
+  unfolding withStep codeSteps
   grown-steps l g b =
       let c = h .few (omega arith) in
       let i : f .count < length (f .steps) = omega (arith, h .places) in
       rw (
         grown-few l,
-        take-suc-set (f .steps) (f .count) (stepByte goesUp (f .first)) i,
-        steps-join (take (f .count) (f .steps)) (stepByte goesUp (f .first) ∷ []),
+        take-suc-set (f .steps) (f .count) (keptCode goesUp (f .first)) i,
+        steps-join (take (f .count) (f .steps)) (keptCode goesUp (f .first) ∷ []),
         h .steps (omega arith) g,
-        byte-step goesUp (f .first) b,
+        kept-step goesUp (f .first) b,
       )
 
   pub grown : HoldsSteps added (withStep goesUp f)
   unfolding withStep
   grown = record {
-    places = length-set (f .steps) (f .count) (stepByte goesUp (f .first)) ∙ h .places;
+    places = length-set (f .steps) (f .count) (keptCode goesUp (f .first)) ∙ h .places;
     greatest = grown-greatest;
     few = λ l. let n = long in grown-few (omega arith) ∙ omega (arith, h .few (omega arith));
     many = λ l. grown-many (omega (arith, long));
@@ -119,7 +104,7 @@ module _ (w : List Step) (f : Form) (goesUp : Bool) (h : HoldsSteps w f) where
 
 -- nothing kept yet
 pub holds-none : (f : Form) → f .count ≡ 0 → f .greatest ≡ 0 → length (f .steps) ≡ maxEdges → HoldsSteps [] f
-unfolding greatestEdge stepsOf
+unfolding greatestEdge codeSteps
 holds-none f c g l = record { places = l; greatest = g; few = λ m. c; many = λ m. absurd (omega arith); steps = λ m b. rw c }
 
 -- a form that keeps steps is that of their turn

@@ -17,9 +17,9 @@ use Rattle.decimal.specs.Decimal.{decimal}
 use Rattle.decimal.proofs.Laws.{decimal-small, decimal-large, by-digits, number-decimal}
 use Rattle.graph_flows.specs.Trails.{Step, down, up, edgeOf, edgesOf}
 use Rattle.solve_next.specs.Choosing.{Act, relocate, augment}
-use Rattle.move_list.specs.Calls.{carry, turn}
+use Rattle.move_list.specs.Calls.{carry, turn, callFor}
 use Rattle.play_lines.specs.Orders.{call, fieldsOf, isLetter, pairBy, turnOf, byFields, orderOf}
-use Rattle.play_lines.specs.MoveLines.{wayLetter, stepsText, moveText, callFor}
+use Rattle.play_lines.specs.MoveLines.{wayLetter, stepsText, moveText}
 use Rattle.play_lines.proofs.Exact.{into, into-none, comma-fields, byte-fields}
 
 -- the numbers of a move have at most seven digits

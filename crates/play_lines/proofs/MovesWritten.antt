@@ -16,7 +16,7 @@ use Rattle.board.specs.Limits.{maxEdges}
 use Rattle.text.specs.Text.{numbersText, lineText}
 use Rattle.text_writer.proofs.Writing.{TextLeft, left-part, left-none}
 use Rattle.graph_flows.specs.Trails.{Step, down, up, edgeOf}
-use Rattle.move_cycle.specs.Steps.{stepOf, stepsOf, isUp}
+use Rattle.move_cycle.specs.Steps.{codeStep, codeSteps, isUp}
 use Rattle.solve_next.specs.declared.Advice.{Advice}
 use Rattle.solve_next.specs.Choosing.{relocate, augment, noKind, carryKind}
 use Rattle.solve_next.proofs.Advised.{act-carry, act-turn}
@@ -52,22 +52,22 @@ module _ (s : Step) (buf b1 b2 b3 b4 : List ℕ) (at edge way end : ℕ) (he : e
 
 -- one step of them
 steps-cut : (steps : List ℕ) (i : ℕ) → i < length steps
-    → stepsText (stepsOf (drop i steps)) ≡ stepText (stepOf (getD steps i 0)) ++ stepsText (stepsOf (drop (suc i) steps))
-unfolding stepsText stepsOf
+    → stepsText (codeSteps (drop i steps)) ≡ stepText (codeStep (getD steps i 0)) ++ stepsText (codeSteps (drop (suc i) steps))
+unfolding stepsText codeSteps
 steps-cut steps i h = rw (drop-cons steps i 0 h)
 
 -- one round of the loop, with so many steps left
-module _ (steps : List ℕ) (left : ℕ) {buf total : List ℕ} {to end : ℕ} (l : TextLeft buf total to end (stepsText (stepsOf (drop (length steps - left) steps)))) where
-  pub steps-turned : 0 < left → left ≤ length steps → (b : List ℕ) (p : ℕ) → b ≡ sets buf to (stepText (stepOf (getD steps (length steps - left) 0)))
-      → p ≡ to + length (stepText (stepOf (getD steps (length steps - left) 0)))
-      → TextLeft b total p end (stepsText (stepsOf (drop (length steps - (left - 1)) steps)))
+module _ (steps : List ℕ) (left : ℕ) {buf total : List ℕ} {to end : ℕ} (l : TextLeft buf total to end (stepsText (codeSteps (drop (length steps - left) steps)))) where
+  pub steps-turned : 0 < left → left ≤ length steps → (b : List ℕ) (p : ℕ) → b ≡ sets buf to (stepText (codeStep (getD steps (length steps - left) 0)))
+      → p ≡ to + length (stepText (codeStep (getD steps (length steps - left) 0)))
+      → TextLeft b total p end (stepsText (codeSteps (drop (length steps - (left - 1)) steps)))
   steps-turned some most b p e q =
       let i : ℕ = length steps - left in
       let next : length steps - (left - 1) ≡ suc i = omega arith in
-      rw next (left-part (stepText (stepOf (getD steps i 0))) (stepsText (stepsOf (drop (suc i) steps))) b p (rw (steps-cut steps i (omega arith)) at l) e q)
+      rw next (left-part (stepText (codeStep (getD steps i 0))) (stepsText (codeSteps (drop (suc i) steps))) b p (rw (steps-cut steps i (omega arith)) at l) e q)
 
   pub steps-done : left ≤ 0 → (to ≡ end) × (buf ≡ total)
-  unfolding stepsText stepsOf
+  unfolding stepsText codeSteps
   steps-done none = let over : length steps ≤ length steps - left = omega arith in left-none (rw (drop-of-length-le steps over) at l)
 
 -- ---- a line
@@ -109,11 +109,11 @@ steps-within count steps long = go (lt-or-ge count maxEdges)
     go (inr h) = take-all (min count maxEdges) steps (omega arith) ∙ sym (take-all count steps (omega arith))
 
 pub line-of-turn : (a : Advice) (n : ℕ) → (a .kind ≡ noKind → ⊥) → (a .kind ≡ carryKind → ⊥) → length (a .steps) ≡ maxEdges
-    → n ≡ min (a .count) maxEdges → hintLine a ≡ moveLine (augment (stepsOf (take n (a .steps))))
+    → n ≡ min (a .count) maxEdges → hintLine a ≡ moveLine (augment (codeSteps (take n (a .steps))))
 unfolding hintLine
 line-of-turn a n some nc long e =
     pick-no _ _ _ (ne-eqb (a .kind) noKind some)
-    ∙ ap moveLine (act-turn a nc ∙ ap (λ (w : List ℕ). augment (stepsOf w)) (rw e (sym (steps-within (a .count) (a .steps) long))))
+    ∙ ap moveLine (act-turn a nc ∙ ap (λ (w : List ℕ). augment (codeSteps w)) (rw e (sym (steps-within (a .count) (a .steps) long))))
 
 -- the line that was written is the hint's
 pub hint-put : (a : Advice) (line buf b : List ℕ) (at end : ℕ) → hintLine a ≡ line → end ≡ at + length line → b ≡ sets buf at line

@@ -1,23 +1,30 @@
 -- For inner contracts only: which orders the record that a line is read into stands for.
 use mathlib.Core.Path.{_≡_}
 use mathlib.Core.Bool.{false}
-use mathlib.Core.List.{List, [], _∷_}
-use Prim.Native.Nat.{ℕ, _<_, _≤_}
-use lib.Dec.{ltb, eqb}
+use mathlib.Core.List.{List}
+use Prim.Native.Nat.{ℕ, _+_, _*_, _<_, _≤_}
+use lib.Dec.{eqb}
 use lib.ListN.{length, take}
-use Rattle.lists.specs.Choice.{pick}
 use Rattle.board.specs.Limits.{maxEdges}
-use Rattle.graph_flows.specs.Trails.{Step, edgeOf}
-use Rattle.move_cycle.specs.Steps.{upFrom, stepsOf}
+use Rattle.text.specs.Sizes.{numberBytes}
+use Rattle.graph_flows.specs.Trails.{Step}
+use Rattle.move_cycle.specs.Steps.{codeUp, codeSteps}
+use Rattle.move_cycle.specs.Inner.{greatestEdge}
 use Rattle.move_list.specs.Calls.{carry, turn, undo, hint}
 use Rattle.play_lines.specs.declared.Form.{Form}
 use Rattle.play_lines.specs.Orders.{Order, call, finish, other}
 use Rattle.play_lines.specs.Scans.{hintForm, undoForm, finishForm, carryWhole, turnForm}
 
--- the greatest edge of the steps, 0 for none
-unfoldable pub greatestEdge : List Step → ℕ
-greatestEdge [] = 0
-greatestEdge (s ∷ w) = pick (ltb (edgeOf s) (greatestEdge w)) (greatestEdge w) (edgeOf s)
+-- ---- how long the line of a turn is at most, whatever its numbers
+
+-- a step: a comma, its edge with a comma behind it, and a letter; a turn of n steps: a letter, these, and a line feed
+abbrev pub stepBytes : ℕ
+stepBytes = numberBytes + 2
+
+abbrev pub turnBytes : ℕ → ℕ
+turnBytes n = 2 + stepBytes * n
+
+-- ---- what a form stands for
 
 -- the steps of a turn: all of them, where they are few and their edges small
 pub record KeepsSteps (w : List Step) (f : Form) : Type 0 where
@@ -25,7 +32,7 @@ pub record KeepsSteps (w : List Step) (f : Form) : Type 0 where
   pub greatest : f .greatest ≡ greatestEdge w
   pub few : length w ≤ maxEdges → f .count ≡ length w
   pub many : maxEdges < length w → maxEdges < f .count
-  pub steps : length w ≤ maxEdges → greatestEdge w < upFrom → stepsOf (take (f .count) (f .steps)) ≡ w
+  pub steps : length w ≤ maxEdges → greatestEdge w < codeUp → codeSteps (take (f .count) (f .steps)) ≡ w
 
 -- a form of none of the whole lines
 pub record Nothing (f : Form) : Type 0 where

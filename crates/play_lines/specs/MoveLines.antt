@@ -5,10 +5,10 @@ use lib.Dec.{eqb}
 use Rattle.lists.specs.Choice.{pick}
 use Rattle.decimal.specs.Decimal.{decimal}
 use Rattle.board.specs.Limits.{maxVertices}
+use Rattle.text.specs.Sizes.{edgeDigits}
 use Rattle.graph_flows.specs.Trails.{Step, down, up, edgeOf}
 use Rattle.solve_next.specs.declared.Advice.{Advice}
 use Rattle.solve_next.specs.Choosing.{Act, relocate, augment, noKind, actOf}
-use Rattle.move_list.specs.Calls.{Call, carry, turn}
 
 -- "a pair of channel and way (D or U)", behind its comma
 abbrev pub wayLetter : Step → ℕ
@@ -34,11 +34,6 @@ moveLine a = moveText a ++ (10 ∷ [])
 unfoldable pub hintLine : Advice → List ℕ
 hintLine a = pick (eqb (a .kind) noKind) (78 ∷ 10 ∷ []) (moveLine (actOf a))
 
--- the call that makes a move
-abbrev pub callFor : Act → Call
-callFor (relocate i e) = carry i e
-callFor (augment w) = turn w
-
--- no hint of a board of play has a longer line: `T`, a comma, two digits, a comma and a letter for each vertex that the walk passes, and a line feed
+-- no hint of a board of play has a longer line: `T`, a comma, an edge, a comma and a letter for each vertex that the walk passes, and a line feed
 abbrev pub longestHint : ℕ
-longestHint = 2 + 5 * maxVertices
+longestHint = 2 + (3 + edgeDigits) * maxVertices

@@ -9,7 +9,7 @@ use Rattle.decimal.specs.Decimal.{maxDigits}
 use Rattle.decimal.specs.declared.Number.{Number}
 use Rattle.decimal.specs.declared.Number.the-variants.{Value, Malformed}
 use Rattle.board.specs.Limits.{maxEdges}
-use Rattle.move_cycle.specs.Steps.{upFrom}
+use Rattle.move_cycle.specs.Steps.{codeUp, stepCode, stride}
 use Rattle.play_lines.specs.declared.Piece.{Piece}
 use Rattle.play_lines.specs.declared.Form.{Form}
 use Rattle.play_lines.specs.declared.Scan.{Scan}
@@ -92,11 +92,11 @@ abbrev pub numbered : (ℕ → Form) → Form → Number → Form
 numbered k f (Value n) = k n
 numbered k f Malformed = ofKind otherForm f
 
--- a step's byte, 0 for an edge too large for one
-unfoldable pub stepByte : Bool → ℕ → ℕ
-stepByte goesUp e = pick (ltb e upFrom) (pick goesUp (e + upFrom) e) 0
+-- a step's code, 0 for an edge too large for one
+unfoldable pub keptCode : Bool → ℕ → ℕ
+keptCode goesUp e = pick (ltb e codeUp) (stepCode (stride goesUp e)) 0
 
--- one step more: how many, more than there are edges counted as one more than these; the greatest edge; and the first of them as bytes
+-- one step more: how many, more than there are edges counted as one more than these; the greatest edge; and the first of them
 unfoldable pub withStep : Bool → Form → Form
 withStep goesUp f = record {
   kind = turnForm;
@@ -104,7 +104,7 @@ withStep goesUp f = record {
   second = f .second;
   count = pick (leb (f .count) maxEdges) (f .count + 1) (f .count);
   greatest = pick (ltb (f .greatest) (f .first)) (f .first) (f .greatest);
-  steps = set (f .steps) (f .count) (stepByte goesUp (f .first));
+  steps = set (f .steps) (f .count) (keptCode goesUp (f .first));
 }
 
 -- the first field

@@ -1,6 +1,7 @@
 // A line of a play, read byte by byte in fixed memory.
 use board::Board;
 use decimal::Number;
+use move_cycle::StepCode;
 use solve_next::Advice;
 ghost use mathlib.Core.Path.{_≡_};
 ghost use Prim.Native.Nat.{_+_, _-_, _*_, _≤_, min};
@@ -10,8 +11,11 @@ ghost use lib.Seq.{sets};
 ghost use Rattle.lists.specs.Choice.{pick, both};
 ghost use Rattle.decimal.specs.Decimal.{maxDigits};
 ghost use Rattle.board.specs.Limits.{maxEdges};
-ghost use Rattle.move_cycle.specs.Steps.{stepOf, stepsOf};
+ghost use Rattle.move_cycle.specs.Steps.{codeStep, codeSteps};
 ghost use Rattle.solve_next.specs.Choosing.{relocate, augment};
+ghost use Rattle.text.specs.Sizes.{lineBytes};
+ghost use Rattle.text.specs.Room.{startMost};
+ghost use Rattle.play_lines.specs.Inner.{stepBytes, turnBytes};
 ghost use Rattle.play_lines.specs.MoveLines.{wayLetter, stepText, stepsText, moveLine, hintLine};
 ghost use Rattle.play_lines.specs.Scans.{
   noPiece,
@@ -25,7 +29,7 @@ ghost use Rattle.play_lines.specs.Scans.{
   withSecond,
   numbered,
   carryWhole,
-  stepByte,
+  keptCode,
   withStep,
   begun,
   wayTaken,
@@ -47,14 +51,15 @@ pub struct Piece {
 }
 
 // What the fields before it make: the kind of line; the numbers of a carry, or the edge of a step whose way is to come;
-// and the steps of a turn: how many, with 65 for more than 64, their greatest edge, and the first 64 as bytes.
+// and the steps of a turn: how many, one more than there may be edges standing for all
+// above, their greatest edge, and the first of them.
 pub struct Form {
     pub kind: u32,
     pub first: u32,
     pub second: u32,
     pub count: u32,
     pub greatest: u32,
-    pub steps: [u8; Board::MAX_EDGES],
+    pub steps: [StepCode; Board::MAX_EDGES],
 }
 
 // A line as far as it was read.
@@ -232,14 +237,14 @@ fn with_second(kind: u32, n: u32, form: Form) -> Form
     next
 }
 
-// The byte of a step over e, 0 where e is too large for one.
-fn step_byte(goes_up: bool, e: u32) -> u8
-    ensures { λ r. ⌜ r ≡ stepByte «goes_up» e ⌝ }
+// The code of a step over e, 0 where e is too large for one.
+fn kept_code(goes_up: bool, e: u32) -> StepCode
+    ensures { λ r. ⌜ r ≡ keptCode «goes_up» e ⌝ }
 {
-    if e >= 128 {
+    if !move_cycle::has_code(e) {
         return 0;
     }
-    if goes_up { (e + 128) as u8 } else { e as u8 }
+    move_cycle::stride(goes_up, e)
 }
 
 // The count with one step more.
@@ -265,9 +270,9 @@ fn with_step(goes_up: bool, form: Form) -> Form
 {
     let count = count_taken(form.count);
     let greatest = greater(form.greatest, form.first);
-    let step = step_byte(goes_up, form.first);
-    let mut steps = form.steps;
-    lists::put_byte(&mut steps, form.count as usize, step);
+    let step = kept_code(goes_up, form.first);
+    let old = form.steps;
+    let steps = move_cycle::put_step(old, form.count as usize, step);
     Form {
         kind: Form::TURN,
         first: 0,
@@ -414,18 +419,18 @@ pub fn is_blank(scan: Scan) -> bool
 // ---- A move as a line.
 
 // The letter of a step's way: D for down, U for up.
-fn way_letter(step: u8) -> u8
-    ensures { λ r. ⌜ r ≡ wayLetter (stepOf step) ⌝ }
+fn way_letter(step: StepCode) -> u8
+    ensures { λ r. ⌜ r ≡ wayLetter (codeStep step) ⌝ }
 {
     if move_cycle::is_up(step) { b'U' } else { b'D' }
 }
 
 // Writes a step behind a comma, as `,7,D`, at a place of the buffer, and answers the place behind it.
-fn put_pair(buf: &mut [u8], at: usize, step: u8) -> usize
-    requires { ⌜ at ≤ 131072 ⌝ }
-    ensures { λ r. ⌜ r ≡ at + length (stepText (stepOf step)) ⌝ }
-    ensures { λ r. ⌜ r ≤ at + 13 ⌝ }
-    ensures { λ _. ⌜ now (buf .exit) ≡ sets (now (buf .entry)) at (stepText (stepOf step)) ⌝ }
+fn put_pair(buf: &mut [u8], at: usize, step: StepCode) -> usize
+    requires { ⌜ at ≤ startMost + turnBytes maxEdges ⌝ }
+    ensures { λ r. ⌜ r ≡ at + length (stepText (codeStep step)) ⌝ }
+    ensures { λ r. ⌜ r ≤ at + stepBytes ⌝ }
+    ensures { λ _. ⌜ now (buf .exit) ≡ sets (now (buf .entry)) at (stepText (codeStep step)) ⌝ }
 {
     let edge = move_cycle::edge_of(step);
     let way = way_letter(step);
@@ -437,11 +442,11 @@ fn put_pair(buf: &mut [u8], at: usize, step: u8) -> usize
 }
 
 // Writes steps in their order.
-fn put_pairs(buf: &mut [u8], at: usize, steps: &[u8]) -> usize
-    requires { ⌜ (at ≤ 65537) × (length (now steps) ≤ maxEdges) ⌝ }
-    ensures { λ r. ⌜ r ≡ at + length (stepsText (stepsOf (now (steps .entry)))) ⌝ }
-    ensures { λ r. ⌜ r ≤ at + 13 * length (now (steps .entry)) ⌝ }
-    ensures { λ _. ⌜ now (buf .exit) ≡ sets (now (buf .entry)) at (stepsText (stepsOf (now (steps .entry)))) ⌝ }
+fn put_pairs(buf: &mut [u8], at: usize, steps: &[StepCode]) -> usize
+    requires { ⌜ (at ≤ startMost + 1) × (length (now steps) ≤ maxEdges) ⌝ }
+    ensures { λ r. ⌜ r ≡ at + length (stepsText (codeSteps (now (steps .entry)))) ⌝ }
+    ensures { λ r. ⌜ r ≤ at + stepBytes * length (now (steps .entry)) ⌝ }
+    ensures { λ _. ⌜ now (buf .exit) ≡ sets (now (buf .entry)) at (stepsText (codeSteps (now (steps .entry)))) ⌝ }
 {
     let count = steps.len();
     let mut to = at;
@@ -455,12 +460,12 @@ fn put_pairs(buf: &mut [u8], at: usize, steps: &[u8]) -> usize
 }
 
 // Writes the line of a turn: `T`, its steps, and a line feed.
-fn put_turn(buf: &mut [u8], at: usize, steps: &[u8]) -> usize
-    requires { ⌜ (at ≤ 65536) × (length (now steps) ≤ maxEdges) ⌝ }
-    ensures { λ r. ⌜ r ≡ at + length (moveLine (augment (stepsOf (now (steps .entry))))) ⌝ }
-    ensures { λ r. ⌜ r ≤ at + (2 + 13 * length (now (steps .entry))) ⌝ }
+fn put_turn(buf: &mut [u8], at: usize, steps: &[StepCode]) -> usize
+    requires { ⌜ (at ≤ startMost) × (length (now steps) ≤ maxEdges) ⌝ }
+    ensures { λ r. ⌜ r ≡ at + length (moveLine (augment (codeSteps (now (steps .entry))))) ⌝ }
+    ensures { λ r. ⌜ r ≤ at + turnBytes (length (now (steps .entry))) ⌝ }
     ensures { λ _. ⌜ now (buf .exit) ≡
-        sets (now (buf .entry)) at (moveLine (augment (stepsOf (now (steps .entry))))) ⌝ }
+        sets (now (buf .entry)) at (moveLine (augment (codeSteps (now (steps .entry))))) ⌝ }
 {
     lists::put_byte(buf, at, b'T');
     let end = put_pairs(buf, at + 1, steps);
@@ -470,9 +475,9 @@ fn put_turn(buf: &mut [u8], at: usize, steps: &[u8]) -> usize
 
 // Writes the line of a carry: `K`, the terminal, the edge, and a line feed.
 fn put_carry(buf: &mut [u8], at: usize, terminal: u32, edge: u32) -> usize
-    requires { ⌜ at ≤ 65536 ⌝ }
+    requires { ⌜ at ≤ startMost ⌝ }
     ensures { λ r. ⌜ r ≡ at + length (moveLine (relocate terminal edge)) ⌝ }
-    ensures { λ r. ⌜ r ≤ at + 24 ⌝ }
+    ensures { λ r. ⌜ r ≤ at + lineBytes 2 ⌝ }
     ensures { λ _. ⌜ now (buf .exit) ≡ sets (now (buf .entry)) at (moveLine (relocate terminal edge)) ⌝ }
 {
     let row = [terminal, edge];
@@ -493,9 +498,9 @@ fn steps_held(count: u32) -> usize
 // Writes the move of a hint as a line, or `N` where there is none, at a place of the buffer, and answers the place
 // behind it. A byte past the end of the buffer is dropped.
 pub fn put_move(buf: &mut [u8], at: usize, advice: Advice) -> usize
-    requires { ⌜ at ≤ 65536 ⌝ }
+    requires { ⌜ at ≤ startMost ⌝ }
     ensures { λ r. ⌜ r ≡ at + length (hintLine advice) ⌝ }
-    ensures { λ r. ⌜ r ≤ at + (2 + 13 * maxEdges) ⌝ }
+    ensures { λ r. ⌜ r ≤ at + turnBytes maxEdges ⌝ }
     ensures { λ _. ⌜ now (buf .exit) ≡ sets (now (buf .entry)) at (hintLine advice) ⌝ }
 {
     if advice.kind == Advice::NONE {

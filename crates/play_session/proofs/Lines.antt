@@ -1,109 +1,36 @@
--- A line as the machine keeps it is answered as the order that it stands for. Only a turn needs a reason: where not all of its steps were kept, there are more
--- of them than edges, so that one comes twice and they are no cycle, or the greatest edge is none of the board's; and these are the tests that come first.
+-- A line as the machine keeps it is answered as the order that it stands for. Only a turn needs a reason: where not all of its steps were kept, its greatest
+-- edge says what it is refused with (move_turn/proofs/Unkept.antt).
 use mathlib.Core.Path.{_≡_, refl, ap, sym, _∙_}
 use mathlib.Core.Bool.{Bool, true, false}
 use mathlib.Core.Logic.{_⊎_, inl, inr}
-use mathlib.Core.List.{List, [], _∷_, append-nil}
-use Prim.Native.Nat.{ℕ, suc, _≤_, _<_}
+use mathlib.Core.List.{List, [], append-nil}
+use Prim.Native.Nat.{ℕ, _≤_, _<_}
 use native.Mathlib.Omega.{arith}
 use lib.Dec.{leb, ltb, eqb}
 use lib.ListN.{length, take}
-use borrow.Author.Tests.{leb-true, leb-false, ltb-true, ltb-false, lt-ltb, le-ltb}
+use borrow.Author.Tests.{leb-true, leb-false, ltb-true, ltb-false}
 use Rattle.lists.specs.Choice.{pick, both}
-use Rattle.lists.specs.Inner.{Below}
-use Rattle.lists.proofs.Laws.{Known, was-true, was-false, known, lt-or-ge, pick-yes, pick-no, both-left, both-right, both-true}
-use Rattle.lists.proofs.Pigeon.{pigeon}
+use Rattle.lists.proofs.Laws.{Known, was-true, was-false, known, lt-or-ge, pick-yes, pick-no, both-true}
 use Rattle.board.specs.Limits.{maxEdges}
 use Rattle.board.specs.Whole.{Board}
 use Rattle.board.specs.Whole.{Played}
-use Rattle.move_guard.specs.Guard.{intact, playing}
-use Rattle.move_guard.proofs.Facts.{playing-intact, playing-edges}
-use Rattle.move_guard.proofs.Answers.{answered-no}
-use Rattle.graph_flows.specs.Trails.{Step, edgeOf, edgesOf}
-use Rattle.move_cycle.specs.Steps.{stepsOf, every, isCycle}
-use Rattle.move_cycle.proofs.Cycled.{cycle-closed}
-use Rattle.move_turn.specs.declared.StepRule.the-variants.{OnBoard}
-use Rattle.move_turn.specs.Turns.{meets, turnRefusal, turned, turnCall}
+use Rattle.move_guard.specs.Guard.{playing}
+use Rattle.move_guard.proofs.Facts.{playing-edges}
+use Rattle.graph_flows.specs.Trails.{Step}
+use Rattle.move_cycle.specs.Steps.{codeSteps}
+use Rattle.move_turn.specs.Turns.{turnCall, turnUnkept}
+use Rattle.move_turn.proofs.Unkept.{closed-alike, unkept-number}
 use Rattle.solve_next.specs.Hints.{hintCall}
 use Rattle.move_list.specs.Calls.{carry, turn, undo, hint}
 use Rattle.play_lines.specs.declared.Form.{Form}
 use Rattle.play_lines.specs.Orders.{Order, call, finish, other}
 use Rattle.play_lines.specs.Scans.{hintForm, finishForm, carryWhole, turnForm}
-use Rattle.play_lines.specs.Inner.{greatestEdge, KeepsSteps, StandsFor}
+use Rattle.play_lines.specs.Inner.{KeepsSteps, StandsFor}
 use Rattle.sheet_output.specs.Outputs.{numberLine}
 use Rattle.play_session.specs.Replies.{replied, behindZero, replyText}
-use Rattle.play_session.specs.Machine.{unkept, turnReplied, formReplied, suggestionText, playedText, formText}
-
--- the greatest edge is that of a step
-greatest-both : (s : Step) (w : List Step) → (edgeOf s ≤ greatestEdge (s ∷ w)) × (greatestEdge w ≤ greatestEdge (s ∷ w))
-unfolding greatestEdge
-greatest-both s w = split (known (ltb (edgeOf s) (greatestEdge w)))
-  where
-    split : Known (ltb (edgeOf s) (greatestEdge w)) → (edgeOf s ≤ greatestEdge (s ∷ w)) × (greatestEdge w ≤ greatestEdge (s ∷ w))
-    split (was-true t) = rw (pick-yes _ (greatestEdge w) (edgeOf s) t) (omega (arith, ltb-true (edgeOf s) (greatestEdge w) t))
-    split (was-false t) = rw (pick-no _ (greatestEdge w) (edgeOf s) t) (omega (arith, ltb-false (edgeOf s) (greatestEdge w) t))
-
-below-edges : (n : ℕ) (w : List Step) → greatestEdge w < n → Below n (edgesOf w)
-below-edges n [] h = tt
-below-edges n (s ∷ w) h = let g = greatest-both s w in (omega (arith, g .0), below-edges n w (omega (arith, g .1)))
-
-length-edges : (w : List Step) → length (edgesOf w) ≡ length w
-length-edges [] = refl
-length-edges (s ∷ w) = ap suc (length-edges w)
+use Rattle.play_session.specs.Machine.{turnReplied, formReplied, suggestionText, playedText, formText}
 
 module _ (b : Board) where
-  on-board : (w : List Step) → greatestEdge w < b .network .edges → every (meets OnBoard b) w ≡ true
-  unfolding every
-  on-board [] h = refl
-  on-board (s ∷ w) h =
-      let g = greatest-both s w in
-      rw (lt-ltb (edgeOf s) (b .network .edges) (omega (arith, g .0)), every) (on-board w (omega (arith, g .1)))
-
-  off-board : (w : List Step) → 0 < b .network .edges → b .network .edges ≤ greatestEdge w → every (meets OnBoard b) w ≡ false
-  unfolding every greatestEdge
-  off-board [] n h = absurd (omega (arith, n, h))
-  off-board (s ∷ w) n h = split (lt-or-ge (edgeOf s) (b .network .edges)) (known (ltb (edgeOf s) (greatestEdge w))) (λ g. off-board w n g)
-    where
-      split : (edgeOf s < b .network .edges) ⊎ (b .network .edges ≤ edgeOf s) → Known (ltb (edgeOf s) (greatestEdge w))
-          → (b .network .edges ≤ greatestEdge w → every (meets OnBoard b) w ≡ false) → every (meets OnBoard b) (s ∷ w) ≡ false
-      split (inl q) (was-true t) ih = rw (lt-ltb (edgeOf s) (b .network .edges) q, every) (ih (rw (pick-yes _ (greatestEdge w) (edgeOf s) t) at h))
-      split (inl q) (was-false t) ih =
-          let g : b .network .edges ≤ edgeOf s = rw (pick-no _ (greatestEdge w) (edgeOf s) t) at h in
-          absurd (omega (arith, q, g))
-      split (inr q) t ih = rw (le-ltb (edgeOf s) (b .network .edges) q, every)
-
-  some-edge : playing b ≡ true → 0 < b .network .edges
-  unfolding intact
-  some-edge p = leb-true _ _ (both-left _ _ (both-left _ _ (both-right _ _ (both-left _ _ (playing-intact b p)))))
-
-  no-cycle : (w : List Step) → playing b ≡ true → greatestEdge w < b .network .edges → maxEdges < length w
-      → isCycle (b .network .tails) (b .network .heads) w ≡ false
-  no-cycle w p h m = split (known (isCycle (b .network .tails) (b .network .heads) w))
-    where
-      split : Known (isCycle (b .network .tails) (b .network .heads) w) → isCycle (b .network .tails) (b .network .heads) w ≡ false
-      split (was-true t) =
-          let c = cycle-closed (b .network .tails) (b .network .heads) w t in
-          let below = below-edges maxEdges w (omega (arith, h, playing-edges b p)) in
-          absurd (omega (arith, m, length-edges w, pigeon maxEdges (edgesOf w) (c .distinct) below))
-      split (was-false t) = t
-
-  -- a turn that is refused before its steps are looked at
-  turn-out : (w : List Step) → playing b ≡ false → turnRefusal b w ≡ 20
-  unfolding turnRefusal
-  turn-out w p = pick-no _ _ _ p
-
-  turn-off : (w : List Step) → playing b ≡ true → b .network .edges ≤ greatestEdge w → turnRefusal b w ≡ 6
-  unfolding turnRefusal
-  turn-off w p h = pick-yes _ _ _ p ∙ pick-no _ _ _ (off-board w (some-edge p) h)
-
-  turn-many : (w : List Step) → playing b ≡ true → greatestEdge w < b .network .edges → maxEdges < length w → turnRefusal b w ≡ 7
-  unfolding turnRefusal
-  turn-many w p h m = pick-yes _ _ _ p ∙ pick-yes _ _ _ (on-board w h) ∙ pick-no _ _ _ (no-cycle w p h m)
-
-  refused-turn : (w : List Step) (n : ℕ) → turnRefusal b w ≡ suc n → turnCall b w ≡ record { answer = suc n; board = b }
-  unfolding turnCall
-  refused-turn w n e = rw e (answered-no (suc n) b (turned b w) (λ z. omega (arith, z)))
-
   module _ (w : List Step) (f : Form) (k : KeepsSteps w f) where
     abbrev Answer : Played → Type 0
     Answer p = p ≡ turnCall b w
@@ -115,40 +42,17 @@ module _ (b : Board) where
         split (inl m) = absurd (omega (arith, h, k .many m))
         split (inr m) = m
 
-    many-steps : maxEdges < f .count → maxEdges < length w
-    many-steps h = split (lt-or-ge maxEdges (length w))
-      where
-        split : (maxEdges < length w) ⊎ (length w ≤ maxEdges) → maxEdges < length w
-        split (inl m) = m
-        split (inr m) = absurd (omega (arith, h, k .few m))
-
     -- the steps were kept
-    turn-kept : f .count ≤ maxEdges → f .greatest < b .network .edges → Answer (turnCall b (stepsOf (take (f .count) (f .steps))))
+    turn-kept : f .count ≤ maxEdges → f .greatest < b .network .edges → Answer (turnCall b (codeSteps (take (f .count) (f .steps))))
     turn-kept h g = split (known (playing b))
       where
-        split : Known (playing b) → Answer (turnCall b (stepsOf (take (f .count) (f .steps))))
+        split : Known (playing b) → Answer (turnCall b (codeSteps (take (f .count) (f .steps))))
         split (was-true p) = rw (k .steps (few-steps h) (omega (arith, g, k .greatest, playing-edges b p)))
-        split (was-false p) =
-            refused-turn (stepsOf (take (f .count) (f .steps))) 19 (turn-out (stepsOf (take (f .count) (f .steps))) p) ∙ sym (refused-turn w 19 (turn-out w p))
+        split (was-false p) = closed-alike b (codeSteps (take (f .count) (f .steps))) w p
 
     -- not all of them were
-    turn-unkept : (f .count ≤ maxEdges → b .network .edges ≤ f .greatest) → Answer (record { answer = unkept b f; board = b })
-    unfolding unkept pick
-    turn-unkept n = split (known (playing b)) (known (ltb (f .greatest) (b .network .edges)))
-      where
-        split : Known (playing b) → Known (ltb (f .greatest) (b .network .edges)) → Answer (record { answer = unkept b f; board = b })
-        split (was-true p) (was-true t) =
-            let g : f .greatest < b .network .edges = ltb-true _ _ t in
-            let m : maxEdges < f .count = many (lt-or-ge maxEdges (f .count)) g in
-            rw (p, t, pick) (sym (refused-turn w 6 (turn-many w p (omega (arith, g, k .greatest)) (many-steps m))))
-          where
-            many : (maxEdges < f .count) ⊎ (f .count ≤ maxEdges) → f .greatest < b .network .edges → maxEdges < f .count
-            many (inl m) g = m
-            many (inr m) g = absurd (omega (arith, g, n m))
-        split (was-true p) (was-false t) =
-            let g : b .network .edges ≤ f .greatest = ltb-false _ _ t in
-            rw (p, t, pick) (sym (refused-turn w 5 (turn-off w p (omega (arith, g, k .greatest)))))
-        split (was-false p) t = rw (p, pick) (sym (refused-turn w 19 (turn-out w p)))
+    turn-unkept : (f .count ≤ maxEdges → b .network .edges ≤ f .greatest) → Answer (record { answer = turnUnkept b (f .greatest); board = b })
+    turn-unkept n = unkept-number b w (f .greatest) (k .greatest) (λ l. n (omega (arith, k .few l, l)))
 
     turn-replied : Answer (turnReplied b f)
     unfolding turnReplied both pick

@@ -14,36 +14,36 @@ use Rattle.lists.proofs.Laws.{pick-yes, pick-no}
 use Rattle.board.specs.Limits.{maxEdges}
 use Rattle.board.specs.Whole.{Board}
 use Rattle.board.specs.Whole.{Played}
-use Rattle.move_cycle.specs.Steps.{stepsOf}
-use Rattle.move_turn.specs.Turns.{turnCall}
+use Rattle.move_cycle.specs.Steps.{codeSteps}
+use Rattle.move_turn.specs.Turns.{turnCall, turnUnkept}
 use Rattle.play_lines.specs.declared.Form.{Form}
 use Rattle.solve_next.specs.declared.Suggestion.{Suggestion}
 use Rattle.play_lines.specs.MoveLines.{hintLine}
 use Rattle.play_lines.specs.Scans.{finishForm}
 use Rattle.text_writer.proofs.Writing.{sets-append}
 use Rattle.sheet_output.specs.Outputs.{numberLine, reportOf}
-use Rattle.play_session.specs.Machine.{unkept, turnReplied, suggestionText, playedText}
+use Rattle.play_session.specs.Machine.{outputBytes, turnReplied, suggestionText, playedText}
 
 -- ---- a turn
 
 module _ (b : Board) (f : Form) (t : Bool) (e : t ≡ both (leb (f .count) maxEdges) (ltb (f .greatest) (b .network .edges))) where
-  pub turn-unkept : (n : ℕ) → t ≡ false → n ≡ unkept b f → _≡_ {A = Played} (record { answer = n; board = b }) (turnReplied b f)
+  pub turn-unkept : (n : ℕ) → t ≡ false → n ≡ turnUnkept b (f .greatest) → _≡_ {A = Played} (record { answer = n; board = b }) (turnReplied b f)
   unfolding turnReplied
   turn-unkept n h q = rw q (sym (pick-no _ _ _ (sym e ∙ h)))
 
-  pub turn-kept : (p : Played) → t ≡ true → p ≡ turnCall b (stepsOf (take (f .count) (f .steps))) → p ≡ turnReplied b f
+  pub turn-kept : (p : Played) → t ≡ true → p ≡ turnCall b (codeSteps (take (f .count) (f .steps))) → p ≡ turnReplied b f
   unfolding turnReplied
   turn-kept p h q = q ∙ sym (pick-yes _ _ _ (sym e ∙ h))
 
 -- ---- what is printed
 
 -- the same text under another name
-pub printed : (out after : List ℕ) (used : ℕ) (x y : List ℕ) → x ≡ y → used ≡ length x → used ≤ 8291 → after ≡ sets out 0 x
-    → (used ≡ length y) × ((used ≤ 8291) × (after ≡ sets out 0 y))
+pub printed : (out after : List ℕ) (used : ℕ) (x y : List ℕ) → x ≡ y → used ≡ length x → used ≤ outputBytes → after ≡ sets out 0 x
+    → (used ≡ length y) × ((used ≤ outputBytes) × (after ≡ sets out 0 y))
 printed out after used x y e p small q = (p ∙ ap length e, (small, q ∙ ap (λ (l : List ℕ). sets out 0 l) e))
 
 -- nothing
-pub printed-none : (out y : List ℕ) → y ≡ [] → (0 ≡ length y) × ((0 ≤ 8291) × (out ≡ sets out 0 y))
+pub printed-none : (out y : List ℕ) → y ≡ [] → (0 ≡ length y) × ((0 ≤ outputBytes) × (out ≡ sets out 0 y))
 printed-none out y e = printed out out 0 [] y (sym e) refl (omega arith) refl
 
 -- a text behind another

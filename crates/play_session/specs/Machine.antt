@@ -11,10 +11,9 @@ use Rattle.board.specs.Limits.{maxEdges}
 use Rattle.board.specs.Record.{closedBoard}
 use Rattle.board.specs.Whole.{Board}
 use Rattle.board.specs.Whole.{Played}
-use Rattle.move_guard.specs.Guard.{playing}
 use Rattle.move_carry.specs.Carries.{carryCall}
-use Rattle.move_cycle.specs.Steps.{stepsOf}
-use Rattle.move_turn.specs.Turns.{turnCall}
+use Rattle.move_cycle.specs.Steps.{codeSteps}
+use Rattle.move_turn.specs.Turns.{turnCall, turnUnkept}
 use Rattle.move_undo.specs.Undone.{undoCall}
 use Rattle.solve_next.specs.declared.Suggestion.{Suggestion}
 use Rattle.solve_next.specs.Hints.{hintRefusal, hintCall}
@@ -25,6 +24,7 @@ use Rattle.play_lines.specs.declared.Form.{Form}
 use Rattle.play_lines.specs.declared.Scan.{Scan}
 use Rattle.play_lines.specs.MoveLines.{hintLine}
 use Rattle.play_lines.specs.Scans.{hintForm, undoForm, finishForm, carryWhole, turnForm, noScan, scanAll, scanned, isBlank}
+use Rattle.text.specs.Sizes.{numberBytes, reportBytes}
 use Rattle.sheet_output.specs.Outputs.{numberLine, reportOf}
 use Rattle.sheet_output.specs.Inputs.{textSpace, linesWanted}
 
@@ -39,15 +39,12 @@ pub record Session : Type 0 where
 
 -- ---- a line's answer
 
--- a turn whose steps were not all kept: too many of them, or an edge that the board has not
-unfoldable pub unkept : Board → Form → ℕ
-unkept b f = pick (playing b) (pick (ltb (f .greatest) (b .network .edges)) 7 6) 20
-
+-- a turn; where its steps were not all kept there are too many of them, or an edge that the board has not
 unfoldable pub turnReplied : Board → Form → Played
 turnReplied b f =
     pick (both (leb (f .count) maxEdges) (ltb (f .greatest) (b .network .edges)))
-    (turnCall b (stepsOf (take (f .count) (f .steps))))
-    (record { answer = unkept b f; board = b })
+    (turnCall b (codeSteps (take (f .count) (f .steps))))
+    (record { answer = turnUnkept b (f .greatest); board = b })
 
 unfoldable pub formReplied : Board → Form → Played
 formReplied b f =
@@ -68,6 +65,10 @@ playedText f p =
 
 unfoldable pub formText : Board → Form → List ℕ
 formText b f = pick (eqb (f .kind) hintForm) (suggestionText (hintCall b)) (playedText f (formReplied b f))
+
+-- what a line's answer takes at most: a number, and the longest report
+abbrev pub outputBytes : ℕ
+outputBytes = numberBytes + reportBytes
 
 -- ---- a session: the board is read, lines are played, or the board was refused
 

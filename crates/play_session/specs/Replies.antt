@@ -8,7 +8,7 @@ use Rattle.lists.specs.Choice.{pick}
 use Rattle.board.specs.Whole.{Board}
 use Rattle.board.specs.Whole.{Played}
 use Rattle.solve_next.specs.Hints.{hintCall}
-use Rattle.move_list.specs.Calls.{made, carry, turn, undo, hint}
+use Rattle.move_list.specs.Calls.{gameOf, made, carry, turn, undo, hint}
 use Rattle.solve_finish.specs.Finishes.{finishCall}
 use Rattle.load.specs.Load.{loadText}
 use Rattle.play_lines.specs.Orders.{Order, call, finish, other, orderOf}
@@ -18,7 +18,7 @@ use Rattle.sheet_output.specs.Inputs.{boardPart, movesPart}
 
 -- "0 or the refusal number for each, 1 for a line of another form"; and the board after it
 unfoldable pub replied : Board → Order → Played
-replied b (call c) = made b c
+replied b (call c) = record { answer = made (gameOf b) c .answer; board = made (gameOf b) c .game .board }
 replied b finish = record { answer = finishCall b .answer; board = finishCall b .board }
 replied b other = record { answer = 1; board = b }
 

@@ -23,9 +23,9 @@ ghost use Rattle.load.specs.Lent.{loadedOf};
 ghost use Rattle.play_lines.specs.Scans.{hintForm, scanned};
 ghost use Rattle.sheet_output.specs.Inputs.{textSpace};
 ghost use Rattle.play_session.specs.Machine.{
+  outputBytes,
   playingStage,
   overStage,
-  unkept,
   turnReplied,
   formReplied,
   suggestionText,
@@ -77,11 +77,12 @@ pub struct Fed {
 }
 
 impl Session {
-    // No board text is longer.
-    pub const TEXT: usize = 2048;
+    // No board text is longer: a line of n fields, of seven digits each, is read up to 2 + 8 × n bytes, and one byte
+    // more shows that nothing follows.
+    pub const TEXT: usize = 34 + 26 * Board::MAX_EDGES + 18 * Board::MAX_TERMINALS + 1;
 
     // The most that a line's answer takes: a number, and the longest report.
-    pub const OUTPUT: usize = 8291;
+    pub const OUTPUT: usize = 11 + report::REPORT_BYTES;
 
     // The stages.
     pub const READING: u32 = 0;
@@ -107,17 +108,6 @@ impl Session {
     }
 }
 
-// The number for a turn whose steps were not all kept.
-fn unkept(board: Board, journal: &[[u64; WORDS]; Board::JOURNAL], form: Form) -> u32
-    ensures { λ r. ⌜ r ≡ unkept (wholeOf board (now (journal .entry))) form ⌝ }
-{
-    if !move_guard::playing(board, journal) {
-        return 20;
-    }
-    let net = board.network;
-    if form.greatest < net.edges { 7 } else { 6 }
-}
-
 // A turn.
 fn turn_replied(board: Board, journal: &mut [[u64; WORDS]; Board::JOURNAL], form: Form) -> Played
     ensures { λ r. ⌜ givenOf r (now (journal .exit)) ≡ turnReplied (wholeOf board (now (journal .entry))) form ⌝ }
@@ -126,14 +116,14 @@ fn turn_replied(board: Board, journal: &mut [[u64; WORDS]; Board::JOURNAL], form
     let few = form.count <= Board::MAX_EDGES as u32;
     let known = form.greatest < net.edges;
     if !lists::and(few, known) {
-        let number = unkept(board, journal, form);
+        let number = move_turn::turn_unkept(board, journal, form.greatest);
         return Played {
             answer: number,
             board: board,
         };
     }
     let steps = form.steps;
-    move_turn::turn(board, journal, &steps[..form.count as usize])
+    move_turn::turn_steps(board, journal, &steps[..form.count as usize])
 }
 
 // Where the places behind so many moves begin.
@@ -206,7 +196,7 @@ fn form_replied(board: Board, journal: &mut [[u64; WORDS]; Board::JOURNAL], form
 // Writes the number of a hint, and after an accepted one its move as a line; answers how many bytes.
 fn put_hint(out: &mut [u8], given: Suggestion) -> usize
     ensures { λ r. ⌜ r ≡ length (suggestionText given) ⌝ }
-    ensures { λ r. ⌜ r ≤ 8291 ⌝ }
+    ensures { λ r. ⌜ r ≤ outputBytes ⌝ }
     ensures { λ _. ⌜ now (out .exit) ≡ sets (now (out .entry)) 0 (suggestionText given) ⌝ }
 {
     let number = sheet_output::put_number(out, 0, given.answer);
@@ -225,7 +215,7 @@ fn put_reply(
     journal: &[[u64; WORDS]; Board::JOURNAL],
 ) -> usize
     ensures { λ r. ⌜ r ≡ length (playedText form (givenOf played (now (journal .entry)))) ⌝ }
-    ensures { λ r. ⌜ r ≤ 8291 ⌝ }
+    ensures { λ r. ⌜ r ≤ outputBytes ⌝ }
     ensures { λ _. ⌜ now (out .exit) ≡
         sets (now (out .entry)) 0 (playedText form (givenOf played (now (journal .entry)))) ⌝ }
 {
@@ -366,7 +356,7 @@ fn ready(mut session: Session, loaded: Loaded) -> Session
 // Writes the number of a refused board, and nothing for another; answers how many bytes.
 fn put_load(out: &mut [u8], loaded: Loaded) -> usize
     ensures { λ r. ⌜ ((w : List (List ℕ)) → r ≡ length (loadTold (loadedOf loaded w))) ⌝ }
-    ensures { λ r. ⌜ r ≤ 8291 ⌝ }
+    ensures { λ r. ⌜ r ≤ outputBytes ⌝ }
     ensures { λ _. ⌜ ((w : List (List ℕ)) →
         now (out .exit) ≡ sets (now (out .entry)) 0 (loadTold (loadedOf loaded w))) ⌝ }
 {
@@ -385,7 +375,7 @@ fn board_line(
     ensures { λ r. ⌜ sessionOf (r .session) (now (journal .exit)) ≡
         boardLine (sessionOf session (now (journal .entry))) ⌝ }
     ensures { λ r. ⌜ r .used ≡ length (boardTold (sessionOf session (now (journal .entry)))) ⌝ }
-    ensures { λ r. ⌜ r .used ≤ 8291 ⌝ }
+    ensures { λ r. ⌜ r .used ≤ outputBytes ⌝ }
     ensures { λ _. ⌜ now (out .exit) ≡
         sets (now (out .entry)) 0 (boardTold (sessionOf session (now (journal .entry)))) ⌝ }
 {
@@ -418,7 +408,7 @@ fn hint_line(
     }) (sessionOf session (now (journal .entry))) ⌝ }
     ensures { λ r. ⌜ r .used ≡
         length (suggestionText (hintCall (wholeOf (session .board) (now (journal .entry))))) ⌝ }
-    ensures { λ r. ⌜ r .used ≤ 8291 ⌝ }
+    ensures { λ r. ⌜ r .used ≤ outputBytes ⌝ }
     ensures { λ _. ⌜ now (out .exit) ≡
         sets (now (out .entry)) 0 (suggestionText (hintCall (wholeOf (session .board) (now (journal .entry))))) ⌝ }
 {
@@ -444,7 +434,7 @@ fn played_line(
         (sessionOf session (now (journal .entry))) ⌝ }
     ensures { λ r. ⌜ r .used ≡
         length (formText (wholeOf (session .board) (now (journal .entry))) (scanned (session .scan))) ⌝ }
-    ensures { λ r. ⌜ r .used ≤ 8291 ⌝ }
+    ensures { λ r. ⌜ r .used ≤ outputBytes ⌝ }
     ensures { λ _. ⌜ now (out .exit) ≡ sets (now (out .entry)) 0
         (formText (wholeOf (session .board) (now (journal .entry))) (scanned (session .scan))) ⌝ }
 {
@@ -475,7 +465,7 @@ fn line_ended(
     ensures { λ r. ⌜ sessionOf (r .session) (now (journal .exit)) ≡
         lineEnded (sessionOf session (now (journal .entry))) ⌝ }
     ensures { λ r. ⌜ r .used ≡ length (lineTold (sessionOf session (now (journal .entry)))) ⌝ }
-    ensures { λ r. ⌜ r .used ≤ 8291 ⌝ }
+    ensures { λ r. ⌜ r .used ≤ outputBytes ⌝ }
     ensures { λ _. ⌜ now (out .exit) ≡
         sets (now (out .entry)) 0 (lineTold (sessionOf session (now (journal .entry)))) ⌝ }
 {
@@ -506,7 +496,7 @@ pub fn feed(
     ensures { λ r. ⌜ r .taken ≡ takenOf (now (bytes .entry)) ⌝ }
     ensures { λ r. ⌜ r .used ≡
         length (fedTold (sessionOf session (now (journal .entry))) (now (bytes .entry))) ⌝ }
-    ensures { λ r. ⌜ r .used ≤ 8291 ⌝ }
+    ensures { λ r. ⌜ r .used ≤ outputBytes ⌝ }
     ensures { λ _. ⌜ now (out .exit) ≡
         sets (now (out .entry)) 0 (fedTold (sessionOf session (now (journal .entry))) (now (bytes .entry))) ⌝ }
     ensures { λ r. ⌜ r .taken ≤ length (now (bytes .entry)) ⌝ }
@@ -538,7 +528,7 @@ pub fn close(
     out: &mut [u8],
 ) -> usize
     ensures { λ r. ⌜ r ≡ length (endTold (sessionOf session (now (journal .entry)))) ⌝ }
-    ensures { λ r. ⌜ r ≤ 8291 ⌝ }
+    ensures { λ r. ⌜ r ≤ outputBytes ⌝ }
     ensures { λ _. ⌜ now (out .exit) ≡
         sets (now (out .entry)) 0 (endTold (sessionOf session (now (journal .entry)))) ⌝ }
 {

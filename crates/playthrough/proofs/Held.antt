@@ -6,18 +6,18 @@ use Prim.Native.Nat.{ℕ}
 use lib.Seq.{sets}
 use Rattle.load.specs.Load.{loadText}
 use Rattle.solve_next.specs.declared.Suggestion.{Suggestion}
-use Rattle.move_list.specs.Calls.{Call, played, answers, hintsOf, noted}
+use Rattle.move_list.specs.Calls.{Call, gameOf, played, answers, hintsOf, noted}
 use Rattle.theorem_list.specs.Faithful.{Faithful}
 use Rattle.theorem_list.proofs.EveryList.{every-list}
 use Rattle.playthrough.specs.Through.{Outcome}
 use Rattle.playthrough.specs.Through.{outcome, Held, Holds}
 
 pub held : (text : List ℕ) (cs : List Call) (given given' hints hints' : List ℕ) (r : Outcome) → r ≡ outcome text cs
-    → given' ≡ sets given 0 (answers (loadText text .board) cs) → hints' ≡ noted hints 0 (hintsOf (loadText text .board) cs)
+    → given' ≡ sets given 0 (answers (gameOf (loadText text .board)) cs) → hints' ≡ noted hints 0 (hintsOf (gameOf (loadText text .board)) cs)
     → Holds text cs given given' hints hints' r
 held text cs given given' hints hints' r e g h loads = rw e here
   where
-    u : Faithful text cs (played (loadText text .board) cs)
+    u : Faithful text cs (played (gameOf (loadText text .board)) cs .board)
     u = every-list text cs loads
 
     here : Held text cs given given' hints hints' (outcome text cs)

@@ -20,7 +20,7 @@ use Rattle.solve_finish.specs.Lent.{Ended}
 use Rattle.solve_finish.specs.Finishes.{playedOut, finishRefusal, ended, finishCall}
 use Rattle.solve_finish.specs.Lent.{endedOf, finishOn}
 use Rattle.solve_finish.proofs.Lent.{further-out, finish-on-packed, finish-packed}
-use Rattle.move_list.specs.Calls.{Call, played}
+use Rattle.move_list.specs.Calls.{Call, gameOf, played}
 use Rattle.move_list.specs.Words.{wordsPlayed}
 use Rattle.move_list.proofs.Worded.{Kept}
 use Rattle.theorem_list.proofs.Words.{calls-kept}
@@ -49,23 +49,23 @@ finish-moves b = go (known (eqb (finishRefusal b) 0))
 
 -- what load, the calls and finish gave, each from what the one before gave, and the words after each
 module _ (text : List ℕ) (cs : List Call) (l : Opened) (w₁ : List (List ℕ)) (loads : loadedOf l w₁ ≡ loadText text) (empty : w₁ ≡ noWords) (t : Table)
-    (w₂ : List (List ℕ)) (plays : wholeOf t w₂ ≡ played (wholeOf (l .board) w₁) cs) (packs : w₂ ≡ wordsPlayed (wholeOf (l .board) w₁) cs w₁) where
+    (w₂ : List (List ℕ)) (plays : wholeOf t w₂ ≡ played (gameOf (wholeOf (l .board) w₁)) cs .board) (packs : w₂ ≡ wordsPlayed (gameOf (wholeOf (l .board) w₁)) cs w₁) where
   start : wholeOf (l .board) w₁ ≡ loadText text .board
   start = ap (λ (x : Loaded). x .board) loads
 
-  pub after-calls : wholeOf t w₂ ≡ played (loadText text .board) cs
-  after-calls = plays ∙ ap (λ (b : Board). played b cs) start
+  pub after-calls : wholeOf t w₂ ≡ played (gameOf (loadText text .board)) cs .board
+  after-calls = plays ∙ ap (λ (b : Board). played (gameOf b) cs .board) start
 
   pub kept : Kept (wholeOf t w₂) w₂
   kept =
-      packs ∙ ap (λ (b : Board). wordsPlayed b cs w₁) start ∙ ap (wordsPlayed (loadText text .board) cs) empty ∙ calls-kept text cs
+      packs ∙ ap (λ (b : Board). wordsPlayed (gameOf b) cs w₁) start ∙ ap (wordsPlayed (gameOf (loadText text .board)) cs) empty ∙ calls-kept text cs
       ∙ ap (λ (b : Board). packedAll (b .journal)) (sym after-calls)
 
   pub from-load : {A : Type 0} (f : Board → A) → f (wholeOf (l .board) w₁) ≡ f (loadText text .board)
   from-load f = ap f start
 
   module _ (e : Ended) (w₃ : List (List ℕ)) (ends : endedOf e w₃ ≡ finishOn t w₂) (stores : w₃ ≡ wordsAfter (t .moves) (finishOn t w₂ .board) w₂) where
-    on : finishOn t w₂ ≡ finishCall (played (loadText text .board) cs)
+    on : finishOn t w₂ ≡ finishCall (played (gameOf (loadText text .board)) cs .board)
     on = finish-on-packed t w₂ kept ∙ ap finishCall after-calls
 
     pub words-after : w₃ ≡ packedAll (outcome text cs .finish .board .journal)

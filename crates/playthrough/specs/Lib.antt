@@ -1,2 +1,4 @@
 pub mod Through
+pub mod Ends
+pub mod Inner
 pub mod Lent

@@ -6,7 +6,7 @@ use lib.Seq.{sets}
 use Rattle.board.specs.Whole.{Board}
 use Rattle.load.specs.Load.{loadText}
 use Rattle.solve_finish.specs.Finishes.{Finished, finishCall}
-use Rattle.move_list.specs.Calls.{Call, played, noted}
+use Rattle.move_list.specs.Calls.{Call, gameOf, played, noted}
 use Rattle.theorem_list.specs.Player.{says, suggests}
 use Rattle.theorem_list.specs.Complete.{Complete}
 use Rattle.theorem_list.specs.Faithful.{Faithful}
@@ -21,8 +21,8 @@ pub record Outcome : Type 0 where
 abbrev pub outcome : List ℕ → List Call → Outcome
 outcome text cs = record {
   loading = loadText text .answer;
-  board = played (loadText text .board) cs;
-  finish = finishCall (played (loadText text .board) cs);
+  board = played (gameOf (loadText text .board)) cs .board;
+  finish = finishCall (played (gameOf (loadText text .board)) cs .board);
 }
 
 -- the buffers of the answers and of the hints' moves, before and after

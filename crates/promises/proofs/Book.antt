@@ -1,6 +1,6 @@
 -- The book, whole.
 use Rattle.graph_flows.proofs.Walk.{on-cycle-first, first-on-cycle}
-use Rattle.theorem_keep.proofs.Network.{acyclic-of-below, acyclic-of-acyclic, acyclic-of-balance}
+use Rattle.theorem_cycles.proofs.Network.{acyclic-of-below, acyclic-of-acyclic, acyclic-of-balance}
 use Rattle.theorem_list.proofs.EveryList.{every-list}
 use Rattle.promises.specs.Cancelling.{AboutCancelling}
 use Rattle.promises.specs.Book.{Book}
@@ -13,9 +13,9 @@ use Rattle.promises.proofs.Refusals.{about-refusals}
 about-cancelling : AboutCancelling
 about-cancelling = record {
   on-cycle = λ tails heads flows n v w h. (on-cycle-first tails heads flows n v, first-on-cycle tails heads flows n v w h);
-  none-left = acyclic-of-acyclic;
-  none-raised = acyclic-of-below;
-  still-balanced = acyclic-of-balance;
+  none-left = λ net law. acyclic-of-acyclic net (law .sound);
+  none-raised = λ net law. acyclic-of-below net (law .sound);
+  still-balanced = λ net law. acyclic-of-balance net (law .sound) (law .balanced);
 }
 
 pub book : Book

@@ -12,23 +12,19 @@ use borrow.Author.Tests.{eq-eqb}
 use Rattle.lists.specs.Choice.{pick, both}
 use Rattle.lists.specs.Inner.{Below}
 use Rattle.lists.proofs.Laws.{Known, was-true, was-false, known, pick-yes, pick-no}
-use Rattle.board.specs.Limits.{maxVertices}
+use Rattle.board.specs.Limits.{maxVertices, maxEdges}
 use Rattle.board.specs.Whole.{Board}
 use Rattle.graph_flows.specs.Trails.{Step, In, edgeOf, edgesOf}
-use Rattle.move_guard.proofs.Answers.{answered-yes}
 use Rattle.move_carry.specs.Opens.{openTerminal, someOpen}
-use Rattle.move_carry.specs.Carries.{carryCall}
-use Rattle.move_turn.specs.Turns.{turnCall}
 use Rattle.solve_walk.proofs.Packed.{cycle-short}
-use Rattle.solve_next.specs.Choosing.{Act, relocate, augment, noKind, allHome, chosenEdge, judge, acted, nextCycle, nextAct, adviceOf, actOf}
+use Rattle.solve_next.specs.Choosing.{Act, relocate, augment, noKind, allHome, judge, acted, nextCycle, nextAct, adviceOf, actOf}
 use Rattle.solve_next.specs.Hints.{hintCall}
 use Rattle.solve_next.proofs.Advised.{next-carry, next-turn}
 use Rattle.solve_finish.specs.Finishes.{ended, finishCall}
-use Rattle.move_list.specs.Calls.{made}
 use Rattle.report_routes.specs.Routes.{route, load}
 use Rattle.report.specs.Reports.{reportText}
 use Rattle.play_lines.specs.Orders.{other, fieldsOf, isLetter, byFields, orderOf}
-use Rattle.play_lines.specs.MoveLines.{moveLine, hintLine, callFor, longestHint}
+use Rattle.play_lines.specs.MoveLines.{moveLine, hintLine, longestHint}
 use Rattle.play_lines.proofs.MovesRead.{ShortMove, move-read}
 use Rattle.play_lines.proofs.MovesShort.{SmallMove, move-line-short}
 use Rattle.theorem_keep.proofs.Carriable.{carry-facts}
@@ -39,20 +35,16 @@ use Rattle.theorem_list.proofs.Acts.{act-standing}
 use Rattle.theorem_list.proofs.Ends.{home-facts}
 use Rattle.theorem_list.proofs.Finish.{finish-completes, hint-taken}
 use Rattle.theorem_list.proofs.Next.{next-accepted}
+use Rattle.theorem_list.proofs.Stands.{act-accepted}
 use Rattle.theorem_list.proofs.HintFirst.{solved-once, solved-end, hint-none, hint-advice, hint-act, hint-first}
 use Rattle.promises.specs.Hints.{offers, ReadBack, FedBack, HintedOut, AboutHints}
 use Rattle.promises.proofs.Plays.{play-standing}
+use Rattle.solve_carry.specs.Search.{chosenEdge}
 
 -- a record of a move is of some kind
 some-kind : (x : Act) → eqb (adviceOf x .kind) noKind ≡ false
 some-kind (relocate i e) = refl
 some-kind (augment w) = refl
-
--- an accepted move, called
-act-made : (b : Board) (a : Act) → judge b a ≡ 0 → made b (callFor a) ≡ record { answer = 0; board = acted b a }
-unfolding carryCall turnCall
-act-made b (relocate i e) h = answered-yes (judge b (relocate i e)) b (acted b (relocate i e)) h
-act-made b (augment w) h = answered-yes (judge b (augment w)) b (acted b (augment w)) h
 
 -- steps over edges below n
 below-all : (n : ℕ) (w : List Step) → ((s : Step) → In s w → edgeOf s < n) → Below n (edgesOf w)
@@ -64,24 +56,23 @@ module _ (b : Board) (st : Standing b) where
   small-carry : (i e : ℕ) → judge b (relocate i e) ≡ 0 → SmallMove (relocate i e)
   small-carry i e h =
       let f = carry-facts b i e h .1 in
-      (omega (arith, f .terminal, st .inv .lawful .terminals), omega (arith, f .edge, st .inv .lawful .edges))
+      (omega (arith, f .terminal, st .within .terminals), omega (arith, f .edge, st .within .edges))
 
   short-move : (a : Act) → judge b a ≡ 0 → ShortMove a
   short-move (relocate i e) h = let s = small-carry i e h in (omega (arith, s .0), omega (arith, s .1))
-  short-move (augment w) h = below-all 10000000 w (λ s i. omega (arith, turn-facts b w h .1 .inside s i, st .inv .lawful .edges))
+  short-move (augment w) h = below-all 10000000 w (λ s i. omega (arith, turn-facts b w h .1 .inside s i, st .within .edges))
 
   -- those of the solver's move, and how many steps it has
 
   few-steps : length (nextCycle b) ≤ maxVertices
-  unfolding nextCycle
   few-steps =
       let net = b .network in
-      omega (arith, st .inv .lawful .vertices, cycle-short (net .tails) (net .heads) (b .flows) (net .vertices) (net .source))
+      omega (arith, st .within .vertices, cycle-short (net .tails) (net .heads) (b .flows) (net .vertices) (net .source))
 
   small-turn : judge b (augment (nextCycle b)) ≡ 0 → SmallMove (augment (nextCycle b))
   small-turn h = (
     few-steps,
-    below-all 100 (nextCycle b) (λ s i. omega (arith, turn-facts b (nextCycle b) h .1 .inside s i, st .inv .lawful .edges)),
+    below-all maxEdges (nextCycle b) (λ s i. omega (arith, turn-facts b (nextCycle b) h .1 .inside s i, st .within .edges)),
   )
 
   small-next : allHome b ≡ false → SmallMove (nextAct b)
@@ -112,7 +103,7 @@ module _ (b : Board) (st : Standing b) where
     read-back = record {
       line = line-move;
       read = move-read (actOf (hintCall b .advice)) (short-move (actOf (hintCall b .advice)) accepted);
-      makes = act-made b (actOf (hintCall b .advice)) accepted;
+      makes = act-accepted b (actOf (hintCall b .advice)) st accepted .called;
     }
 
   -- the rule

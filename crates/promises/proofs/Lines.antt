@@ -12,10 +12,9 @@ use borrow.Author.Tests.{eq-eqb, ne-eqb}
 use Rattle.lists.specs.Choice.{pick}
 use Rattle.lists.proofs.Laws.{Known, was-true, was-false, known, pick-yes, pick-no}
 use Rattle.board.specs.Whole.{Board}
-use Rattle.board.specs.Whole.{Played}
 use Rattle.load.specs.Load.{loadText}
 use Rattle.move_guard.specs.Guard.{playing}
-use Rattle.move_list.specs.Calls.{Call, carry, turn, undo, hint, made}
+use Rattle.move_list.specs.Calls.{Call, carry, turn, undo, hint, Game, gameOf, Reply, replyOf, made}
 use Rattle.solve_next.specs.Hints.{hintRefusal}
 use Rattle.solve_finish.specs.Finishes.{Finished}
 use Rattle.solve_finish.specs.Finishes.{finishCall}
@@ -25,7 +24,7 @@ use Rattle.sheet_output.specs.Outputs.{numberLine, reportOf}
 use Rattle.play_lines.specs.Orders.{Order, call, finish, other, orderOf}
 use Rattle.play_session.specs.Replies.{replied, behindZero, replyText, repliesFrom, playOutput}
 use Rattle.play_session.proofs.Lines.{reply-alone}
-use Rattle.theorem_list.specs.Player.{listedAll, afresh, saysTo, standingAfter}
+use Rattle.theorem_list.specs.Player.{Item, listedAll, afresh, saysTo, standingAfter}
 use Rattle.theorem_list.proofs.Finish.{finish-completes, hint-taken}
 use Rattle.theorem_list.proofs.Stands.{Stands, none, stands-follows}
 use Rattle.theorem_list.proofs.EveryList.{same}
@@ -44,7 +43,7 @@ unfolding replyText replied
 hint-told b h = ap (λ (l : List ℕ). numberLine (hintRefusal b) ++ l) (pick-yes (eqb (hintRefusal b) 0) _ _ (eq-eqb _ 0 h))
 
 -- to a call: its number, and behind the 0 of a hint the move
-call-told : (b : Board) (c : Call) → hintRefusal b ≡ 0 → replyText b (call c) ≡ numberLine (made b c .answer) ++ behindZero b (call c)
+call-told : (b : Board) (c : Call) → hintRefusal b ≡ 0 → replyText b (call c) ≡ numberLine (made (gameOf b) c .answer) ++ behindZero b (call c)
 unfolding replied
 call-told b (carry i e) h = reply-alone b (call (carry i e)) refl ∙ sym (append-nil _)
 call-told b (turn w) h = reply-alone b (call (turn w)) refl ∙ sym (append-nil _)
@@ -58,18 +57,19 @@ finish-told b h r = rw (h, r)
 
 -- ---- behind an accepted finish
 module _ (b : Board) (off : playing b ≡ false) where
-  call-over : (c : Call) → made b c ≡ record { answer = 20; board = b }
-  call-over (carry i e) = no-carry b off i e
-  call-over (turn w) = no-turn b off w
-  call-over undo = no-undo b off
-  call-over hint = λ j. record { answer = hint-number b off j; board = b }
+  call-over : (c : Call) → made (gameOf b) c ≡ record { answer = 20; game = gameOf b }
+  call-over (carry i e) = ap replyOf (no-carry b off i e)
+  call-over (turn w) = ap replyOf (no-turn b off w)
+  call-over undo = ap replyOf (no-undo b off)
+  call-over hint = λ j. record { answer = hint-number b off j; game = gameOf b }
 
   line-over : (o : Order) (s : List ℕ) (os : List Order) → repliesFrom b [] s ≡ saidOver os
       → replyText b o ++ repliesFrom (replied b o .board) [] s ≡ saidOver (o ∷ os)
   unfolding saidOver replied
   line-over (call c) s os ih =
-      let number : made b c .answer ≡ 20 = ap (λ (p : Played). p .answer) (call-over c) in
-      rw (refused-alone b (call c) (λ q. omega (arith, number, q)), call-over c, ih)
+      let number : made (gameOf b) c .answer ≡ 20 = ap (λ (r : Reply). r .answer) (call-over c) in
+      let board : made (gameOf b) c .game .board ≡ b = ap (λ (r : Reply). r .game .board) (call-over c) in
+      rw (refused-alone b (call c) (λ q. omega (arith, number, q)), number, board, ih)
   line-over finish s os ih =
       let over = no-finish b off in
       let number : finishCall b .answer ≡ 20 = ap (λ (f : Finished). f .answer) over in
@@ -93,14 +93,15 @@ module _ (b : Board) (off : playing b ≡ false) where
 
 -- ---- in play, with the standing moves ms
 module _ (text : List ℕ) (loads : loadText text .answer ≡ 0) where
-  line-said : (ms : List Call) → Stands text ms → (o : Order) (s : List ℕ)
-      → ((more : List Call) → Stands text more → repliesFrom (afresh text more) [] s ≡ said text more (ordersFrom [] s))
+  line-said : (ms : List Item) → Stands text ms → (o : Order) (s : List ℕ)
+      → ((more : List Item) → Stands text more → repliesFrom (afresh text more) [] s ≡ said text more (ordersFrom [] s))
       → replyText (afresh text ms) o ++ repliesFrom (replied (afresh text ms) o .board) [] s ≡ said text ms (o ∷ ordersFrom [] s)
   unfolding said replied
   line-said ms st (call c) s ih =
       let q = same text loads ms c st in
       let told = call-told (afresh text ms) c (hint-taken (afresh text ms) (stands-follows text loads ms st .standing)) in
-      rw (told, q .answer, q .board, ih (standingAfter text ms c) (q .stands))
+      let board : made (gameOf (afresh text ms)) c .game .board ≡ afresh text (standingAfter text ms c) = ap (λ (g : Game). g .board) (q .game) in
+      rw (told, q .answer, board, ih (standingAfter text ms c) (q .stands))
       (append-assoc (numberLine (saysTo text ms c)) (behindZero (afresh text ms) (call c)) (said text (standingAfter text ms c) (ordersFrom [] s)))
   line-said ms st finish s ih =
       let b = afresh text ms in
@@ -110,7 +111,7 @@ module _ (text : List ℕ) (loads : loadText text .answer ≡ 0) where
       (append-assoc (numberLine 0) (reportText (finishCall b .board)) (saidOver (ordersFrom [] s)))
   line-said ms st other s ih = rw (refused-alone (afresh text ms) other (λ q. omega (arith, q)), ih ms st)
 
-  lines-said : (l s : List ℕ) (ms : List Call) → Stands text ms → repliesFrom (afresh text ms) l s ≡ said text ms (ordersFrom l s)
+  lines-said : (l s : List ℕ) (ms : List Item) → Stands text ms → repliesFrom (afresh text ms) l s ≡ said text ms (ordersFrom l s)
   unfolding repliesFrom ordersFrom said replied pick
   lines-said l [] ms st = go (known (eqb (length l) 0))
     where
@@ -120,7 +121,7 @@ module _ (text : List ℕ) (loads : loadText text .answer ≡ 0) where
           rw (t, repliesFrom, ordersFrom, said, replied, pick) (refused-alone (afresh text ms) other (λ q. omega (arith, q)) ∙ sym (append-nil _))
   lines-said l (c ∷ s) ms st = go (known (eqb c 10)) (λ more m. lines-said [] s more m) (lines-said (l ++ (c ∷ [])) s ms st)
     where
-      go : Known (eqb c 10) → ((more : List Call) → Stands text more → repliesFrom (afresh text more) [] s ≡ said text more (ordersFrom [] s))
+      go : Known (eqb c 10) → ((more : List Item) → Stands text more → repliesFrom (afresh text more) [] s ≡ said text more (ordersFrom [] s))
           → repliesFrom (afresh text ms) (l ++ (c ∷ [])) s ≡ said text ms (ordersFrom (l ++ (c ∷ [])) s)
           → repliesFrom (afresh text ms) l (c ∷ s) ≡ said text ms (ordersFrom l (c ∷ s))
       go (was-true t) line byte = rw (t, repliesFrom, ordersFrom) (line-said ms st (orderOf l) s line)

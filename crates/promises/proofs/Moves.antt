@@ -14,23 +14,24 @@ use Rattle.graph_flows.specs.Trails.{Step}
 use Rattle.load.specs.Load.{loadText}
 use Rattle.load.proofs.Loads.{load-accepted}
 use Rattle.move_guard.specs.Parts.{flow, tail, head, marked}
-use Rattle.move_edges.specs.Marking.{singular, fresh}
-use Rattle.move_carry.specs.Carries.{carried}
+use Rattle.move_edges.specs.Marking.{singular, fresh, singularIn}
+use Rattle.move_carry.specs.Carries.{carried, carriedIn}
 use Rattle.move_cycle.specs.Amounts.{amount}
 use Rattle.move_turn.specs.Turns.{turnRefusal}
 use Rattle.solve_next.specs.Choosing.{allHome}
-use Rattle.theorem_keep.specs.Allowed.{Turnable, Attained}
-use Rattle.theorem_keep.specs.Invariant.{Invariant}
-use Rattle.theorem_keep.proofs.Kept.{joined}
-use Rattle.theorem_keep.proofs.Single.{straight-unparted}
+use Rattle.theorem_cycles.specs.Allowed.{Attained}
+use Rattle.theorem_cycles.specs.Invariant.{Invariant}
+use Rattle.theorem_cycles.proofs.Flowing.{joined}
+use Rattle.theorem_cycles.proofs.Single.{straight-unparted}
 use Rattle.theorem_keep.proofs.Carriable.{carry-facts, carry-accepted}
 use Rattle.theorem_keep.proofs.Turnable.{turn-facts, turn-accepted}
-use Rattle.theorem_keep.proofs.TurnedMarks.{fresh-facts, fresh-of, unparted-single}
-use Rattle.theorem_keep.proofs.MarkedEdges.{turn-marks, marked-singular}
-use Rattle.theorem_keep.proofs.Amounted.{SomeDown, amount-down, amount-above, amount-up, amount-attained, some-down}
-use Rattle.theorem_keep.proofs.Potential.{level, level-rises}
+use Rattle.theorem_cycles.proofs.TurnedMarks.{fresh-facts, fresh-of, unparted-single}
+use Rattle.theorem_cycles.proofs.MarkedEdges.{turn-marks, marked-singular}
+use Rattle.theorem_cycles.proofs.Amounted.{amount-down, amount-up}
+use Rattle.theorem_cycles.proofs.Gains.{turn-amount, turn-attained}
 use Rattle.theorem_keep.proofs.Standing.{Standing, carry-undone, turn-undone}
-use Rattle.theorem_list.proofs.Degrees.{starts}
+use Rattle.theorem_cycles.proofs.Degrees.{starts}
+use Rattle.theorem_list.proofs.NextCycle.{some-away}
 use Rattle.theorem_list.proofs.Stops.{none-positive}
 use Rattle.theorem_list.proofs.Next.{next-accepted}
 use Rattle.promises.specs.Moves.{AboutMoves}
@@ -38,9 +39,9 @@ use Rattle.promises.proofs.Plays.{play-standing}
 
 singular-means : (b : Board) (e : ℕ) → Invariant b → e < b .network .edges
     → (singular b e ≡ true) ↔ Unparted (b .network .tails) (b .network .heads) (b .flows) (head b e)
-unfolding singular
+unfolding singularIn
 singular-means b e inv h = (
-  λ s. straight-unparted (b .network .tails) (b .network .heads) (b .flows) (b .network .vertices) (head b e) (joined b inv) (inv .lawful .head e h) s,
+  λ s. straight-unparted (b .network .tails) (b .network .heads) (b .flows) (b .network .vertices) (head b e) (joined b inv) (inv .sound .head e h) s,
   λ u. unparted-single b inv e u,
 )
 
@@ -52,19 +53,12 @@ newly b e =
     (λ h. let f = fresh-facts b e h in (f .unmarked, f .above, f .single), λ f. fresh-of b e (record { unmarked = f .0; above = f .1; single = f .2 }))
 
 carry-kept : (b : Board) (i e : ℕ) → carried b i e .marks ≡ b .marks
-unfolding carried
+unfolding carriedIn
 carry-kept b i e = refl
 
--- an accepted turn has a down-step, so that its amount is one of those that document 01 names
-module _ (b : Board) (w : List Step) (st : Standing b) (h : turnRefusal b w ≡ 0) where
-  turns : Turnable b w
-  turns = turn-facts b w h .1
-
-  down-step : SomeDown w
-  down-step = some-down (b .network .tails) (b .network .heads) (level b) w (turns .cycle) (λ s i. level-rises b (st .inv) _ (turns .above s i))
-
-  one : (0 < amount b w) × Attained b w
-  one = (amount-above b w (down-step .edge) (turns .above) (down-step .among), amount-attained b w (down-step .edge) (turns .above) (down-step .among))
+-- the amount of an accepted turn is one of those that document 01 names
+one : (b : Board) (w : List Step) → Standing b → turnRefusal b w ≡ 0 → (0 < amount b w) × Attained b w
+one b w st h = let t = turn-facts b w h .1 in (turn-amount b w (st .inv) t, turn-attained b w (st .inv) t)
 
 -- no positive edge leaves the source exactly where every terminal is there
 stops : (b : Board) → Invariant b → (allHome b ≡ true) ↔ ((e : ℕ) → 0 < flow b e → tail b e ≡ b .network .source → ⊥)
@@ -72,7 +66,10 @@ stops b inv = (λ all e h q. omega (arith, h, none-positive b inv all e), λ non
   where
     by : ((e : ℕ) → 0 < flow b e → tail b e ≡ b .network .source → ⊥) → Known (allHome b) → allHome b ≡ true
     by none (was-true t) = t
-    by none (was-false t) = let s = starts b inv t in absurd (none (s .edge) (s .leaves .above) (s .leaves .start))
+    by none (was-false t) =
+        let away = some-away b t in
+        let s = starts b inv (away .terminal) (away .on-board) (away .elsewhere) in
+        absurd (none (s .edge) (s .leaves .above) (s .leaves .start))
 
 pub about-moves : AboutMoves
 about-moves = record {

@@ -24,10 +24,10 @@ use Rattle.move_guard.specs.Guard.{intact, loaded, playing}
 use Rattle.move_guard.specs.Moved.{answered}
 use Rattle.move_guard.proofs.Answers.{answered-no}
 use Rattle.move_guard.proofs.Facts.{playing-intact}
-use Rattle.move_carry.specs.Carries.{carryRefusal, carried, carryCall}
-use Rattle.move_turn.specs.Turns.{turnRefusal, turned, turnCall}
-use Rattle.move_undo.specs.Undone.{undoRefusal, undone, undoCall}
-use Rattle.move_list.specs.Calls.{Call, carry, turn, undo, hint, made}
+use Rattle.move_carry.specs.Carries.{carryRefusal, carried, carryCall, carryRefusalIn}
+use Rattle.move_turn.specs.Turns.{turnRefusal, turned, turnCall, turnRefusalIn}
+use Rattle.move_undo.specs.Undone.{undoRefusal, undone, undoCall, undoRefusalIn}
+use Rattle.move_list.specs.Calls.{Call, carry, turn, undo, hint, Game, gameOf, made}
 use Rattle.solve_next.specs.Choosing.{noAdvice}
 use Rattle.solve_next.specs.Hints.{hintRefusal, hintCall}
 use Rattle.solve_finish.specs.Finishes.{Finished}
@@ -36,12 +36,13 @@ use Rattle.report_routes.specs.Routes.{route}
 use Rattle.report_routes.specs.Tables.{routesFit}
 use Rattle.report.specs.Reports.{started, unreported, reportText, sheetRefusal, sheetCall, sheeted}
 use Rattle.catalog.specs.Catalog.{catalogCall, catalogued}
-use Rattle.theorem_keep.proofs.Standing.{Standing, standing-playing}
+use Rattle.theorem_keep.proofs.Standing.{Standing, standing-lawful, standing-playing}
 use Rattle.theorem_list.proofs.Finish.{finish-taken, finish-result, hint-taken}
 use Rattle.theorem_list.proofs.Rooms.{routes-fit}
 use Rattle.promises.specs.Plays.{OfPlay, OfFinish}
 use Rattle.promises.specs.Refusals.{Refuses20, Refuses29, Whole, AboutRefusals}
 use Rattle.promises.proofs.Plays.{play-standing, last-standing, finish-ended, finish-stage}
+use Rattle.move_carry.specs.Opens.{isHomeIn}
 
 -- ---- a board that is not in play
 module _ (b : Board) (shut : playing b ≡ false) where
@@ -50,15 +51,15 @@ module _ (b : Board) (shut : playing b ≡ false) where
   stays n next h = answered-no n b next (λ q. omega (arith, h, q)) ∙ (λ j. record { answer = h j; board = b })
 
   pub no-carry : (i e : ℕ) → carryCall b i e ≡ record { answer = 20; board = b }
-  unfolding carryCall carryRefusal
+  unfolding carryCall carryRefusalIn isHomeIn
   no-carry i e = stays (carryRefusal b i e) (carried b i e) (pick-no (playing b) _ 20 shut)
 
   pub no-turn : (w : List Step) → turnCall b w ≡ record { answer = 20; board = b }
-  unfolding turnCall turnRefusal
+  unfolding turnCall turnRefusalIn
   no-turn w = stays (turnRefusal b w) (turned b w) (pick-no (playing b) _ 20 shut)
 
   pub no-undo : undoCall b ≡ record { answer = 20; board = b }
-  unfolding undoCall undoRefusal
+  unfolding undoCall undoRefusalIn
   no-undo = stays (undoRefusal b) (undone b) (pick-no (playing b) _ 20 shut)
 
   pub hint-number : hintRefusal b ≡ 20
@@ -128,8 +129,8 @@ module _ (b : Board) (st : Standing b) where
   whole : Whole b
   whole = record {
     intact = staged-loaded b (omega (arith, st .stage)) (omega (arith, st .stage)) (playing-intact b (standing-playing b st));
-    network = staged-writable b (omega (arith, st .stage)) (omega (arith, st .stage)) (lawful-tested (b .network) (st .inv .lawful));
-    routes = routes-fit b (st .inv);
+    network = staged-writable b (omega (arith, st .stage)) (omega (arith, st .stage)) (lawful-tested (b .network) (standing-lawful b st));
+    routes = routes-fit b (st .inv) (st .within);
   }
 
   -- the same once play is over
@@ -137,8 +138,8 @@ module _ (b : Board) (st : Standing b) where
   unfolding intact routesFit route
   ended-whole from = record {
     intact = staged-loaded (ended from b) (omega arith) (omega arith) (playing-intact b (standing-playing b st));
-    network = staged-writable (ended from b) (omega arith) (omega arith) (lawful-tested (b .network) (st .inv .lawful));
-    routes = routes-fit b (st .inv);
+    network = staged-writable (ended from b) (omega arith) (omega arith) (lawful-tested (b .network) (standing-lawful b st));
+    routes = routes-fit b (st .inv) (st .within);
   }
 
 in-play : (text : List ℕ) (b : Board) → OfPlay text b → Whole b × (hintRefusal b ≡ 0) × (finishRefusal b ≡ 0)
@@ -156,12 +157,12 @@ refused-same n b next h = go (known (eqb n 0))
     go (was-true t) = absurd (h (ap (λ (p : Played). p .answer) (pick-yes (eqb n 0) _ _ t)))
     go (was-false t) = ap (λ (p : Played). p .board) (pick-no (eqb n 0) _ _ t)
 
-call-same : (b : Board) (c : Call) → made b c .answer ≢ 0 → made b c .board ≡ b
+call-same : (g : Game) (c : Call) → made g c .answer ≢ 0 → made g c .game ≡ g
 unfolding carryCall turnCall undoCall
-call-same b (carry i e) h = refused-same (carryRefusal b i e) b (carried b i e) h
-call-same b (turn w) h = refused-same (turnRefusal b w) b (turned b w) h
-call-same b undo h = refused-same (undoRefusal b) b (undone b) h
-call-same b hint h = refl
+call-same g (carry i e) h = ap gameOf (refused-same (carryRefusal (g .board) i e) (g .board) (carried (g .board) i e) h)
+call-same g (turn w) h = ap gameOf (refused-same (turnRefusal (g .board) w) (g .board) (turned (g .board) w) h)
+call-same g undo h = ap gameOf (refused-same (undoRefusal (g .board)) (g .board) (undone (g .board)) h)
+call-same g hint h = refl
 
 finish-same : (b : Board) → finishCall b .answer ≢ 0 → finishCall b ≡ record { answer = finishCall b .answer; count = 0; board = b }
 unfolding finishCall

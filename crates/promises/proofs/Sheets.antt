@@ -7,6 +7,7 @@ use native.Mathlib.Omega.{arith}
 use lib.Dec.{leb}
 use lib.ListN.{length, getD}
 use borrow.Author.Tests.{ne-eqb, le-leb, lt-leb, leb-true}
+use Rattle.text.specs.Sizes.{longestReport}
 use Rattle.lists.proofs.Laws.{pick-yes, pick-no}
 use Rattle.board.specs.Whole.{Board}
 use Rattle.board.specs.declared.Network.{Network}
@@ -22,7 +23,7 @@ use Rattle.catalog.specs.Table.{table}
 use Rattle.catalog.specs.Catalog.{boards, catalogText, catalogCall}
 use Rattle.catalog.proofs.Rule.{all-accepted}
 use Rattle.catalog.proofs.Assured.{loads}
-use Rattle.theorem_keep.proofs.Network.{acyclic-of-below}
+use Rattle.theorem_cycles.proofs.Network.{acyclic-of-below}
 use Rattle.theorem_list.proofs.Reports.{every-report, finished-acyclic, sheet-printed}
 use Rattle.theorem_list.proofs.Longest.{report-short}
 use Rattle.promises.specs.Plays.{OfFinish}
@@ -55,11 +56,11 @@ first text f p e =
     rw (p .given, q .after) (ap (λ (l : List ℕ). getD l e 0) (finished-acyclic text (q .calls) (q .accepted))) in
     record {
       acyclic = same;
-      below = omega (arith, same, acyclic-of-below net (loaded-lawful text (q .accepted)) e);
+      below = omega (arith, same, acyclic-of-below net (loaded-lawful text (q .accepted) .sound) e);
       whole = λ none. same ∙ ap (λ (l : List ℕ). getD l e 0) (nothing-cancelled (net .tails) (net .heads) (net .vertices) (net .flows) none);
     }
 
-room : (text : List ℕ) (f : Board) → OfFinish text f → length (reportText f) ≤ 2948
+room : (text : List ℕ) (f : Board) → OfFinish text f → length (reportText f) ≤ longestReport
 room text f p = let q = p .play in rw (p .given, q .after) (report-short text (q .calls) (q .accepted))
 
 refused : (text : List ℕ) → loadText text .answer ≢ 0 → sheetOutput text ≡ numberLine (loadText text .answer)

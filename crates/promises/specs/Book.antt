@@ -4,7 +4,7 @@ use mathlib.Core.Path.{_≡_}
 use mathlib.Core.List.{List}
 use Prim.Native.Nat.{ℕ}
 use Rattle.load.specs.Load.{loadText}
-use Rattle.move_list.specs.Calls.{Call, played}
+use Rattle.move_list.specs.Calls.{Call, gameOf, played}
 use Rattle.theorem_list.specs.Faithful.{Faithful}
 use Rattle.promises.specs.Texts.{AboutTexts}
 use Rattle.promises.specs.Cancelling.{AboutCancelling}
@@ -19,6 +19,6 @@ pub record Book : Type 0 where
   pub moves : AboutMoves
   pub hints : AboutHints
   -- "Demand 3 is one claim about a whole list of carries, turns, hints and undos, of any length, and not a claim for each call"
-  pub every-list : (text : List ℕ) (cs : List Call) → loadText text .answer ≡ 0 → Faithful text cs (played (loadText text .board) cs)
+  pub every-list : (text : List ℕ) (cs : List Call) → loadText text .answer ≡ 0 → Faithful text cs (played (gameOf (loadText text .board)) cs .board)
   pub sheets : AboutSheets
   pub refusals : AboutRefusals

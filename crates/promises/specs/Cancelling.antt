@@ -7,7 +7,8 @@ use Prim.Native.Nat.{ℕ, _+_, _<_, _≤_}
 use lib.ListN.{getD}
 use Rattle.lists.specs.Lists.{sumAt}
 use Rattle.board.specs.declared.Network.{Network}
-use Rattle.text_rules.specs.Rules.{demandAt, Lawful}
+use Rattle.text_rules.specs.Sound.{demandAt}
+use Rattle.text_rules.specs.Rules.{Lawful}
 use Rattle.graph_cancel.specs.Cycles.{onCycle}
 use Rattle.graph_flows.specs.Paths.{First, Acyclic, EndsBelow}
 use Rattle.load.specs.Load.{acyclicOf}

@@ -12,10 +12,10 @@ use Rattle.solve_next.specs.declared.Advice.{Advice}
 use Rattle.solve_next.specs.Choosing.{Act, noKind, allHome, judge, acted, noAdvice, actOf}
 use Rattle.solve_next.specs.Hints.{hintCall}
 use Rattle.solve_finish.specs.Finishes.{finishCall}
-use Rattle.move_list.specs.Calls.{made}
+use Rattle.move_list.specs.Calls.{callFor, gameOf, made}
 use Rattle.report.specs.Reports.{reportText}
 use Rattle.play_lines.specs.Orders.{call, other, orderOf}
-use Rattle.play_lines.specs.MoveLines.{moveText, hintLine, callFor, longestHint}
+use Rattle.play_lines.specs.MoveLines.{moveText, hintLine, longestHint}
 use Rattle.theorem_list.specs.Complete.{OneFurther}
 use Rattle.promises.specs.Plays.{OfPlay}
 
@@ -27,7 +27,7 @@ offers b a = pick (eqb (a .kind) noKind) (allHome b) (eqb (judge b (actOf a)) 0)
 pub record ReadBack (b : Board) (a : Act) : Type 0 where
   pub line : hintLine (hintCall b .advice) ≡ moveText a ++ (10 ∷ [])
   pub read : orderOf (moveText a) ≡ call (callFor a)
-  pub makes : made b (callFor a) ≡ record { answer = 0; board = acted b a }
+  pub makes : made (gameOf b) (callFor a) ≡ record { answer = 0; game = gameOf (acted b a) }
 
 -- k hints, each given back as a line, lead from b to c, where no move is left
 abbrev pub FedBack : ℕ → Board → Board → Type 0

@@ -17,7 +17,7 @@ use Rattle.move_cycle.specs.Amounts.{amount}
 use Rattle.move_turn.specs.Turns.{turnRefusal, turned}
 use Rattle.move_undo.specs.Undone.{undoCall}
 use Rattle.solve_next.specs.Choosing.{allHome, judge, nextAct}
-use Rattle.theorem_keep.specs.Allowed.{Carriable, Turnable, Attained}
+use Rattle.theorem_cycles.specs.Allowed.{Carriable, Turnable, Attained}
 use Rattle.promises.specs.Plays.{OfPlay}
 
 pub record AboutMoves : Type 0 where

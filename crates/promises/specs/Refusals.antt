@@ -15,7 +15,7 @@ use Rattle.move_guard.specs.Guard.{loaded}
 use Rattle.move_carry.specs.Carries.{carryCall}
 use Rattle.move_turn.specs.Turns.{turnCall}
 use Rattle.move_undo.specs.Undone.{undoCall}
-use Rattle.move_list.specs.Calls.{Call, made}
+use Rattle.move_list.specs.Calls.{Call, Game, made}
 use Rattle.solve_next.specs.Choosing.{noAdvice}
 use Rattle.solve_next.specs.Hints.{hintRefusal, hintCall}
 use Rattle.solve_finish.specs.Finishes.{finishRefusal, finishCall}
@@ -53,8 +53,8 @@ pub record AboutRefusals : Type 0 where
   -- no board of play, and none that a finish gave, lacks what the calls ask besides, so that no call is refused for it
   pub whole-in-play : (text : List ℕ) (b : Board) → OfPlay text b → Whole b × (hintRefusal b ≡ 0) × (finishRefusal b ≡ 0)
   pub whole-finished : (text : List ℕ) (f : Board) → OfFinish text f → Whole f
-  -- "Any other refusal gives the number alone": the board is as before
-  pub call-refused : (b : Board) (c : Call) → made b c .answer ≢ 0 → made b c .board ≡ b
+  -- "Any other refusal gives the number alone": the game is as before
+  pub call-refused : (g : Game) (c : Call) → made g c .answer ≢ 0 → made g c .game ≡ g
   pub finish-refused : (b : Board) → finishCall b .answer ≢ 0 → finishCall b ≡ record { answer = finishCall b .answer; count = 0; board = b }
   -- and so is the buffer of writer, sheet and shelf
   pub writer-refused : (b : Board) (buf : List ℕ) → writeText b (length buf) .answer ≢ 0 → written b buf ≡ buf

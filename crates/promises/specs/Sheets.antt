@@ -5,6 +5,7 @@ use mathlib.Core.Logic.{_≢_}
 use mathlib.Core.List.{List, [], _++_}
 use Prim.Native.Nat.{ℕ, _≤_, _<_}
 use lib.ListN.{length, getD, take}
+use Rattle.text.specs.Sizes.{longestReport}
 use Rattle.board.specs.Whole.{Board}
 use Rattle.board.specs.declared.Network.{Network}
 use Rattle.text.specs.Results.{readText}
@@ -55,4 +56,4 @@ pub record AboutSheets : Type 0 where
   -- the session of fixed size that the program feeds prints this, whatever the lengths of the lines and of the pieces in which the input comes
   pub play-pieces : (pieces : List (List ℕ)) → toldPieces newSession pieces ++ endTold (servedPieces newSession pieces) ≡ playOutput (inputOf pieces)
   -- the room that a sheet needs
-  pub sheet-room : (text : List ℕ) (f : Board) → OfFinish text f → length (reportText f) ≤ 2948
+  pub sheet-room : (text : List ℕ) (f : Board) → OfFinish text f → length (reportText f) ≤ longestReport

@@ -4,6 +4,7 @@ use mathlib.Core.Logic.{_↔_}
 use mathlib.Core.List.{List, _++_}
 use Prim.Native.Nat.{ℕ, _<_, _≤_}
 use lib.ListN.{length, drop}
+use Rattle.text.specs.Sizes.{longestText}
 use Rattle.decimal.specs.Decimal.{numberOf, decimal}
 use Rattle.decimal.specs.declared.Number.the-variants.{Value}
 use Rattle.board.specs.Whole.{Board}
@@ -38,4 +39,4 @@ pub record AboutTexts : Type 0 where
   pub written-in-play : (text : List ℕ) (b : Board) (buf : List ℕ) → OfPlay text b → WritesText text b buf
   pub written-finished : (text : List ℕ) (f : Board) (buf : List ℕ) → OfFinish text f → WritesText text f buf
   -- the room that a text needs
-  pub text-room : (text : List ℕ) → loadText text .answer ≡ 0 → length text ≤ 1246
+  pub text-room : (text : List ℕ) → loadText text .answer ≡ 0 → length text ≤ longestText

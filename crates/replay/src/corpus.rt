@@ -5,13 +5,14 @@ use board::Board;
 use board::Network;
 use libc::STDIN_FILENO;
 use libc::STDOUT_FILENO;
+use play_session::Session;
 
 // The text of the network, or on a line the number that writing it is refused with.
 fn print_text(network: Network) -> bool {
     let mut board = Board::closed();
     board.stage = Board::PLAY;
     board.network = network;
-    let mut space = [0u8; 1500];
+    let mut space = [0u8; Session::TEXT];
     let written = text_writer::write(board, &mut space);
     if written.answer != 0 {
         return framing::print_line(written.answer);

@@ -102,7 +102,7 @@ fn report_into(board: Board, journal: &[[u64; WORDS]; Board::JOURNAL], room: &mu
 
 // The same with so many bytes of room.
 fn report(board: Board, journal: &[[u64; WORDS]; Board::JOURNAL], length: usize) -> bool {
-    let mut space = [0u8; 9000];
+    let mut space = [0u8; Session::OUTPUT];
     if space.len() < length {
         return false;
     }
@@ -115,7 +115,7 @@ fn call_script(text: &[u8]) -> bool {
     let loaded = load::load(text, &mut journal);
     let board = loaded.board;
     let loading = framing::print_line(loaded.answer);
-    let before = report(board, &journal, 9000);
+    let before = report(board, &journal, Session::OUTPUT);
     let finished = solve_finish::finish(board, &mut journal);
     let finishing = framing::print_line(finished.answer);
     let mut last = board;
@@ -123,7 +123,7 @@ fn call_script(text: &[u8]) -> bool {
         last = finished.board;
     }
     let short = report(last, &journal, 10);
-    let whole = report(last, &journal, 9000);
+    let whole = report(last, &journal, Session::OUTPUT);
     loading && before && finishing && short && whole
 }
 
@@ -150,7 +150,7 @@ fn answer(letter: u8, text: &[u8]) -> bool {
 // A script for `sheet` or a caller: the first bytes decide, the rest is read past.
 fn text_script(letter: u8, length: u32) -> bool {
     let mut space = [0u8; Session::TEXT];
-    let kept = least(length, 2048);
+    let kept = least(length, Session::TEXT as u32);
     let n = kept as usize;
     let came = fill(&mut space, n);
     if !came || space.len() < n {

@@ -6,6 +6,7 @@ use board::Board;
 use journal::WORDS;
 use libc::STDIN_FILENO;
 use libc::STDOUT_FILENO;
+use play_session::Session;
 use solve_finish::Finished;
 ghost use Prim.Native.Nat.{_+_, _≤_};
 ghost use lib.ListN.{length};
@@ -175,7 +176,7 @@ fn run_trial(text: &[u8], codes: &[u32], steps: &[u8]) -> bool {
 
 // One trial: answers whether there was one, and it was read and printed whole.
 fn next_trial() -> bool {
-    let mut text = [0u8; 1500];
+    let mut text = [0u8; Session::TEXT];
     let n = read_part(&mut text);
     if text.len() < n {
         return false;

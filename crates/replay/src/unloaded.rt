@@ -4,6 +4,7 @@ use super::framing;
 use board::Board;
 use board::Network;
 use journal::WORDS;
+use play_session::Session;
 
 // The calls, in the order of the lines.
 const CARRY: u32 = 0;
@@ -53,7 +54,7 @@ fn past_limits(stage: u32, number: u32) -> Board {
 
 // What the sheet (SHEET) or the board writer answers, with room for either text.
 fn text_answer(call: u32, board: Board, journal: &[[u64; WORDS]; Board::JOURNAL]) -> u32 {
-    let mut space = [0u8; 9000];
+    let mut space = [0u8; Session::OUTPUT];
     let written = if call == SHEET {
         report::sheet(board, journal, &mut space)
     } else {

@@ -15,6 +15,7 @@ use Rattle.lists.proofs.Laws.{Known, was-true, was-false, known, pick-yes, pick
 use Rattle.board.specs.Limits.{maxVertices, maxTerminals}
 use Rattle.board.specs.Whole.{Board}
 use Rattle.board.specs.declared.Network.{Network}
+use Rattle.text.specs.Sizes.{reportBytes}
 use Rattle.text.specs.Text.{lineText, linesText}
 use Rattle.move_guard.specs.Guard.{intact, loaded}
 use Rattle.move_guard.proofs.Facts.{loaded-then-intact, intact-edges, intact-terminals, intact-demand}
@@ -88,15 +89,15 @@ module _ (net : Network) (acyclic counts : List ℕ) (rows : List (List ℕ)) (b
       left-none (left-part loads [] b3 p3 (rw append-nil behind-routes) e3 q3)
 
 -- a buffer that needs no measuring
-pub long-buffer : (whole : Bool) (n : ℕ) → both whole (ltb n 8280) ≡ false → whole ≡ true → 8280 ≤ n
+pub long-buffer : (whole : Bool) (n : ℕ) → both whole (ltb n reportBytes) ≡ false → whole ≡ true → reportBytes ≤ n
 unfolding both
-long-buffer true n h w = ltb-false n 8280 h
+long-buffer true n h w = ltb-false n reportBytes h
 long-buffer false n h w = let z : _≡_ {A = ℕ} 0 1 = cc in absurd (omega arith)
 
 -- the answers: the number of a board without a report, 8 where a text that is to be whole has no room, and the text
 module _ (b : Board) (whole : Bool) (buf : List ℕ) (at : ℕ) where
   abbrev PutAnswer : ℕ → ℕ → List ℕ → Type 0
-  PutAnswer answer used out = (record { answer = answer; used = used } ≡ putCall b whole (length buf)) × ((used ≤ 8280) × (out ≡ putIn b whole buf at))
+  PutAnswer answer used out = (record { answer = answer; used = used } ≡ putCall b whole (length buf)) × ((used ≤ reportBytes) × (out ≡ putIn b whole buf at))
 
   refused-so : (n : ℕ) → n ≡ putRefusal b whole (length buf) → (n ≡ 0 → ⊥) → PutAnswer n 0 buf
   refused-so n p some =
@@ -123,7 +124,7 @@ module _ (b : Board) (whole : Bool) (buf : List ℕ) (at : ℕ) where
         let p : 8 ≡ putRefusal b whole (length buf) = sym (pick-yes _ _ _ w ∙ pick-yes _ _ _ (eq-eqb _ _ reported) ∙ pick-no _ _ _ less) in
         refused-so 8 p (λ z. omega (arith, z))
 
-    pub put-done : (used : ℕ) (out : List ℕ) → (whole ≡ true → length (reportText b) ≤ length buf) → used ≡ length (reportText b) → used ≤ 8280
+    pub put-done : (used : ℕ) (out : List ℕ) → (whole ≡ true → length (reportText b) ≤ length buf) → used ≡ length (reportText b) → used ≤ reportBytes
         → out ≡ sets buf at (reportText b) → PutAnswer 0 used out
     unfolding sheetRefusal
     put-done used out room len small stored = (λ i. record { answer = p i; used = (len ∙ sym (pick-yes _ (length (reportText b)) 0 none)) i }, (small, stored ∙ sym (pick-yes _ _ _ none)))

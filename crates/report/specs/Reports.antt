@@ -5,8 +5,8 @@ use Prim.Native.Nat.{ℕ}
 use lib.Dec.{leb, eqb}
 use lib.ListN.{length, drop}
 use lib.Seq.{sets}
-use Rattle.lists.specs.Choice.{pick, both}
-use Rattle.board.specs.Record.{playStage, finishedStage}
+use Rattle.lists.specs.Choice.{pick, both, unless}
+use Rattle.board.specs.Record.{finishedStage}
 use Rattle.board.specs.Whole.{Board}
 use Rattle.text.specs.Text.{lineText, linesText}
 use Rattle.text.specs.declared.Written.{Written}
@@ -33,21 +33,16 @@ reportText b =
 unfoldable pub started : Board → Bool
 started b = both (loaded b) (routesFit b)
 
--- "29 nothing was loaded. 28 not finished"; 0 where there is a report
-unfoldable pub unreported : Board → ℕ
-unreported b = pick (started b) (pick (eqb (b .stage) finishedStage) 0 28) 29
-
--- whether the board was loaded, by its stage and whether it is intact
-abbrev pub loadedIn : ℕ → Bool → Bool
-loadedIn stage sound = both (both (leb playStage stage) (leb stage finishedStage)) sound
-
--- the number of a loaded board, by its stage and whether its routes have room
+-- "29 nothing was loaded. 28 not finished"; 0 where there is a report: by the stage, and whether a load gave the board
 abbrev pub unreportedIn : ℕ → Bool → ℕ
-unreportedIn stage fit = pick fit (pick (eqb stage finishedStage) 0 28) 29
+unreportedIn stage given = unless given 29 (unless (eqb stage finishedStage) 28 0)
+
+unfoldable pub unreported : Board → ℕ
+unreported b = unreportedIn (b .stage) (started b)
 
 -- "Sheet: 29, 28, 8", for a buffer of n bytes
 unfoldable pub sheetRefusal : Board → ℕ → ℕ
-sheetRefusal b n = pick (eqb (unreported b) 0) (pick (leb (length (reportText b)) n) 0 8) (unreported b)
+sheetRefusal b n = unless (eqb (unreported b) 0) (unreported b) (unless (leb (length (reportText b)) n) 8 0)
 
 -- the call: 0 and the length of the text, or the number
 unfoldable pub sheetCall : Board → ℕ → Written

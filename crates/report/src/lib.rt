@@ -12,25 +12,20 @@ ghost use lib.Seq.{sets};
 ghost use Rattle.board.specs.Limits.{maxVertices, maxEdges, maxTerminals};
 ghost use Rattle.journal.specs.Words.{wholeOf};
 ghost use Rattle.text.specs.Text.{lineText, linesText};
-ghost use Rattle.move_guard.specs.Guard.{loaded};
+ghost use Rattle.text.specs.Sizes.{lineBytes, lineNumbers, routesBytes, loadsBytes, reportBytes};
+ghost use Rattle.text.specs.Room.{startMost, lineStartMost};
 ghost use Rattle.report_routes.specs.Inner.{Moderate};
-ghost use Rattle.report.specs.Reports.{loadedIn, unreportedIn, sheetCall, sheeted, putCall, putIn};
+ghost use Rattle.report.specs.Reports.{unreportedIn, sheetCall, sheeted, putCall, putIn};
 ghost use Rattle.report.specs.Rows.{tableRouteRow, tableLoadRow, tableText, Printable};
 
 // How many numbers the line of a route has at most: the terminal, how many edges, and the edges.
-const ROUTE_NUMBERS: usize = Board::MAX_VERTICES as usize + 2;
+const ROUTE_NUMBERS: usize = Board::MAX_VERTICES + 2;
 
 // A report has at most so many bytes: a line of 2 numbers, one of ROUTE_NUMBERS for each terminal, and one of 3 for
-// each edge.
-const REPORT_BYTES: usize = 8280;
-
-// Whether a board of this stage is a loaded one; `sound`: it is intact.
-fn loaded_in(stage: u32, sound: bool) -> bool
-    ensures { λ r. ⌜ r ≡ loadedIn stage sound ⌝ }
-{
-    let staged = lists::and(Board::PLAY <= stage, stage <= Board::FINISHED);
-    lists::and(staged, sound)
-}
+// each edge. A line of n numbers has at most 2 + 11 × n.
+pub const REPORT_BYTES: usize = 24
+    + (2 + 11 * ROUTE_NUMBERS) * Board::MAX_TERMINALS
+    + 35 * Board::MAX_EDGES;
 
 // 29 or 28 of a loaded board, in this order; 0 where there is a report. `fit`: its routes have room in their rows.
 fn unreported_in(stage: u32, fit: bool) -> u32
@@ -43,11 +38,7 @@ fn unreported_in(stage: u32, fit: bool) -> u32
 }
 
 // The numbers of a route's line, and 0 behind them.
-fn route_row(
-    terminal: u32,
-    count: u32,
-    edges: [u32; Board::MAX_VERTICES as usize],
-) -> [u32; ROUTE_NUMBERS]
+fn route_row(terminal: u32, count: u32, edges: [u32; Board::MAX_VERTICES]) -> [u32; ROUTE_NUMBERS]
     requires { ⌜ count ≤ maxVertices ⌝ }
     ensures { λ r. ⌜ take (count + 2) r ≡ terminal ∷ count ∷ take count edges ⌝ }
 {
@@ -63,17 +54,17 @@ fn route_row(
     row
 }
 
-// Writes the line of a terminal's route. A line of n numbers has at most 2 + 11 × n bytes.
+// Writes the line of a terminal's route.
 fn put_route(
     buf: &mut [u8],
     at: usize,
     terminal: u32,
     count: u32,
-    edges: [u32; Board::MAX_VERTICES as usize],
+    edges: [u32; Board::MAX_VERTICES],
 ) -> usize
-    requires { ⌜ (at ≤ 131072) × (count ≤ maxVertices) ⌝ }
+    requires { ⌜ (at ≤ lineStartMost) × (count ≤ maxVertices) ⌝ }
     ensures { λ r. ⌜ r ≡ at + length (lineText 77 (terminal ∷ count ∷ take count edges)) ⌝ }
-    ensures { λ r. ⌜ r ≤ at + 376 ⌝ }
+    ensures { λ r. ⌜ r ≤ at + lineBytes lineNumbers ⌝ }
     ensures { λ r. ⌜ now (buf .exit) ≡
         sets (now (buf .entry)) at (lineText 77 (terminal ∷ count ∷ take count edges)) ⌝ }
 {
@@ -82,27 +73,19 @@ fn put_route(
     text_writer::put_line(buf, at, b'M', &row[..end])
 }
 
-// Whether the board was loaded.
-fn loaded(board: Board, journal: &[[u64; WORDS]; Board::JOURNAL]) -> bool
-    ensures { λ r. ⌜ r ≡ loaded (wholeOf board (now (journal .entry))) ⌝ }
-{
-    let sound = move_guard::intact(board, journal);
-    loaded_in(board.stage, sound)
-}
-
 // Writes the lines of the routes.
 fn put_routes(
     buf: &mut [u8],
     at: usize,
     counts: &[u32; Board::MAX_TERMINALS],
-    rows: &[[u32; Board::MAX_VERTICES as usize]; Board::MAX_TERMINALS],
+    rows: &[[u32; Board::MAX_VERTICES]; Board::MAX_TERMINALS],
     terminals: u32,
 ) -> usize
-    requires { ⌜ (at ≤ 100000)
+    requires { ⌜ (at ≤ startMost + lineBytes 2)
         × ((terminals ≤ maxTerminals) × ((i : ℕ) → i < terminals → getD (now counts) i 0 ≤ maxVertices)) ⌝ }
     ensures { λ r. ⌜ r ≡ at
         + length (linesText 77 (tableRouteRow (now (counts .entry)) (now (rows .entry))) 0 terminals) ⌝ }
-    ensures { λ r. ⌜ r ≤ at + 376 * maxTerminals ⌝ }
+    ensures { λ r. ⌜ r ≤ at + routesBytes ⌝ }
     ensures { λ _. ⌜ now (buf .exit) ≡ sets (now (buf .entry)) at
         (linesText 77 (tableRouteRow (now (counts .entry)) (now (rows .entry))) 0 terminals) ⌝ }
 {
@@ -124,13 +107,13 @@ fn put_loads(
     net: Network,
     acyclic: &[u32; Board::MAX_EDGES],
     counts: &[u32; Board::MAX_TERMINALS],
-    rows: &[[u32; Board::MAX_VERTICES as usize]; Board::MAX_TERMINALS],
+    rows: &[[u32; Board::MAX_VERTICES]; Board::MAX_TERMINALS],
 ) -> usize
-    requires { ⌜ (at ≤ 100000)
+    requires { ⌜ (at ≤ startMost + (lineBytes 2 + routesBytes))
         × ((net .edges ≤ maxEdges) × ((net .terminals ≤ maxTerminals) × Moderate (net .demands))) ⌝ }
     ensures { λ r. ⌜ r ≡ at + length (linesText 76
         (tableLoadRow net (now (acyclic .entry)) (now (counts .entry)) (now (rows .entry))) 0 (net .edges)) ⌝ }
-    ensures { λ r. ⌜ r ≤ at + 35 * maxEdges ⌝ }
+    ensures { λ r. ⌜ r ≤ at + loadsBytes ⌝ }
     ensures { λ _. ⌜ now (buf .exit) ≡ sets (now (buf .entry)) at (linesText 76
         (tableLoadRow net (now (acyclic .entry)) (now (counts .entry)) (now (rows .entry))) 0 (net .edges)) ⌝ }
 {
@@ -158,12 +141,12 @@ fn put_tables(
     net: Network,
     acyclic: &[u32; Board::MAX_EDGES],
     counts: &[u32; Board::MAX_TERMINALS],
-    rows: &[[u32; Board::MAX_VERTICES as usize]; Board::MAX_TERMINALS],
+    rows: &[[u32; Board::MAX_VERTICES]; Board::MAX_TERMINALS],
 ) -> usize
-    requires { ⌜ (at ≤ 65536) × Printable net (now counts) ⌝ }
+    requires { ⌜ (at ≤ startMost) × Printable net (now counts) ⌝ }
     ensures { λ r. ⌜ r ≡ at
         + length (tableText net (now (acyclic .entry)) (now (counts .entry)) (now (rows .entry))) ⌝ }
-    ensures { λ r. ⌜ r ≤ at + 8280 ⌝ }
+    ensures { λ r. ⌜ r ≤ at + reportBytes ⌝ }
     ensures { λ _. ⌜ now (buf .exit) ≡ sets (now (buf .entry)) at
         (tableText net (now (acyclic .entry)) (now (counts .entry)) (now (rows .entry))) ⌝ }
 {
@@ -179,7 +162,7 @@ fn has_room(
     net: Network,
     acyclic: &[u32; Board::MAX_EDGES],
     counts: &[u32; Board::MAX_TERMINALS],
-    rows: &[[u32; Board::MAX_VERTICES as usize]; Board::MAX_TERMINALS],
+    rows: &[[u32; Board::MAX_VERTICES]; Board::MAX_TERMINALS],
 ) -> bool
     requires { ⌜ Printable net (now counts) ⌝ }
     ensures { λ r. ⌜ r ≡
@@ -201,12 +184,12 @@ pub fn put_sheet(
     board: Board,
     journal: &[[u64; WORDS]; Board::JOURNAL],
 ) -> Written
-    requires { ⌜ at ≤ 65536 ⌝ }
+    requires { ⌜ at ≤ startMost ⌝ }
     ensures { λ r. ⌜ r ≡ putCall (wholeOf board (now (journal .entry))) whole (length (now (buf .entry))) ⌝ }
-    ensures { λ r. ⌜ r .used ≤ 8280 ⌝ }
+    ensures { λ r. ⌜ r .used ≤ reportBytes ⌝ }
     ensures { λ _. ⌜ now (buf .exit) ≡ putIn (wholeOf board (now (journal .entry))) whole (now (buf .entry)) at ⌝ }
 {
-    if !loaded(board, journal) {
+    if !move_guard::loaded(board, journal) {
         return Written::refused(29);
     }
     let net = board.network;

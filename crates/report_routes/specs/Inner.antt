@@ -7,7 +7,7 @@ use lib.Seq.{sets}
 use Rattle.lists.specs.Choice.{pick}
 use Rattle.lists.specs.Lists.{total}
 use Rattle.lists.specs.Members.{has}
-use Rattle.sets.specs.Sets.{hasBit}
+use Rattle.sets.specs.Sets.{none, hasBit}
 use Rattle.board.specs.Limits.{maxVertices, maxEdges, maxTerminals, maxFlow}
 use Rattle.board.specs.declared.Entry.{Entry}
 use Rattle.report_routes.specs.Routes.{routeBy}
@@ -46,13 +46,13 @@ IsSetOf set es = (e : ℕ) → e < maxEdges → hasBit set e ≡ has e es
 
 -- a set for each terminal has the edges of its route
 abbrev pub AreRouteSets : List ℕ → List ℕ → List (List ℕ) → ℕ → Type 0
-AreRouteSets routes counts rows terminals = (i : ℕ) → i < terminals → IsSetOf (getD routes i 0) (rowAt counts rows i)
+AreRouteSets routes counts rows terminals = (i : ℕ) → i < terminals → IsSetOf (getD routes i none) (rowAt counts rows i)
 
 -- "the sum of needs routed over it", over the sets
 unfoldable pub setLoad : List ℕ → List ℕ → ℕ → ℕ → ℕ
-setLoad routes demands e terminals = total (λ i. pick (hasBit (getD routes i 0) e) (getD demands i 0) 0) 0 terminals
+setLoad routes demands e terminals = total (λ i. pick (hasBit (getD routes i none) e) (getD demands i 0) 0) 0 terminals
 
 -- the same, and the empty set in the places past the terminals
 pub record RouteSets (routes counts : List ℕ) (rows : List (List ℕ)) (terminals : ℕ) : Type 0 where
   pub are : AreRouteSets routes counts rows terminals
-  pub past : (i : ℕ) → terminals ≤ i → getD routes i 0 ≡ 0
+  pub past : (i : ℕ) → terminals ≤ i → getD routes i none ≡ none

@@ -1,14 +1,16 @@
 // Routes and loads of a board.
 use board::Board;
-use board::EdgeSet;
 use board::Move;
 use journal::WORDS;
+use sets::EdgeSet;
 ghost use mathlib.Core.Path.{_≡_};
 ghost use Prim.Native.Nat.{_≤_};
 ghost use lib.Dec.{leb};
 ghost use lib.ListN.{getD, take};
 ghost use Rattle.lists.specs.Lists.{all};
 ghost use Rattle.board.specs.Limits.{maxVertices, maxTerminals};
+ghost use Rattle.sets.specs.Sets.{setOf};
+ghost use Rattle.sets.specs.Inner.{setsOf};
 ghost use Rattle.journal.specs.Words.{journalOf};
 ghost use Rattle.report_routes.specs.Inner.{rowsOf, countsOf, IsSetOf, RouteSets, setLoad, Moderate};
 
@@ -18,12 +20,12 @@ pub fn fill(
     journal: &[[u64; WORDS]; Board::JOURNAL],
     moves: u32,
     counts: &mut [u32; Board::MAX_TERMINALS],
-) -> [[u32; Board::MAX_VERTICES as usize]; Board::MAX_TERMINALS]
+) -> [[u32; Board::MAX_VERTICES]; Board::MAX_TERMINALS]
     ensures { λ r. ⌜ r ≡ rowsOf (take moves (journalOf moves (now (journal .entry)))) ⌝ }
     ensures { λ _. ⌜ now (counts .exit) ≡ countsOf (take moves (journalOf moves (now (journal .entry)))) ⌝ }
 {
     let words: &[[u64; WORDS]] = journal;
-    let blank = [0; Board::MAX_VERTICES as usize];
+    let blank = [0; Board::MAX_VERTICES];
     let mut rows = [blank; Board::MAX_TERMINALS];
     let mut lengths = [0; Board::MAX_TERMINALS];
     let mut standing = Board::JOURNAL;
@@ -40,7 +42,7 @@ pub fn fill(
             let i = r.terminal as usize;
             if i < Board::MAX_TERMINALS {
                 let n = lengths[i];
-                if n < Board::MAX_VERTICES {
+                if n < Board::MAX_VERTICES as u32 {
                     rows[i][n as usize] = r.edge;
                 }
                 lengths[i] = n + 1;
@@ -53,9 +55,9 @@ pub fn fill(
 
 // The edges as a set. A number that is no edge's is left out.
 fn edge_set(edges: &[u32]) -> EdgeSet
-    ensures { λ r. ⌜ IsSetOf r (now (edges .entry)) ⌝ }
+    ensures { λ r. ⌜ IsSetOf (setOf r) (now (edges .entry)) ⌝ }
 {
-    let mut set: EdgeSet = 0;
+    let mut set = sets::none();
     let mut i: usize = 0;
     while i < edges.len() {
         let e = edges[i] as usize;
@@ -68,10 +70,10 @@ fn edge_set(edges: &[u32]) -> EdgeSet
 }
 
 // The first edges of a row, count of them, as a set.
-fn row_set(edges: [u32; Board::MAX_VERTICES as usize], count: usize) -> EdgeSet
-    ensures { λ r. ⌜ IsSetOf r (take count edges) ⌝ }
+fn row_set(edges: [u32; Board::MAX_VERTICES], count: usize) -> EdgeSet
+    ensures { λ r. ⌜ IsSetOf (setOf r) (take count edges) ⌝ }
 {
-    if count < Board::MAX_VERTICES as usize {
+    if count < Board::MAX_VERTICES {
         edge_set(&edges[..count])
     } else {
         edge_set(&edges)
@@ -85,7 +87,7 @@ pub fn routes_fit(counts: &[u32; Board::MAX_TERMINALS], terminals: u32) -> bool
     let mut i: u32 = 0;
     while i < terminals {
         let count = lists::word_at(counts, i as usize);
-        if Board::MAX_VERTICES < count {
+        if (Board::MAX_VERTICES as u32) < count {
             return false;
         }
         i += 1;
@@ -96,13 +98,14 @@ pub fn routes_fit(counts: &[u32; Board::MAX_TERMINALS], terminals: u32) -> bool
 // The route of each terminal as a set, so that whether it holds an edge is one test.
 pub fn edge_sets(
     counts: &[u32; Board::MAX_TERMINALS],
-    rows: &[[u32; Board::MAX_VERTICES as usize]; Board::MAX_TERMINALS],
+    rows: &[[u32; Board::MAX_VERTICES]; Board::MAX_TERMINALS],
     terminals: u32,
 ) -> [EdgeSet; Board::MAX_TERMINALS]
     requires { ⌜ terminals ≤ maxTerminals ⌝ }
-    ensures { λ r. ⌜ RouteSets r (now (counts .entry)) (now (rows .entry)) terminals ⌝ }
+    ensures { λ r. ⌜ RouteSets (setsOf r) (now (counts .entry)) (now (rows .entry)) terminals ⌝ }
 {
-    let mut routes = [0u64; Board::MAX_TERMINALS];
+    let none = sets::none();
+    let mut routes = [none; Board::MAX_TERMINALS];
     let mut i: usize = 0;
     while i < terminals as usize {
         let row = rows[i];
@@ -121,7 +124,7 @@ pub fn load(
     e: u32,
 ) -> u32
     requires { ⌜ (terminals ≤ maxTerminals) × Moderate (now demands) ⌝ }
-    ensures { λ r. ⌜ r ≡ setLoad (now (routes .entry)) (now (demands .entry)) e terminals ⌝ }
+    ensures { λ r. ⌜ r ≡ setLoad (setsOf (now (routes .entry))) (now (demands .entry)) e terminals ⌝ }
 {
     let mut sum: u32 = 0;
     let mut i: usize = 0;

@@ -15,6 +15,7 @@ use borrow.Author.Tests.{eq-eqb, ne-eqb}
 use Rattle.lists.specs.Choice.{pick, either}
 use Rattle.lists.proofs.Laws.{Known, was-true, was-false, known, lt-or-ge, eq-or-ne, pick-yes, pick-no}
 use Rattle.sets.specs.Sets.{hasBit, withBit, collect}
+use Rattle.sets.specs.Inner.{wordWidth}
 
 abbrev pub bitAt : ℕ → ℕ → ℕ
 bitAt m c = m / 2 ^ c % 2
@@ -97,9 +98,9 @@ has-with-old m c k h = go (eq-or-ne k c)
     go (inr n) = has-with-other m c k n ∙ h
 
 -- what the code's shift gives
-pub with-code : (m c : ℕ) → c < 64 → bitOr m (1 * 2 ^ c % 18446744073709551616) ≡ withBit m c
+pub with-code : (m c : ℕ) → c < wordWidth → bitOr m (1 * 2 ^ c % 2 ^ wordWidth) ≡ withBit m c
 unfolding withBit
-with-code m c h = ap (bitOr m) (shl-exact {a = 1} 1 c 64 (lit< tt) (omega arith) ∙ one-mul (2 ^ c))
+with-code m c h = ap (bitOr m) (shl-exact {a = 1} 1 c wordWidth (lit< tt) (omega arith) ∙ one-mul (2 ^ c))
 
 -- two sets with no common bit: halved, they have none either
 pub has-half : (m c : ℕ) → hasBit (m / 2) c ≡ hasBit m (suc c)
@@ -131,8 +132,8 @@ apart-and (suc k) m s l d =
     let ih : bitAnd (m / 2) (s / 2) ≡ 0 = apart-and k (m / 2) (s / 2) half (apart-half m s d) in
     omega (arith, and-step m s, ih, apart-odd m s d)
 
-pub joined-back : (m s : ℕ) → ((c : ℕ) → hasBit m c ≡ true → hasBit s c ≡ true → ⊥) → bitOr m s - s ≡ m
-joined-back m s d = omega (arith, or-disjoint m s (apart-and m m s (omega arith) d))
+pub joined-less : (m s : ℕ) → ((c : ℕ) → hasBit m c ≡ true → hasBit s c ≡ true → ⊥) → bitOr m s - s ≡ m
+joined-less m s d = omega (arith, or-disjoint m s (apart-and m m s (omega arith) d))
 
 -- collected sets: one number, then the others
 module _ (p : ℕ → Bool) where

@@ -1,2 +1,3 @@
 pub mod Bits
 pub mod Scan
+pub mod Apart

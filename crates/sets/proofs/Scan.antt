@@ -6,18 +6,19 @@ use mathlib.Core.Logic.{_⊎_, inl, inr, _≢_}
 use Prim.Native.Nat.{ℕ, zero, suc, _+_, _-_, _*_, _<_, _≤_, _^_, _/_, _%_, min}
 use native.Mathlib.Nat.{one-mul, mod-lt, pow-suc, div-one, pow-zero}
 use native.Mathlib.Omega.{arith}
-use lib.Dec.{eqb, lit<}
+use lib.Dec.{ltb, eqb, lit<}
 use lib.Arith.{digits-mod}
 use lib.Bits.{bitAnd, and-shr, and-step}
 use lib.Count.{trailingZeros, under}
 use lib.Pow.{pow-pos, shl-exact}
-use borrow.Author.Tests.{eq-eqb, ne-eqb, eqb-true}
+use borrow.Author.Tests.{lt-ltb, le-ltb, eq-eqb, ne-eqb, eqb-true, eqb-false}
 use Rattle.lists.specs.Choice.{both}
 use Rattle.lists.specs.Lists.{lowest}
 use Rattle.lists.proofs.Laws.{Known, was-true, was-false, known, lt-or-ge, eq-or-ne, pick-yes, pick-no}
 use Rattle.lists.proofs.Lowest.{Least, lowest-least}
 use Rattle.sets.specs.Sets.{hasBit}
-use Rattle.sets.specs.Inner.{setWidth, common, dropped}
+use Rattle.sets.specs.Sets.{common}
+use Rattle.sets.specs.Inner.{isEmpty, wordWidth, setWidth, dropped, lowestIn}
 use Rattle.sets.proofs.Bits.{bitAt, bit-small, has-past, has-none, has-half, has-odd}
 
 -- the bits of what two sets have in common
@@ -85,8 +86,8 @@ has-inside m c s h = go (lt-or-ge c setWidth)
     go (inl l) = l
     go (inr l) = absurd (true≢false (sym h ∙ has-past m setWidth c s l))
 
-pub shifted-one : (c : ℕ) → c < setWidth → 1 * 2 ^ c % 18446744073709551616 ≡ 2 ^ c
-shifted-one c h = shl-exact {a = 1} 1 c 64 (lit< tt) (omega arith) ∙ one-mul (2 ^ c)
+pub shifted-one : (c : ℕ) → c < setWidth → 1 * 2 ^ c % 2 ^ wordWidth ≡ 2 ^ c
+shifted-one c h = shl-exact {a = 1} 1 c wordWidth (lit< tt) (omega arith) ∙ one-mul (2 ^ c)
 
 -- a bit other than c is not touched
 apart : (m k c : ℕ) → k ≢ c → hasBit m k ≡ both (hasBit m k) (not (eqb k c))
@@ -191,6 +192,16 @@ lowest-below m s h = go (lt-or-ge (lowest (hasBit m) 0 setWidth) setWidth)
 
 pub lowest-has : (m : ℕ) → m < 2 ^ setWidth → 0 < m → hasBit m (lowest (hasBit m) 0 setWidth) ≡ true
 lowest-has m s h = lowest-least (hasBit m) 0 setWidth .hit (lowest-below m s h)
+
+pub empty-above : (m : ℕ) → isEmpty m ≡ not (ltb 0 m)
+empty-above m = go (eq-or-ne m 0)
+  where
+    go : (m ≡ 0) ⊎ (m ≢ 0) → isEmpty m ≡ not (ltb 0 m)
+    go (inl z) = rw (eq-eqb m 0 z, le-ltb 0 m (omega (arith, z)))
+    go (inr n) = rw (ne-eqb m 0 n, lt-ltb 0 m (omega (arith, n)))
+
+pub lowest-in : (m e : ℕ) → e ≡ lowestIn m → m < 2 ^ setWidth → isEmpty m ≡ false → hasBit m e ≡ true
+lowest-in m e is fits some = let above = eqb-false m 0 some in rw is (lowest-has m fits (omega (arith, above)))
 
 -- the search over a set for a number with p: its lowest number has p, or it is dropped, or none is left
 module _ (p : ℕ → Bool) where

@@ -2,8 +2,19 @@
 use mathlib.Core.Bool.{Bool}
 use Prim.Native.Nat.{ℕ, zero, suc, _-_, _^_, _/_, _%_}
 use lib.Dec.{eqb}
-use lib.Bits.{bitOr}
+use lib.Bits.{bitOr, bitAnd}
 use Rattle.lists.specs.Choice.{pick}
+
+-- the empty set
+abbrev pub none : ℕ
+none = 0
+
+-- the set that the code's `EdgeSet` stands for: its one word; and the code's empty set
+abbrev pub setOf : ℕ → ℕ
+setOf m = m
+
+abbrev pub noWord : ℕ
+noWord = none
 
 -- whether c is in the set
 unfoldable pub hasBit : ℕ → ℕ → Bool
@@ -13,12 +24,15 @@ hasBit m c = eqb (m / 2 ^ c % 2) 1
 unfoldable pub withBit : ℕ → ℕ → ℕ
 withBit m c = bitOr m (2 ^ c)
 
--- the numbers of both sets; and m without s, which is part of it
+-- the numbers of both sets; those that are in both; and those of m that are not in s
 abbrev pub joined : ℕ → ℕ → ℕ
 joined m s = bitOr m s
 
+abbrev pub common : ℕ → ℕ → ℕ
+common m s = bitAnd m s
+
 abbrev pub without : ℕ → ℕ → ℕ
-without m s = m - s
+without m s = m - common m s
 
 -- the set with those of i, i + 1, .., i + k - 1 that have p
 unfoldable pub collect : (ℕ → Bool) → ℕ → ℕ → ℕ → ℕ

@@ -1,6 +1,6 @@
--- A long input is decided by its first bytes, so many as no board text passes. A first line takes at most 34 bytes, an edge line 26, a
--- terminal line 18, and that nothing follows shows in one byte more. The first line's counts are within their ranges, so reading a whole
--- text looks at 34 + 64 * 26 + 16 * 18 + 1 = 1987 bytes at most, and what is behind the first 2048 changes nothing.
+-- A long input is decided by its first bytes, so many as no board text passes. The first line has four fields, an edge line three, a
+-- terminal line two, and that nothing follows shows in one byte more. The first line's counts are within their ranges, so reading a whole
+-- text looks at `textSpace` bytes at most, and what is behind them changes nothing.
 use mathlib.Core.Path.{_≡_, refl, ap}
 use mathlib.Core.List.{List, [], _∷_}
 use Prim.Native.Nat.{ℕ, zero, suc, _*_, _≤_}
@@ -15,22 +15,22 @@ use Rattle.text.specs.Results.{readingOf, readText}
 use Rattle.text.proofs.Fields.{parts, header-only}
 use Rattle.text.proofs.FieldColumns.{spelled-within}
 use Rattle.load.specs.Load.{loadText}
-use Rattle.sheet_output.specs.Inputs.{textSpace, linesOf, linesWanted}
+use Rattle.sheet_output.specs.Inputs.{fieldsBytes, textSpace, linesOf, linesWanted}
 use Rattle.sheet_output.specs.Outputs.{sheetOutput}
 use Rattle.sheet_output.proofs.Near.{Alike, both-refused, both-got, Near, near-got, near-more, near-when, near-then, near-line, near-lines}
 
 -- ---- the parts of a board text
 
-pub near-header : Near 34 header
+pub near-header : Near (fieldsBytes 4) header
 unfolding header
 near-header = near-then (near-line 66 headRanges) λ ns s rest e. near-when _ 2 (near-got ns)
 
-near-edges : (net : Network) (i k : ℕ) → k ≤ maxEdges → Near (maxEdges * 26) (edgeLines net i k)
+near-edges : (net : Network) (i k : ℕ) → k ≤ maxEdges → Near (maxEdges * fieldsBytes 3) (edgeLines net i k)
 unfolding edgeLines
 near-edges net i k h =
     near-more _ (near-then (near-lines 67 (edgeRanges (net .vertices)) k) λ rows s rest e. near-got _) (omega arith)
 
-near-terminals : (net : Network) (i k : ℕ) → k ≤ maxTerminals → Near (maxTerminals * 18) (terminalLines net i k)
+near-terminals : (net : Network) (i k : ℕ) → k ≤ maxTerminals → Near (maxTerminals * fieldsBytes 2) (terminalLines net i k)
 unfolding terminalLines
 near-terminals net i k h =
     near-more _ (near-then (near-lines 87 (terminalRanges (net .vertices)) k) λ rows s rest e. near-got _) (omega arith)
@@ -83,6 +83,6 @@ pub wanted-prefix : (s : List ℕ) → linesWanted (take textSpace s) ≡ linesW
 unfolding linesWanted
 wanted-prefix s = go (near-header .near s textSpace (omega arith))
   where
-    go : Alike 34 textSpace s (header (take textSpace s)) (header s) → linesOf (header (take textSpace s)) ≡ linesOf (header s)
+    go : Alike (fieldsBytes 4) textSpace s (header (take textSpace s)) (header s) → linesOf (header (take textSpace s)) ≡ linesOf (header s)
     go (both-refused n p o) = rw (p, o)
     go (both-got ns u le p o) = rw (p, o)

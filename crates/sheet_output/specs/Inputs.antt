@@ -1,13 +1,19 @@
 -- What the programs read as the board: document 01, "Route sheet".
 use mathlib.Core.List.{List, [], _++_}
-use Prim.Native.Nat.{ℕ, zero, suc, _+_}
+use Prim.Native.Nat.{ℕ, zero, suc, _+_, _*_}
 use lib.ListN.{length, getD, take, drop}
 use Rattle.lists.specs.Lists.{indexOf}
+use Rattle.decimal.specs.Decimal.{maxDigits}
+use Rattle.board.specs.Limits.{maxEdges, maxTerminals}
 use Rattle.text.specs.Text.{Read, refused, got, header}
 
--- no board text is longer, so that a text's first bytes, so many, decide what loading it gives: see the theorem about long texts
+-- a line of n fields, a letter and numbers, as far as reading it looks: seven digits and the byte behind them for each number
+abbrev pub fieldsBytes : ℕ → ℕ
+fieldsBytes n = 2 + (maxDigits + 1) * n
+
+-- the first line, the lines of the edges and of the terminals, and one byte more: no board text is longer, so that a text's first bytes, so many, decide what loading it gives: see the theorem about long texts
 abbrev pub textSpace : ℕ
-textSpace = 2048
+textSpace = fieldsBytes 4 + (fieldsBytes 3 * maxEdges + (fieldsBytes 2 * maxTerminals + 1))
 
 -- the first k lines, with their line feeds; all there is, where there are fewer
 unfoldable pub firstLines : ℕ → List ℕ → List ℕ

@@ -6,6 +6,8 @@ ghost use Prim.Native.Nat.{_+_, _≤_};
 ghost use lib.ListN.{length};
 ghost use lib.Seq.{sets};
 ghost use Rattle.journal.specs.Words.{wholeOf, packedAll};
+ghost use Rattle.text.specs.Sizes.{numberBytes, reportBytes};
+ghost use Rattle.text.specs.Room.{startMost};
 ghost use Rattle.load.specs.Load.{loadText};
 ghost use Rattle.solve_finish.specs.Finishes.{finishCall};
 ghost use Rattle.sheet_output.specs.Outputs.{numberLine, reportOf, sheetOutput};
@@ -14,9 +16,9 @@ ghost use Rattle.sheet_output.specs.Inputs.{linesWanted};
 // Writes a number and a line feed at a place of the buffer, and answers the place behind them. A byte past the end of
 // the buffer is dropped.
 pub fn put_number(buf: &mut [u8], at: usize, n: u32) -> usize
-    requires { ⌜ at ≤ 65536 ⌝ }
+    requires { ⌜ at ≤ startMost ⌝ }
     ensures { λ r. ⌜ r ≡ at + length (numberLine n) ⌝ }
-    ensures { λ r. ⌜ r ≤ at + 11 ⌝ }
+    ensures { λ r. ⌜ r ≤ at + numberBytes ⌝ }
     ensures { λ r. ⌜ now (buf .exit) ≡ sets (now (buf .entry)) at (numberLine n) ⌝ }
 {
     let end = decimal::write_number(buf, at, n);
@@ -31,9 +33,9 @@ pub fn put_report(
     board: Board,
     journal: &[[u64; WORDS]; Board::JOURNAL],
 ) -> usize
-    requires { ⌜ at ≤ 65536 ⌝ }
+    requires { ⌜ at ≤ startMost ⌝ }
     ensures { λ r. ⌜ r ≡ at + length (reportOf (wholeOf board (now (journal .entry)))) ⌝ }
-    ensures { λ r. ⌜ r ≤ at + 8280 ⌝ }
+    ensures { λ r. ⌜ r ≤ at + reportBytes ⌝ }
     ensures { λ _. ⌜ now (buf .exit) ≡ sets (now (buf .entry)) at (reportOf (wholeOf board (now (journal .entry)))) ⌝ }
 {
     let written = report::put_sheet(buf, at, false, board, journal);
@@ -50,7 +52,7 @@ pub fn sheet_output(
     out: &mut [u8],
 ) -> usize
     ensures { λ r. ⌜ r ≡ length (sheetOutput (now (input .entry))) ⌝ }
-    ensures { λ r. ⌜ r ≤ 8280 ⌝ }
+    ensures { λ r. ⌜ r ≤ reportBytes ⌝ }
     ensures { λ _. ⌜ now (out .exit) ≡ sets (now (out .entry)) 0 (sheetOutput (now (input .entry))) ⌝ }
     ensures { λ _. ⌜ now (journal .exit) ≡
         packedAll (finishCall (loadText (now (input .entry)) .board) .board .journal) ⌝ }

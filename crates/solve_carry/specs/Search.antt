@@ -1,55 +1,41 @@
--- For inner contracts only: the open carry that the solver makes, over the parts of a board (document 01, "Finish").
-use mathlib.Core.Path.{_≡_}
+-- The open carry that the solver makes: document 01, "Finish". A name that ends in In is said of the parts of a board: its network, flows, marks and places; the name
+-- without it of the board.
 use mathlib.Core.Bool.{Bool}
 use mathlib.Core.List.{List}
-use Prim.Native.Nat.{ℕ, _<_, _≤_}
+use Prim.Native.Nat.{ℕ}
 use lib.Dec.{ltb}
-use lib.ListN.{length, getD}
 use Rattle.lists.specs.Choice.{pick, both}
 use Rattle.lists.specs.Lists.{lowest}
 use Rattle.sets.specs.Sets.{hasBit}
-use Rattle.sets.specs.Inner.{setWidth, common}
-use Rattle.board.specs.Limits.{maxVertices, maxEdges}
-use Rattle.move_edges.specs.Incidence.{Incident, PositiveSet}
-use Rattle.move_carry.specs.Opens.{flowFits, isOpenAt}
+use Rattle.board.specs.Whole.{Board}
+use Rattle.board.specs.declared.Network.{Network}
+use Rattle.move_carry.specs.Opens.{isOpenIn, openEdgeIn, openTerminalIn, someOpenIn}
 use Rattle.solve_carry.specs.declared.Found.{Found}
 
-module _ (heads demands : List ℕ) (edges : ℕ) (flows : List ℕ) (marks : ℕ) (places : List ℕ) where
-  -- terminal i has an open carry
-  unfoldable pub hasOpenAt : ℕ → Bool
-  hasOpenAt i = ltb (lowest (isOpenAt heads flows marks (getD places i 0) (getD demands i 0)) 0 edges) edges
-
+module _ (net : Network) (flows : List ℕ) (marks : ℕ) (places : List ℕ) where
   -- "of its open carries, marked channels first, then lowest channel"
-  unfoldable pub markedOpenAt : ℕ → ℕ → Bool
-  markedOpenAt i e = both (hasBit marks e) (isOpenAt heads flows marks (getD places i 0) (getD demands i 0) e)
+  unfoldable pub markedOpenIn : ℕ → ℕ → Bool
+  markedOpenIn i e = both (hasBit marks e) (isOpenIn net flows marks places i e)
+
+  unfoldable pub markedEdgeIn : ℕ → ℕ
+  markedEdgeIn i = lowest (markedOpenIn i) 0 (net .edges)
 
   unfoldable pub chosenEdgeIn : ℕ → ℕ
-  chosenEdgeIn i =
-      pick (ltb (lowest (markedOpenAt i) 0 edges) edges)
-      (lowest (markedOpenAt i) 0 edges)
-      (lowest (isOpenAt heads flows marks (getD places i 0) (getD demands i 0)) 0 edges)
+  chosenEdgeIn i = pick (ltb (markedEdgeIn i) (net .edges)) (markedEdgeIn i) (openEdgeIn net flows marks places i)
 
-  -- "lowest mill that has one; of its open carries, marked channels first, then lowest channel", of so many terminals; their count and a number that no edge has
-  -- where no carry is open
-  unfoldable pub foundCarry : ℕ → Found
-  foundCarry terminals =
-      let i = lowest hasOpenAt 0 terminals in
-      record { terminal = i; edge = pick (ltb i terminals) (chosenEdgeIn i) setWidth }
+  -- "lowest mill that has one", and that channel; the counts of mills and of channels where no carry is open
+  unfoldable pub openCarryIn : Found
+  openCarryIn = record {
+    terminal = openTerminalIn net flows marks places;
+    edge = pick (someOpenIn net flows marks places) (chosenEdgeIn (openTerminalIn net flows marks places)) (net .edges);
+  }
 
--- the lowest edge of a set whose flow allows a carry of that demand; of a set's edges, the marked first
-unfoldable pub fitIn : List ℕ → ℕ → ℕ → ℕ → ℕ
-fitIn flows marks demand set = lowest (λ e. both (hasBit set e) (flowFits (hasBit marks e) (getD flows e 0) demand)) 0 setWidth
+module _ (b : Board) where
+  abbrev pub markedOpen : ℕ → ℕ → Bool
+  markedOpen = markedOpenIn (b .network) (b .flows) (b .marks) (b .places)
 
-unfoldable pub chosenIn : List ℕ → ℕ → ℕ → ℕ → ℕ
-chosenIn flows marks demand set =
-    pick (ltb (fitIn flows marks demand (common set marks)) setWidth) (fitIn flows marks demand (common set marks)) (fitIn flows marks demand set)
+  abbrev pub markedEdge : ℕ → ℕ
+  markedEdge = markedEdgeIn (b .network) (b .flows) (b .marks) (b .places)
 
--- what the search leans on: the sets are those of the lists, each terminal is at a vertex and needs something, and the places past the edges hold no flow
-pub record Searched (heads entering demands : List ℕ) (terminals edges : ℕ) (flows : List ℕ) (positive : ℕ) (places : List ℕ) : Type 0 where
-  pub enter : Incident heads entering
-  pub is-positive : PositiveSet flows positive
-  pub all : length flows ≡ maxEdges
-  pub few : edges ≤ maxEdges
-  pub past : (e : ℕ) → edges ≤ e → getD flows e 0 ≡ 0
-  pub placed : (i : ℕ) → i < terminals → getD places i 0 < maxVertices
-  pub needs : (i : ℕ) → i < terminals → 0 < getD demands i 0
+  abbrev pub chosenEdge : ℕ → ℕ
+  chosenEdge = chosenEdgeIn (b .network) (b .flows) (b .marks) (b .places)

@@ -1,12 +1,12 @@
 -- Why the move by the parts of a board is the solver's move on the board: the searches over the parts read the board's own lists, so they find its terminal, its
 -- edge and its cycle. Where a carry is open, it is made or the run ends; where none is, the run ends with all at the source, or the turn is made or refused.
-use mathlib.Core.Path.{_≡_, refl, sym, ap, _∙_, subst}
+use mathlib.Core.Path.{_≡_, refl, sym, _∙_, subst}
 use mathlib.Core.Bool.{true, false}
 use mathlib.Core.Logic.{_⊎_, inl, inr, _≢_}
 use mathlib.Core.List.{List}
 use Prim.Native.Nat.{ℕ, _+_, _-_}
 use native.Mathlib.Omega.{arith}
-use lib.Dec.{leb, ltb, eqb}
+use lib.Dec.{leb, eqb}
 use lib.ListN.{length, length-set}
 use borrow.Author.Tests.{eqb-true, eqb-false}
 use Rattle.lists.specs.Choice.{pick, both}
@@ -19,17 +19,18 @@ use Rattle.move_guard.specs.Guard.{playing}
 use Rattle.move_guard.specs.Moved.{moved, unchanged}
 use Rattle.move_guard.specs.Moved.{Change}
 use Rattle.move_carry.specs.Opens.{openTerminal, someOpen}
-use Rattle.move_carry.specs.Carries.{carried, carriedIn}
+use Rattle.move_carry.specs.Carries.{carriedIn}
 use Rattle.move_cycle.specs.Steps.{gather}
 use Rattle.move_cycle.proofs.Shifting.{shifted-length}
 use Rattle.move_turn.specs.Turns.{turnRefusal, turned, turnRefusalIn, turnedIn, turnChange}
-use Rattle.move_turn.proofs.Changes.{refusal-same, turned-same, change-accepted, change-refused}
-use Rattle.solve_next.specs.Choosing.{allHome, allHomeIn, chosenEdge, nextCycle}
-use Rattle.solve_next.proofs.Advised.{home-same, terminal-found, edge-found}
+use Rattle.move_turn.proofs.Changes.{change-accepted, change-refused}
+use Rattle.solve_next.specs.Choosing.{Act, allHome, nextCycle, nextAct}
+use Rattle.solve_next.proofs.Advised.{next-carry, next-turn}
 use Rattle.solve_finish.specs.Finishes.{stepped}
-use Rattle.solve_finish.specs.Run.{allSmall, openTerminalIn, carryStep, turnStep, stepChange}
+use Rattle.solve_finish.specs.Run.{allSmall, carryStep, stepFor, stepChange}
 use Rattle.solve_finish.proofs.Staying.{carry-stays, turn-stays}
 use Rattle.solve_finish.proofs.Making.{home-stops, step-stuck, chosen-carry-accepted, step-carry, step-turn, step-refused}
+use Rattle.solve_carry.specs.Search.{chosenEdge}
 
 -- a change is the solver's move on a board
 pub record FollowsChange (b : Board) (c : Change) : Type 0 where
@@ -39,6 +40,10 @@ pub record FollowsChange (b : Board) (c : Change) : Type 0 where
       → playing (moved b (c .flows) (c .marks) (c .places) (c .entry)) ≡ both (leb (b .moves + 1) maxMoves) (allSmall (c .flows))
   pub size : length (c .flows) ≡ length (b .flows)
 
+-- what a move of the solver changes on a board follows it
+abbrev Followed : Board → Act → Type 0
+Followed b x = FollowsChange b (stepFor (b .network) (b .flows) (b .marks) (b .places) x)
+
 module _ (b : Board) where
   -- a move that is not made
   stops : (n : ℕ) → n ≢ 0 → stepped b .answer ≢ 0 → FollowsChange b (unchanged n (b .flows) (b .marks) (b .places))
@@ -46,7 +51,7 @@ module _ (b : Board) where
 
   module _ (play : playing b ≡ true) (long : length (b .flows) ≡ maxEdges) (wide : length (b .network .demands) ≡ maxTerminals) where
     follows-carry : someOpen b ≡ true → FollowsChange b (carryStep (b .network) (b .flows) (b .marks) (b .places) (openTerminal b) (chosenEdge b (openTerminal b)))
-    unfolding carryStep carried
+    unfolding carryStep carriedIn
     follows-carry some = go (known (eqb (place b (openTerminal b)) (b .network .source)))
       where
         go : Known (eqb (place b (openTerminal b)) (b .network .source))
@@ -68,42 +73,31 @@ module _ (b : Board) where
     unfolding turnedIn
     turn-made w free s = record {
       refused = λ h. absurd (h refl);
-      made = λ z. s ∙ ap (λ (n : Board). record { answer = 0; board = n }) (sym (turned-same b w));
-      stays = λ z.
-          subst (λ (n : Board). playing n ≡ both (leb (b .moves + 1) maxMoves) (allSmall (n .flows))) (sym (turned-same b w)) (turn-stays b play w free long wide);
+      made = λ z. s;
+      stays = λ z. turn-stays b play w free long wide;
       size = shifted-length _ (gather false 0 w) (gather true 0 w) (b .flows);
     }
 
-    follows-turn : someOpen b ≡ false → FollowsChange b (turnStep (b .network) (b .flows) (b .marks) (b .places))
-    unfolding turnStep nextCycle
-    follows-turn none = go (known (allHomeIn (b .network .terminals) (b .network .source) (b .places))) (eq-or-ne (turnRefusal b (nextCycle b)) 0)
+    follows-turn : someOpen b ≡ false → allHome b ≡ false → FollowsChange b (turnChange true false (b .network) (b .flows) (b .marks) (b .places) (nextCycle b))
+    follows-turn none out = turn (eq-or-ne (turnRefusal b w) 0)
       where
         w : List Step
         w = nextCycle b
 
         number : turnRefusalIn true false (b .network) (b .flows) w ≡ turnRefusal b w
-        number = rw (play, none) at (refusal-same b w)
+        number = rw (play, none)
 
-        turn : (turnRefusal b w ≡ 0) ⊎ (turnRefusal b w ≢ 0) → allHome b ≡ false
-            → FollowsChange b (turnChange true false (b .network) (b .flows) (b .marks) (b .places) w)
-        turn (inl z) out = rw (change-accepted true false (b .network) (b .flows) (b .marks) (b .places) w (number ∙ z)) (turn-made w z (step-turn b none out z))
-        turn (inr n) out = rw (change-refused true false (b .network) (b .flows) (b .marks) (b .places) w (λ q. n (sym number ∙ q))) (stops _ (λ q. n (sym number ∙ q)) (step-refused b none n))
-
-        go : Known (allHomeIn (b .network .terminals) (b .network .source) (b .places)) → (turnRefusal b w ≡ 0) ⊎ (turnRefusal b w ≢ 0)
-            → FollowsChange b
-            (pick (allHomeIn (b .network .terminals) (b .network .source) (b .places)) (unchanged 28 (b .flows) (b .marks) (b .places))
-            (turnChange true false (b .network) (b .flows) (b .marks) (b .places) w))
-        go (was-true t) q = rw (pick-yes _ _ _ t) (stops 28 (λ z. omega (arith, z)) (home-stops b (sym (home-same b) ∙ t)))
-        go (was-false t) q = rw (pick-no _ _ _ t) (turn q (sym (home-same b) ∙ t))
+        turn : (turnRefusal b w ≡ 0) ⊎ (turnRefusal b w ≢ 0) → FollowsChange b (turnChange true false (b .network) (b .flows) (b .marks) (b .places) w)
+        turn (inl z) = rw (change-accepted true false (b .network) (b .flows) (b .marks) (b .places) w (number ∙ z)) (turn-made w z (step-turn b none out z))
+        turn (inr n) = rw (change-refused true false (b .network) (b .flows) (b .marks) (b .places) w (λ q. n (sym number ∙ q))) (stops _ (λ q. n (sym number ∙ q)) (step-refused b none n))
 
     pub follows : FollowsChange b (stepChange (b .network) (b .flows) (b .marks) (b .places))
-    unfolding stepChange someOpen openTerminalIn
-    follows = rw (terminal-found b, edge-found b (openTerminal b)) (go (known (ltb (openTerminal b) (b .network .terminals))))
+    unfolding stepChange
+    follows = go (known (allHome b)) (known (someOpen b))
       where
-        go : Known (ltb (openTerminal b) (b .network .terminals))
+        go : Known (allHome b) → Known (someOpen b)
             → FollowsChange b
-            (pick (ltb (openTerminal b) (b .network .terminals))
-            (carryStep (b .network) (b .flows) (b .marks) (b .places) (openTerminal b) (chosenEdge b (openTerminal b)))
-            (turnStep (b .network) (b .flows) (b .marks) (b .places)))
-        go (was-true t) = rw (pick-yes _ _ _ t) (follows-carry t)
-        go (was-false t) = rw (pick-no _ _ _ t) (follows-turn t)
+            (pick (allHome b) (unchanged 28 (b .flows) (b .marks) (b .places)) (stepFor (b .network) (b .flows) (b .marks) (b .places) (nextAct b)))
+        go (was-true t) o = rw (pick-yes _ _ _ t) (stops 28 (λ z. omega (arith, z)) (home-stops b t))
+        go (was-false t) (was-true o) = rw (pick-no _ _ _ t) (subst (Followed b) (sym (next-carry b o)) (follows-carry o))
+        go (was-false t) (was-false o) = rw (pick-no _ _ _ t) (subst (Followed b) (sym (next-turn b o)) (follows-turn o t))

@@ -1,50 +1,61 @@
 -- A move on lists that are lent is the move by the parts of a board: no move looks at the text's flows and homes, so what holds of the network of a board in play
 -- holds of the lists. A move that is not made changes nothing.
-use mathlib.Core.Path.{_≡_, refl, sym, ap, _∙_, subst}
+use mathlib.Core.Path.{_≡_, refl, ap, subst}
 use mathlib.Core.Bool.{Bool, true, false}
 use mathlib.Core.List.{List}
 use mathlib.Core.Logic.{_⊎_, inl, inr, _≢_}
-use Prim.Native.Nat.{ℕ, _<_, _≤_}
-use lib.Dec.{ltb}
-use lib.ListN.{length, take, length-set}
+use Prim.Native.Nat.{ℕ}
+use lib.ListN.{length, length-set}
 use Rattle.lists.specs.Choice.{pick}
 use Rattle.lists.proofs.Laws.{eq-or-ne}
-use Rattle.board.specs.Limits.{maxVertices, maxEdges}
 use Rattle.board.specs.Record.{blank}
 use Rattle.board.specs.declared.Network.{Network}
-use Rattle.graph_flows.specs.Trails.{Step}
 use Rattle.move_guard.specs.Moved.{unchanged}
 use Rattle.move_guard.specs.Moved.{Change}
-use Rattle.move_cycle.specs.Steps.{stepsOf}
-use Rattle.move_edges.specs.Incidence.{PositiveSet}
-use Rattle.move_turn.specs.declared.Frame.{Frame}
+use Rattle.move_edges.specs.Incidence.{Incident, PositiveSet}
+use Rattle.move_guard.specs.Bounds.{InBounds}
+use Rattle.move_carry.specs.declared.Frame.{Frame}
 use Rattle.move_turn.specs.Turns.{turnRefusalIn, turnedIn, turnChange}
-use Rattle.move_turn.specs.Lent.{frameOf, netOf, bareOf, Turnable}
+use Rattle.move_carry.specs.Frames.{frameOf, bareOf}
+use Rattle.move_carry.specs.Opens.{entersIn, isOpenIn, openEdgeIn, hasOpenIn, openTerminalIn, someOpenIn}
+use Rattle.move_carry.specs.Carries.{carriedIn}
+use Rattle.move_turn.specs.Lent.{Turnable}
 use Rattle.move_turn.proofs.Changes.{change-accepted, change-refused, change-places}
-use Rattle.move_turn.proofs.Lent.{sound-turnable, turn-of-bare}
-use Rattle.solve_walk.specs.Walk.{cycleOf, packed}
-use Rattle.solve_walk.specs.Chart.{Charted}
-use Rattle.solve_walk.specs.declared.Walk.{Walk}
-use Rattle.solve_carry.specs.Search.{chosenEdgeIn, Searched}
-use Rattle.solve_next.specs.Choosing.{allHomeIn}
+use Rattle.move_turn.proofs.Lent.{bounds-turnable, turn-of-bare}
+use Rattle.solve_carry.specs.Search.{markedOpenIn, markedEdgeIn, chosenEdgeIn}
+use Rattle.solve_next.specs.Choosing.{Act, relocate, augment, allHomeIn, nextActIn}
+use Rattle.solve_next.specs.Parts.{Movable}
 use Rattle.solve_finish.specs.declared.Progress.{Progress}
-use Rattle.solve_finish.specs.Run.{allSmall, openTerminalIn, carryStep, turnStep, stepChange, InPlay, Makes, madeOf, haltedWith, Going}
+use Rattle.solve_finish.specs.Run.{allSmall, carryStep, stepFor, stepChange, InPlay, Makes, madeOf, haltedWith, Going}
 use Rattle.solve_finish.proofs.Parting.{stop-made}
-use Rattle.solve_finish.proofs.Ready.{ready-small, ready-sound, ready-walks, ready-searched, ready-charted, walk-fits, turn-made}
+use Rattle.solve_finish.proofs.Ready.{ready-small, ready-bounds}
 
 -- the moves on a network and on its bare one
-turn-step-bare : (net : Network) (flows : List ℕ) (marks : ℕ) (places : List ℕ) → turnStep (bareOf net) flows marks places ≡ turnStep net flows marks places
-unfolding turnStep
-turn-step-bare net flows marks places =
-    ap (λ (c : Change). pick (allHomeIn (net .terminals) (net .source) places) (unchanged 28 flows marks places) c) (turn-of-bare net true false flows marks places _)
+for-bare : (net : Network) (flows : List ℕ) (marks : ℕ) (places : List ℕ) (x : Act) → stepFor (bareOf net) flows marks places x ≡ stepFor net flows marks places x
+unfolding carryStep carriedIn
+for-bare net flows marks places (relocate i e) = refl
+for-bare net flows marks places (augment w) = turn-of-bare net true false flows marks places w
 
 pub step-of-bare : (net : Network) (flows : List ℕ) (marks : ℕ) (places : List ℕ) → stepChange (bareOf net) flows marks places ≡ stepChange net flows marks places
-unfolding stepChange carryStep openTerminalIn
+unfolding stepChange nextActIn someOpenIn openTerminalIn hasOpenIn openEdgeIn isOpenIn entersIn chosenEdgeIn markedEdgeIn markedOpenIn
 step-of-bare net flows marks places =
-    ap (λ (c : Change). pick (ltb (openTerminalIn net flows marks places) (net .terminals))
-    (carryStep net flows marks places (openTerminalIn net flows marks places)
-    (chosenEdgeIn (net .heads) (net .demands) (net .edges) flows marks places (openTerminalIn net flows marks places))) c)
-    (turn-step-bare net flows marks places)
+    ap (λ (c : Change). pick (allHomeIn (net .terminals) (net .source) places) (unchanged 28 flows marks places) c)
+    (for-bare net flows marks places (nextActIn net flows marks places))
+
+bare-bounds : (net : Network) (flows places : List ℕ) → InBounds net flows places → InBounds (bareOf net) flows places
+bare-bounds net flows places bounds = record {
+  vertices = bounds .vertices;
+  edges = bounds .edges;
+  source = bounds .source;
+  tailed = bounds .tailed;
+  headed = bounds .headed;
+  small = bounds .small;
+  asked = bounds .asked;
+  all = bounds .all;
+  past = bounds .past;
+  placed = bounds .placed;
+  needs = bounds .needs;
+}
 
 -- no move
 pub halts : (answer : ℕ) (frame : Frame) (flows places : List ℕ) (r : Progress) → PositiveSet flows (frame .positive) → allSmall flows ≡ true
@@ -62,50 +73,15 @@ module _ (frame : Frame) (tails heads demands leaving entering flows places : Li
   pub going-turns : Turnable frame tails heads demands leaving flows
   going-turns =
       subst (λ (n : Network). Turnable (frameOf n (frame .marks) (frame .positive)) (n .tails) (n .heads) (n .demands) leaving flows) (g .bare)
-      (sound-turnable (g .net) flows leaving (frame .marks) (frame .positive) (ready-sound _ _ _ _ (g .in-play)) (g .in-play .sized .heads) (g .in-play .long)
-      (g .in-play .sized .demands) (g .leave) (g .is-positive))
+      (bounds-turnable (g .net) flows places leaving (frame .marks) (frame .positive) (ready-bounds _ _ _ _ (g .in-play)) (g .leave) (g .is-positive))
 
-  pub going-searched : Searched heads entering demands (frame .terminals) (frame .edges) flows (frame .positive) places
-  going-searched =
-      subst (λ (n : Network). Searched (n .heads) entering (n .demands) (n .terminals) (n .edges) flows (frame .positive) places) (g .bare)
-      (ready-searched _ _ _ _ (g .in-play) (frame .positive) (g .is-positive) entering (g .enter))
-
-  pub going-charted : Charted tails heads flows leaving entering (frame .positive)
-  going-charted =
-      subst (λ (n : Network). Charted (n .tails) (n .heads) flows leaving entering (frame .positive)) (g .bare)
-      (ready-charted _ _ _ _ (g .in-play) (frame .positive) (g .is-positive) leaving entering (g .leave) (g .enter))
-
-  pub going-vertices : frame .vertices ≤ maxEdges
-  going-vertices = subst (λ (n : Network). n .vertices ≤ maxEdges) (g .bare) (ready-walks _ _ _ _ (g .in-play) .small)
-
-  pub going-source : frame .source < maxVertices
-  going-source = subst (λ (n : Network). n .source < maxVertices) (g .bare) (ready-walks _ _ _ _ (g .in-play) .source)
-
-  pub going-fits : (walk : Walk) → walk ≡ packed (cycleOf tails heads flows (frame .vertices) (frame .source)) → walk .count ≤ length (walk .steps)
-  going-fits =
-      subst
-      (λ (n : Network). (walk : Walk) → walk ≡ packed (cycleOf (n .tails) (n .heads) flows (n .vertices) (n .source)) → walk .count ≤ length (walk .steps))
-      (g .bare) (walk-fits _ _ _ _ (g .in-play))
-
-  turns-bare : (walk : Walk) → walk ≡ packed (cycleOf (g .net .tails) (g .net .heads) flows (g .net .vertices) (g .net .source)) → (home : Bool) (c : Change)
-      → home ≡ allHomeIn (g .net .terminals) (g .net .source) places → home ≡ false
-      → c ≡ turnChange true false (bareOf (g .net)) flows (frame .marks) places (stepsOf (take (walk .count) (walk .steps)))
-      → c ≡ turnStep (bareOf (g .net)) flows (frame .marks) places
-  turns-bare walk w home c h f e =
-      turn-made (g .net) flows (frame .marks) places (g .in-play) walk w home c h f (e ∙ turn-of-bare (g .net) true false flows (frame .marks) places _)
-      ∙ sym (turn-step-bare (g .net) flows (frame .marks) places)
-
-  pub going-turned : (walk : Walk) → walk ≡ packed (cycleOf tails heads flows (frame .vertices) (frame .source)) → (home : Bool) (c : Change)
-      → home ≡ allHomeIn (frame .terminals) (frame .source) places → home ≡ false
-      → c ≡ turnChange true false (netOf frame tails heads demands) flows (frame .marks) places (stepsOf (take (walk .count) (walk .steps)))
-      → c ≡ turnStep (netOf frame tails heads demands) flows (frame .marks) places
-  going-turned =
-      subst
-      (λ (n : Network). (walk : Walk) → walk ≡ packed (cycleOf (n .tails) (n .heads) flows (n .vertices) (n .source)) → (home : Bool) (c : Change)
-      → home ≡ allHomeIn (n .terminals) (n .source) places → home ≡ false
-      → c ≡ turnChange true false n flows (frame .marks) places (stepsOf (take (walk .count) (walk .steps)))
-      → c ≡ turnStep n flows (frame .marks) places)
-      (g .bare) turns-bare
+  pub going-movable : Movable frame tails heads demands leaving entering flows places
+  going-movable = record {
+    bounds = subst (λ (n : Network). InBounds n flows places) (g .bare) (bare-bounds (g .net) flows places (ready-bounds _ _ _ _ (g .in-play)));
+    leave = subst (λ (n : Network). Incident (n .tails) leaving) (g .bare) (g .leave);
+    enter = subst (λ (n : Network). Incident (n .heads) entering) (g .bare) (g .enter);
+    is-positive = g .is-positive;
+  }
 
 -- a change whose number is not 0 keeps flows, marks and places
 abbrev pub Keeps : List ℕ → ℕ → List ℕ → Change → Type 0
@@ -117,25 +93,19 @@ module _ (net : Network) (flows : List ℕ) (marks : ℕ) (places : List ℕ) wh
   keeps-pick true x y hx hy = hx
   keeps-pick false x y hx hy = hy
 
-  keeps-turn : Keeps flows marks places (turnStep net flows marks places)
-  unfolding turnStep turnedIn
-  keeps-turn = keeps-pick _ _ _ (λ n. (refl, refl, refl)) (go (eq-or-ne (turnRefusalIn true false net flows w) 0))
+  keeps-for : (x : Act) → Keeps flows marks places (stepFor net flows marks places x)
+  unfolding carryStep carriedIn turnedIn
+  keeps-for (relocate i e) = keeps-pick _ _ _ (λ n. (refl, refl, refl)) (λ n. absurd (n refl))
+  keeps-for (augment w) = go (eq-or-ne (turnRefusalIn true false net flows w) 0)
     where
-      w : List Step
-      w = cycleOf (net .tails) (net .heads) flows (net .vertices) (net .source)
-
       go : (turnRefusalIn true false net flows w ≡ 0) ⊎ (turnRefusalIn true false net flows w ≢ 0)
           → Keeps flows marks places (turnChange true false net flows marks places w)
       go (inl z) = rw (change-accepted true false net flows marks places w z) (λ n. absurd (n refl))
       go (inr s) = rw (change-refused true false net flows marks places w s) (λ n. (refl, refl, refl))
 
-  keeps-carry : (i e : ℕ) → Keeps flows marks places (carryStep net flows marks places i e)
-  unfolding carryStep
-  keeps-carry i e = keeps-pick _ _ _ (λ n. (refl, refl, refl)) (λ n. absurd (n refl))
-
   pub step-keeps : Keeps flows marks places (stepChange net flows marks places)
   unfolding stepChange
-  step-keeps = keeps-pick _ _ _ (keeps-carry _ _) keeps-turn
+  step-keeps = keeps-pick _ _ _ (λ n. (refl, refl, refl)) (keeps-for (nextActIn net flows marks places))
 
   -- every change keeps the length of the places
   abbrev Long : Change → Type 0
@@ -146,7 +116,11 @@ module _ (net : Network) (flows : List ℕ) (marks : ℕ) (places : List ℕ) wh
   long-pick true x y hx hy = hx
   long-pick false x y hx hy = hy
 
+  long-for : (x : Act) → Long (stepFor net flows marks places x)
+  unfolding carryStep carriedIn
+  long-for (relocate i e) = long-pick _ _ _ refl (length-set places _ _)
+  long-for (augment w) = ap length (change-places true false net flows marks places w)
+
   pub step-long : length (stepChange net flows marks places .places) ≡ length places
-  unfolding stepChange carryStep turnStep
-  step-long =
-      long-pick _ _ _ (long-pick _ _ _ refl (length-set places _ _)) (long-pick _ _ _ refl (ap length (change-places true false net flows marks places _)))
+  unfolding stepChange
+  step-long = long-pick _ _ _ refl (long-for (nextActIn net flows marks places))

@@ -21,10 +21,7 @@ use Rattle.board.specs.Whole.{Table}
 use Rattle.journal.proofs.Places.{packedOn-all, blank-behind}
 use Rattle.journal.proofs.After.{after-none, after-many}
 use Rattle.move_guard.proofs.Answers.{answered-yes, answered-no}
-use Rattle.move_carry.specs.Carries.{carried}
-use Rattle.move_turn.specs.Turns.{turned}
 use Rattle.solve_next.specs.Choosing.{Act, relocate, augment, allHome, judge, acted, nextAct, allHomeIn}
-use Rattle.solve_next.proofs.Advised.{home-same}
 use Rattle.move_guard.specs.Guard.{playing}
 use Rattle.solve_finish.specs.declared.Ran.{Ran}
 use Rattle.solve_finish.specs.Run.{ranTo, RanOut}
@@ -33,6 +30,8 @@ use Rattle.solve_finish.specs.Finishes.{stepped, steppedOn, playedOut, f
 use Rattle.solve_finish.specs.Lent.{finishOn}
 use Rattle.solve_finish.proofs.Stepping.{away, finish-stuck, finish-made}
 use Rattle.solve_finish.proofs.Making.{home-stops, on-stops}
+use Rattle.move_carry.specs.Carries.{carriedIn}
+use Rattle.move_turn.specs.Turns.{turnedIn}
 
 -- one more move stands
 record OneMore (b next : Board) : Type 0 where
@@ -41,7 +40,7 @@ record OneMore (b next : Board) : Type 0 where
   pub journal : next .journal ≡ set (b .journal) (b .moves) entry
 
 act-more : (b : Board) (x : Act) → OneMore b (acted b x)
-unfolding carried turned
+unfolding carriedIn turnedIn
 act-more b (relocate i e) = record { entry = _; moves = refl; journal = refl }
 act-more b (augment w) = record { entry = _; moves = refl; journal = refl }
 
@@ -171,7 +170,7 @@ module _ (t : Table) (w words : List (List ℕ)) (flows places : List ℕ) (ran 
   last = ranTo t words flows (ran .marks) places (ran .moves)
 
   at-home : home ≡ allHome last
-  at-home = h ∙ home-same last
+  at-home = h
 
   pub ran-refused : (good : Bool) → good ≡ both (ran .blank) home → good ≡ false → record { answer = 20; count = 0; board = wholeOf t w } ≡ finishOn t w
   unfolding both

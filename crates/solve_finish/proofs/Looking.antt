@@ -22,12 +22,9 @@ use Rattle.move_guard.specs.Moved.{Change}
 use Rattle.move_edges.specs.Incidence.{PositiveSet}
 use Rattle.move_cycle.specs.Shifts.{shifted}
 use Rattle.move_cycle.proofs.Shifting.{shifted-at, shifted-other}
-use Rattle.move_turn.specs.declared.Frame.{Frame}
-use Rattle.move_turn.specs.Lent.{netOf}
 use Rattle.move_turn.specs.Turns.{turnRefusalIn, turnedIn, turnChange}
 use Rattle.move_turn.proofs.Changes.{change-accepted, change-refused}
-use Rattle.solve_finish.specs.Run.{allSmall, shiftedEdges, RightBut, Going}
-use Rattle.solve_finish.proofs.InPlace.{going-small}
+use Rattle.solve_finish.specs.Run.{allSmall, shiftedEdges, RightBut}
 
 module _ (flows : List ℕ) where
   abbrev isSmall : ℕ → Bool
@@ -134,9 +131,9 @@ module _ (net : Network) (flows : List ℕ) (marks : ℕ) (places : List ℕ) (p
   abbrev Right : Change → Type 0
   Right c = RightBut (c .flows) positive (shiftedEdges (c .entry .step))
 
-  pub turn-right : Right (turnChange true false net flows marks places w)
+  right : Right (turnChange true false net flows marks places w)
   unfolding turnedIn shiftedEdges
-  turn-right = go (eq-or-ne (turnRefusalIn true false net flows w) 0)
+  right = go (eq-or-ne (turnRefusalIn true false net flows w) 0)
     where
       go : (turnRefusalIn true false net flows w ≡ 0) ⊎ (turnRefusalIn true false net flows w ≢ 0) → Right (turnChange true false net flows marks places w)
       go (inl z) =
@@ -149,11 +146,5 @@ module _ (net : Network) (flows : List ℕ) (marks : ℕ) (places : List ℕ) (p
           rw (change-refused true false net flows marks places w s)
           (record { positives = λ e l t. is-positive e l; smalls = λ e l t. small-at e l })
 
-module _ (frame : Frame) (tails heads demands leaving entering flows places : List ℕ)
-    (g : Going frame tails heads demands leaving entering flows places) where
-  pub going-right : (w : List Step) (c : Change) → c ≡ turnChange true false (netOf frame tails heads demands) flows (frame .marks) places w
-      → RightBut (c .flows) (frame .positive) (shiftedEdges (c .entry .step))
-  going-right w c q =
-      rw q
-      (turn-right (netOf frame tails heads demands) flows (frame .marks) places (frame .positive) w (g .is-positive)
-      (going-small frame tails heads demands leaving entering flows places g) (g .in-play .long))
+  pub turn-right : (c : Change) → c ≡ turnChange true false net flows marks places w → Right c
+  turn-right c q = rw q right

@@ -15,13 +15,14 @@ use Rattle.board.specs.Whole.{Played}
 use Rattle.move_guard.specs.Parts.{flow, marked, demand, place}
 use Rattle.move_guard.specs.Guard.{playing}
 use Rattle.move_guard.proofs.Answers.{answered-yes, answered-no}
-use Rattle.move_carry.specs.Opens.{flowFits, enters, isOpen, hasOpen, openEdge, openTerminal, someOpen}
-use Rattle.move_carry.specs.Carries.{onBoard, carryRefusal, carried}
+use Rattle.move_carry.specs.Opens.{flowFits, enters, isOpen, hasOpen, openEdge, openTerminal, someOpen, hasOpenIn, isHome, isHomeIn, isOpenIn, openEdgeIn, openTerminalIn, someOpenIn}
+use Rattle.move_carry.specs.Carries.{onBoard, carryRefusal, carried, carryRefusalIn, onBoardIn}
 use Rattle.move_turn.specs.Turns.{turnRefusal, turned}
-use Rattle.solve_next.specs.Choosing.{isHome, allHome, markedOpen, markedEdge, chosenEdge, judge, acted, nextCycle, nextAct}
+use Rattle.solve_next.specs.Choosing.{allHome, judge, acted, nextCycle, nextAct, allHomeIn}
 use Rattle.solve_next.proofs.Advised.{next-carry, next-turn}
 use Rattle.solve_finish.specs.Finishes.{stepped, steppedOn}
 use Rattle.solve_finish.proofs.Stepping.{stepped-home, away, not-playing}
+use Rattle.solve_carry.specs.Search.{chosenEdge, chosenEdgeIn, markedEdge, markedEdgeIn, markedOpen, markedOpenIn}
 
 -- a carry that is open and whose edge and terminal the board has
 pub record Chosen (b : Board) (i e : ℕ) : Type 0 where
@@ -30,7 +31,7 @@ pub record Chosen (b : Board) (i e : ℕ) : Type 0 where
   pub opens : isOpen b i e ≡ true
 
 pub chosen : (b : Board) → someOpen b ≡ true → Chosen b (openTerminal b) (chosenEdge b (openTerminal b))
-unfolding someOpen openTerminal hasOpen chosenEdge openEdge markedEdge markedOpen
+unfolding someOpenIn openTerminalIn hasOpenIn chosenEdgeIn openEdgeIn markedEdgeIn markedOpenIn
 chosen b h = go (known (ltb (markedEdge b i) (b .network .edges)))
   where
     i : ℕ
@@ -58,7 +59,7 @@ chosen b h = go (known (ltb (markedEdge b i) (b .network .edges)))
 module _ (b : Board) where
   -- an open carry is accepted, but for a terminal at the source
   open-accepted : (i e : ℕ) → playing b ≡ true → Chosen b i e → place b i ≢ b .network .source → carryRefusal b i e ≡ 0
-  unfolding carryRefusal onBoard isOpen
+  unfolding carryRefusalIn isHomeIn onBoardIn isOpenIn
   open-accepted i e play c out =
       pick-yes (playing b) _ _ play
       ∙ pick-yes (onBoard b i e) _ _ (both-true _ _ (lt-ltb _ _ (c .terminal)) (lt-ltb _ _ (c .edge)))
@@ -67,14 +68,14 @@ module _ (b : Board) where
       ∙ pick-yes (flowFits (marked b e) (flow b e) (demand b i)) _ _ (both-right _ _ (c .opens))
 
   source-refused : (i e : ℕ) → playing b ≡ true → Chosen b i e → place b i ≡ b .network .source → carryRefusal b i e ≡ 21
-  unfolding carryRefusal onBoard
+  unfolding carryRefusalIn isHomeIn onBoardIn
   source-refused i e play c home =
       pick-yes (playing b) _ _ play
       ∙ pick-yes (onBoard b i e) _ _ (both-true _ _ (lt-ltb _ _ (c .terminal)) (lt-ltb _ _ (c .edge)))
       ∙ pick-yes (eqb (place b i) (b .network .source)) _ _ (eq-eqb _ _ home)
 
   not-home : (i : ℕ) → i < b .network .terminals → place b i ≢ b .network .source → allHome b ≡ false
-  unfolding allHome isHome
+  unfolding allHomeIn isHomeIn
   not-home i low out = go (known (allHome b))
     where
       go : Known (allHome b) → allHome b ≡ false

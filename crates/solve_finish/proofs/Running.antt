@@ -21,7 +21,6 @@ use Rattle.move_guard.specs.Moved.{moved}
 use Rattle.move_guard.proofs.Stores.{withParts}
 use Rattle.move_guard.specs.Moved.{Change}
 use Rattle.solve_next.specs.Choosing.{allHome, allHomeIn}
-use Rattle.solve_next.proofs.Advised.{home-same}
 use Rattle.solve_finish.specs.Run.{Made}
 use Rattle.solve_finish.specs.Finishes.{steppedOn, playedOut}
 use Rattle.solve_finish.specs.Run.{stepChange, PartsSized, InPlay, Makes, leftAfter}
@@ -142,4 +141,4 @@ module _ (whole : Board) (net : Network) (last : Board) (flows : List ℕ) (mark
   over = rw z at (r .run)
 
   at-home : home ≡ allHome (standing last flows marks places moves)
-  at-home = h ∙ rw (← r .network) (home-same (standing last flows marks places moves))
+  at-home = h ∙ rw (← r .network) refl

@@ -23,15 +23,15 @@ use Rattle.move_guard.specs.Parts.{flow, tail, demand, place}
 use Rattle.move_guard.proofs.Facts.{intact-edge, intact-terminal, playing-staged, playing-intact, playing-edges, playing-flow, playing-demand}
 use Rattle.move_guard.specs.Guard.{edgeIntact, edgeIntactIn, terminalIntact, terminalIntactIn, moveIntact, intact, playing}
 use Rattle.move_guard.specs.Moved.{moved}
-use Rattle.move_carry.specs.Carries.{onBoard, carryRefusal, carried}
+use Rattle.move_carry.specs.Carries.{onBoard, carryRefusal, carried, carriedIn, carryRefusalIn, onBoardIn}
 use Rattle.move_cycle.specs.Steps.{every, gather, isCycle}
 use Rattle.move_cycle.proofs.Cycled.{every-in, gather-from}
 use Rattle.move_cycle.specs.Amounts.{amount}
 use Rattle.move_cycle.specs.Shifts.{shifted}
 use Rattle.move_cycle.proofs.Shifting.{shifted-at, shifted-past, shifted-other}
-use Rattle.move_carry.specs.Opens.{someOpen}
+use Rattle.move_carry.specs.Opens.{someOpen, isHomeIn}
 use Rattle.move_turn.specs.declared.StepRule.the-variants.{OnBoard, Positive}
-use Rattle.move_turn.specs.Turns.{meets, turnRefusal, turned}
+use Rattle.move_turn.specs.Turns.{meets, turnRefusal, turned, turnRefusalIn, turnedIn}
 use Rattle.move_cycle.proofs.Raising.{amount-small}
 use Rattle.solve_finish.specs.Run.{allSmall}
 
@@ -140,7 +140,7 @@ module _ (b : Board) (play : playing b ≡ true) where
   -- a carry
   module _ (i e : ℕ) (accepted : carryRefusal b i e ≡ 0) where
     on : onBoard b i e ≡ true
-    unfolding carryRefusal
+    unfolding carryRefusalIn isHomeIn
     on = pick-passed (onBoard b i e) _ 5 (pick-passed (playing b) _ 19 accepted .1) .0
 
     lower : (k : ℕ) → getD (set (b .flows) e (flow b e - demand b i)) k 0 ≤ flow b k
@@ -152,7 +152,7 @@ module _ (b : Board) (play : playing b ≡ true) where
         go (inr (k-is, q)) = let same : flow b e ≡ flow b k = ap (λ (n : ℕ). flow b n) (sym k-is) in omega (arith, q, same)
 
     there : (j : ℕ) → j < maxTerminals → terminalIntactIn (b .network) (set (b .places) i (tail b e)) j ≡ true
-    unfolding onBoard
+    unfolding onBoardIn
     there j h = go (set-at (b .places) i j (tail b e))
       where
         go : (getD (set (b .places) i (tail b e)) j 0 ≡ place b j) ⊎ ((j ≡ i) × (getD (set (b .places) i (tail b e)) j 0 ≡ tail b e))
@@ -165,13 +165,13 @@ module _ (b : Board) (play : playing b ≡ true) where
             (pick-yes _ _ _ inside ∙ tail-inside e (ltb-true _ _ (both-right _ _ on))))
 
     pub carry-stays : playing (carried b i e) ≡ both (leb (b .moves + 1) maxMoves) (allSmall (carried b i e .flows))
-    unfolding carried
+    unfolding carriedIn
     carry-stays = stays _ _ _ _ (λ k z. omega (arith, lower k, z)) there refl
 
   -- a turn
   module _ (w : List Step) (accepted : turnRefusal b w ≡ 0) (long : length (b .flows) ≡ maxEdges) (wide : length (b .network .demands) ≡ maxTerminals) where
     above : every (meets Positive b) w ≡ true
-    unfolding turnRefusal
+    unfolding turnRefusalIn
     above =
         let cycled = pick-passed (isCycle (b .network .tails) (b .network .heads) w) _ 6
         (pick-passed (every (meets OnBoard b) w) _ 5 (pick-passed (playing b) _ 19 accepted .1) .1) .1 in
@@ -190,7 +190,7 @@ module _ (b : Board) (play : playing b ≡ true) where
         go (was-false t) = t
 
     still : (e : ℕ) → flow b e ≡ 0 → getD (turned b w .flows) e 0 ≡ 0
-    unfolding turned
+    unfolding turnedIn
     still e z = go (lt-or-ge e (length (b .flows)))
       where
         go : (e < length (b .flows)) ⊎ (length (b .flows) ≤ e) → getD (shifted (amount b w) (gather false 0 w) (gather true 0 w) (b .flows)) e 0 ≡ 0
@@ -203,5 +203,5 @@ module _ (b : Board) (play : playing b ≡ true) where
     small = amount-small b w maxTotal (playing-flow b play long) (λ j. let d = playing-demand b play wide j in omega (arith, d))
 
     pub turn-stays : playing (turned b w) ≡ both (leb (b .moves + 1) maxMoves) (allSmall (turned b w .flows))
-    unfolding turned
+    unfolding turnedIn
     turn-stays = stays _ _ _ _ still terminal (le-leb (amount b w) maxTotal small)

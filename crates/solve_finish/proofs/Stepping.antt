@@ -9,10 +9,11 @@ use Rattle.board.specs.Whole.{Board}
 use Rattle.board.specs.Whole.{Played}
 use Rattle.move_guard.specs.Guard.{playing}
 use Rattle.move_guard.specs.Moved.{answered}
-use Rattle.move_carry.specs.Carries.{carryRefusal}
-use Rattle.move_turn.specs.Turns.{turnRefusal}
 use Rattle.solve_next.specs.Choosing.{Act, relocate, augment, allHome, judge, acted, nextAct}
 use Rattle.solve_finish.specs.Finishes.{stepped, playedOut, finishRefusal, ended, finishCall}
+use Rattle.move_carry.specs.Carries.{carryRefusalIn}
+use Rattle.move_carry.specs.Opens.{isHomeIn}
+use Rattle.move_turn.specs.Turns.{turnRefusalIn}
 
 -- a move made as a call
 abbrev pub call : Board → Act → Played
@@ -28,7 +29,7 @@ module _ (b : Board) where
   away h = sym (pick-no _ _ _ h)
 
   pub not-playing : (x : Act) → playing b ≡ false → judge b x ≡ 20
-  unfolding carryRefusal turnRefusal
+  unfolding carryRefusalIn isHomeIn turnRefusalIn
   not-playing (relocate i e) p = pick-no _ _ _ p
   not-playing (augment w) p = pick-no _ _ _ p
 

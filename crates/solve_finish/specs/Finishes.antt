@@ -2,7 +2,7 @@
 use mathlib.Core.Bool.{true, false}
 use Prim.Native.Nat.{ℕ, zero, suc, _-_}
 use lib.Dec.{eqb}
-use Rattle.lists.specs.Choice.{pick}
+use Rattle.lists.specs.Choice.{pick, unless}
 use Rattle.board.specs.Limits.{maxMoves}
 use Rattle.board.specs.Record.{finishedStage}
 use Rattle.board.specs.Whole.{Board}
@@ -32,7 +32,7 @@ playedOut b = steppedOn maxMoves b
 
 -- "Finish: 20". A board that cannot be played to the end was never loaded: see the theorem about every list of calls
 unfoldable pub finishRefusal : Board → ℕ
-finishRefusal b = pick (playing b) (pick (allHome (playedOut b)) 0 20) 20
+finishRefusal b = unless (playing b) 20 (unless (allHome (playedOut b)) 20 0)
 
 -- play is over; the moves of the finish start behind those that stood before it
 abbrev pub ended : ℕ → Board → Board

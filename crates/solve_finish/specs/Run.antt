@@ -7,8 +7,8 @@ use Prim.Native.Nat.{ℕ, _+_, _-_, _≤_, _<_}
 use lib.Dec.{leb, ltb, eqb}
 use lib.ListN.{length, getD}
 use Rattle.lists.specs.Choice.{pick, both}
-use Rattle.lists.specs.Lists.{all, lowest}
-use Rattle.sets.specs.Sets.{hasBit, joined}
+use Rattle.lists.specs.Lists.{all}
+use Rattle.sets.specs.Sets.{none, setOf, hasBit, joined}
 use Rattle.sets.specs.Inner.{dropped}
 use Rattle.move_edges.specs.Incidence.{PositiveSet}
 use Rattle.board.specs.Limits.{maxEdges, maxTerminals, maxMoves, maxTotal}
@@ -21,12 +21,10 @@ use Rattle.move_guard.specs.Moved.{unchanged}
 use Rattle.move_guard.specs.Moved.{Change}
 use Rattle.move_carry.specs.Carries.{carriedIn}
 use Rattle.move_turn.specs.Turns.{turnChange}
-use Rattle.solve_walk.specs.Walk.{cycleOf}
-use Rattle.solve_carry.specs.Search.{hasOpenAt, chosenEdgeIn}
-use Rattle.solve_next.specs.Choosing.{allHomeIn}
+use Rattle.solve_next.specs.Choosing.{Act, relocate, augment, allHomeIn, nextActIn}
 use Rattle.move_edges.specs.Incidence.{Incident}
-use Rattle.move_turn.specs.declared.Frame.{Frame}
-use Rattle.move_turn.specs.Lent.{netOf, bareOf}
+use Rattle.move_carry.specs.declared.Frame.{Frame}
+use Rattle.move_carry.specs.Frames.{netOf, bareOf}
 use Rattle.board.specs.Record.{blank}
 use Rattle.journal.specs.Words.{wholeOf, journalOf, blankFrom, packedOn}
 use Rattle.board.specs.Whole.{Table}
@@ -45,10 +43,6 @@ pub record Made : Type 0 where
 unfoldable pub allSmall : List ℕ → Bool
 allSmall flows = all (λ e. leb (getD flows e 0) maxTotal) 0 maxEdges
 
--- the lowest terminal with an open carry, or the count of terminals: `openTerminal` over the parts of a board
-unfoldable pub openTerminalIn : Network → List ℕ → ℕ → List ℕ → ℕ
-openTerminalIn net flows marks places = lowest (hasOpenAt (net .heads) (net .demands) (net .edges) flows marks places) 0 (net .terminals)
-
 -- the wet channels where channel e has the rest of its flow
 unfoldable pub positiveAfter : ℕ → ℕ → ℕ → ℕ
 positiveAfter positive rest e = pick (eqb rest 0) (dropped positive e) positive
@@ -58,20 +52,15 @@ unfoldable pub carryStep : Network → List ℕ → ℕ → List ℕ → ℕ →
 carryStep net flows marks places i e =
     pick (eqb (getD places i 0) (net .source)) (unchanged 21 flows marks places) (carriedIn net flows marks places i e)
 
--- what the solver changes where no carry is open: nothing where every terminal is at the source
-unfoldable pub turnStep : Network → List ℕ → ℕ → List ℕ → Change
-turnStep net flows marks places =
-    pick (allHomeIn (net .terminals) (net .source) places)
-    (unchanged 28 flows marks places)
-    (turnChange true false net flows marks places (cycleOf (net .tails) (net .heads) flows (net .vertices) (net .source)))
+-- what a move of the solver changes: such a carry, or a turn where no carry is open
+abbrev pub stepFor : Network → List ℕ → ℕ → List ℕ → Act → Change
+stepFor net flows marks places (relocate i e) = carryStep net flows marks places i e
+stepFor net flows marks places (augment w) = turnChange true false net flows marks places w
 
 -- what the solver's next move changes on a board in play of these parts; a number other than 0 where it makes none
 unfoldable pub stepChange : Network → List ℕ → ℕ → List ℕ → Change
 stepChange net flows marks places =
-    pick (ltb (openTerminalIn net flows marks places) (net .terminals))
-    (carryStep net flows marks places (openTerminalIn net flows marks places)
-    (chosenEdgeIn (net .heads) (net .demands) (net .edges) flows marks places (openTerminalIn net flows marks places)))
-    (turnStep net flows marks places)
+    pick (allHomeIn (net .terminals) (net .source) places) (unchanged 28 flows marks places) (stepFor net flows marks places (nextActIn net flows marks places))
 
 -- the lists of a network have the lengths that the code gives them
 pub record PartsSized (net : Network) : Type 0 where
@@ -98,7 +87,7 @@ pub record Makes (change : Change) (made : Made) : Type 0 where
 
 -- the edges whose flows a move shifts: those of a turn
 unfoldable pub shiftedEdges : Move → ℕ
-shiftedEdges (Carry c) = 0
+shiftedEdges (Carry c) = none
 shiftedEdges (Turn t) = joined (t .down) (t .up)
 
 -- outside `rest` the set has the positive edges, and no flow is large
@@ -108,7 +97,7 @@ pub record RightBut (flows : List ℕ) (positive rest : ℕ) : Type 0 where
 
 -- the positive edges of the flows, and whether these are small
 pub record Sees (flows : List ℕ) (seen : Seen) : Type 0 where
-  pub is-positive : PositiveSet flows (seen .positive)
+  pub is-positive : PositiveSet flows (setOf (seen .positive))
   pub smalls : seen .small ≡ allSmall flows
 
 -- the moves that are left of a run where the board is in play after one of them, else none
@@ -118,8 +107,8 @@ leftAfter left moves small = pick (both (leb moves maxMoves) small) (left - 1) 0
 -- a move on lists that are lent, with the flows and places after it
 abbrev pub madeOf : Progress → List ℕ → List ℕ → Made
 madeOf r flows places = record {
-  change = record { answer = r .answer; flows = flows; marks = r .marks; places = places; entry = r .entry };
-  positive = r .positive;
+  change = record { answer = r .answer; flows = flows; marks = setOf (r .marks); places = places; entry = r .entry };
+  positive = setOf (r .positive);
   small = r .small;
 }
 
@@ -131,10 +120,10 @@ haltedWith answer frame = record { answer = answer; entry = blank; marks = frame
 pub record Going (frame : Frame) (tails heads demands leaving entering flows places : List ℕ) : Type 0 where
   pub net : Network
   pub bare : bareOf net ≡ netOf frame tails heads demands
-  pub in-play : InPlay net flows (frame .marks) places
+  pub in-play : InPlay net flows (setOf (frame .marks)) places
   pub leave : Incident (net .tails) leaving
   pub enter : Incident (net .heads) entering
-  pub is-positive : PositiveSet flows (frame .positive)
+  pub is-positive : PositiveSet flows (setOf (frame .positive))
 
 -- so many moves stand, of them those from `from` on made by this finish, and so many may be left of its run
 pub record Filled (from moves left : ℕ) (old words : List (List ℕ)) : Type 0 where
@@ -161,5 +150,5 @@ ranTo t words flows marks places moves = record {
 pub record RanOut (t : Table) (old words : List (List ℕ)) (flows places : List ℕ) (r : Ran) : Type 0 where
   pub fills : Filled (t .moves) (r .moves) 0 old words
   pub short : length places ≡ maxTerminals
-  pub over : r .blank ≡ true → ranTo t words flows (r .marks) places (r .moves) ≡ playedOut (wholeOf t old)
+  pub over : r .blank ≡ true → ranTo t words flows (setOf (r .marks)) places (r .moves) ≡ playedOut (wholeOf t old)
   pub blocked : r .blank ≡ false → blankFrom (playedOut (wholeOf t old) .moves - t .moves) (t .moves) old ≡ false

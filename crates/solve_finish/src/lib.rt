@@ -1,22 +1,43 @@
 // The call `finish`.
 use board::Board;
-use board::EdgeSet;
 use board::Entry;
 use board::Move;
 use board::Relocation;
 use journal::WORDS;
-use move_turn::Frame;
+use move_carry::Frame;
+use move_cycle::StepCode;
+use sets::EdgeSet;
+use solve_next::Advice;
 ghost use mathlib.Core.Path.{_≡_};
-ghost use mathlib.Core.Bool.{true};
+ghost use mathlib.Core.Bool.{true, false};
+ghost use Rattle.sets.specs.Sets.{setOf};
+ghost use Rattle.sets.specs.Inner.{setsOf};
 ghost use Rattle.move_edges.specs.Incidence.{PositiveSet};
 ghost use Rattle.move_guard.specs.Guard.{playing};
-ghost use Rattle.move_turn.specs.Lent.{netOf};
+ghost use Rattle.move_carry.specs.Frames.{netOf};
 ghost use mathlib.Core.List.{[]};
 ghost use lib.ListN.{length};
 ghost use Rattle.board.specs.Limits.{maxEdges};
 ghost use Rattle.journal.specs.Words.{wholeOf, wordsAfter};
+ghost use Rattle.move_cycle.specs.Steps.{codeSteps};
+ghost use Rattle.move_turn.specs.Turns.{turnChange};
+ghost use Rattle.move_turn.specs.Lent.{Turnable};
 ghost use Rattle.solve_finish.specs.Lent.{endedOf, finishOn};
-ghost use Rattle.solve_finish.specs.Run.{allSmall, positiveAfter, carryStep, turnStep, stepChange, Makes, shiftedEdges, RightBut, Sees, leftAfter, madeOf, haltedWith, Going, RanOut};
+ghost use Rattle.solve_finish.specs.Run.{
+  allSmall,
+  positiveAfter,
+  carryStep,
+  stepChange,
+  Makes,
+  shiftedEdges,
+  RightBut,
+  Sees,
+  leftAfter,
+  madeOf,
+  haltedWith,
+  Going,
+  RanOut,
+};
 
 // What a finish gives: 0, how many moves it made, and the board at the end; or the number that it is refused with, and
 // the board as it was.
@@ -62,7 +83,7 @@ fn left_after(left: u32, moves: u32, small: bool) -> u32
 
 // The positive edges where edge e has the rest of its flow.
 fn positive_after(positive: EdgeSet, rest: u32, e: u32) -> EdgeSet
-    ensures { λ r. ⌜ r ≡ positiveAfter positive rest e ⌝ }
+    ensures { λ r. ⌜ r ≡ positiveAfter (setOf positive) rest e ⌝ }
 {
     if rest == 0 {
         return sets::drop(positive, e);
@@ -75,20 +96,20 @@ fn shifted_edges(step: Move) -> EdgeSet
     ensures { λ r. ⌜ r ≡ shiftedEdges step ⌝ }
 {
     match step {
-        Move::Carry(_) => 0,
+        Move::Carry(_) => sets::none(),
         Move::Turn(turn) => sets::joined(turn.down, turn.up),
     }
 }
 
 // The positive edges, and whether the flows are small, by a look at the changed edges alone.
 fn look_again(changed: EdgeSet, positive: EdgeSet, flows: &[u32; Board::MAX_EDGES]) -> Seen
-    requires { ⌜ RightBut (now flows) positive changed ⌝ }
+    requires { ⌜ RightBut (now flows) (setOf positive) (setOf changed) ⌝ }
     ensures { λ r. ⌜ Sees (now (flows .entry)) r ⌝ }
 {
     let mut rest = changed;
     let mut after = positive;
     let mut small = true;
-    while rest != 0 {
+    while !sets::is_empty(rest) {
         let e = sets::lowest(rest);
         let f = lists::word_at(flows, e as usize);
         let others = sets::drop(after, e);
@@ -126,11 +147,11 @@ fn carry_on<'a>(
     flows: &mut [u32; Board::MAX_EDGES],
     places: &mut [u32; Board::MAX_TERMINALS],
 ) -> Progress
-    requires { ⌜ PositiveSet (now flows) (frame .positive) ⌝ }
+    requires { ⌜ PositiveSet (now flows) (setOf (frame .positive)) ⌝ }
     requires { ⌜ allSmall (now flows) ≡ true ⌝ }
     requires { ⌜ length (now flows) ≡ maxEdges ⌝ }
     ensures { λ r. ⌜ Makes (carryStep (netOf frame (now (tails .entry)) [] (now (demands .entry)))
-        (now (flows .entry)) (frame .marks) (now (places .entry)) i e)
+        (now (flows .entry)) (setOf (frame .marks)) (now (places .entry)) i e)
         (madeOf r (now (flows .exit)) (now (places .exit))) ⌝ }
 {
     let place = lists::word_at(places, i as usize);
@@ -158,39 +179,24 @@ fn carry_on<'a>(
     }
 }
 
-// Augments along the solver's cycle.
+// Augments along the steps of a cycle, where no carry is open.
 fn turn_on<'a>(
     frame: Frame,
     tails: &'a [u32; Board::MAX_EDGES],
     heads: &'a [u32; Board::MAX_EDGES],
     demands: &'a [u32; Board::MAX_TERMINALS],
     leaving: &'a [EdgeSet],
-    entering: &'a [EdgeSet],
     flows: &mut [u32; Board::MAX_EDGES],
     places: &'a [u32; Board::MAX_TERMINALS],
+    steps: &'a [StepCode],
 ) -> Progress
-    requires { ⌜ Going frame (now tails) (now heads) (now demands) (now leaving) (now entering) (now flows)
-        (now places) ⌝ }
-    ensures { λ r. ⌜ Makes (turnStep
+    requires { ⌜ Turnable frame (now tails) (now heads) (now demands) (setsOf (now leaving)) (now flows) ⌝ }
+    requires { ⌜ allSmall (now flows) ≡ true ⌝ }
+    ensures { λ r. ⌜ Makes (turnChange true false
         (netOf frame (now (tails .entry)) (now (heads .entry)) (now (demands .entry)))
-        (now (flows .entry)) (frame .marks) (now (places .entry)))
+        (now (flows .entry)) (setOf (frame .marks)) (now (places .entry)) (codeSteps (now (steps .entry))))
         (madeOf r (now (flows .exit)) (now (places .entry))) ⌝ }
 {
-    if solve_next::all_home(places, frame.terminals, frame.source) {
-        return halted(28, frame);
-    }
-    let walk = solve_walk::cycle(
-        tails,
-        heads,
-        leaving,
-        entering,
-        frame.positive,
-        flows,
-        frame.vertices,
-        frame.source,
-    );
-    let steps = walk.steps;
-    let count = walk.count as usize;
     let made = move_turn::change(
         false,
         frame,
@@ -199,7 +205,7 @@ fn turn_on<'a>(
         demands,
         leaving,
         places,
-        &steps[..count],
+        steps,
         flows,
     );
     let entry = made.entry;
@@ -226,36 +232,15 @@ fn advance<'a>(
     flows: &mut [u32; Board::MAX_EDGES],
     places: &mut [u32; Board::MAX_TERMINALS],
 ) -> Progress
-    requires { ⌜ Going frame (now tails) (now heads) (now demands) (now leaving) (now entering) (now flows)
+    requires { ⌜ Going frame (now tails) (now heads) (now demands) (setsOf (now leaving))
+        (setsOf (now entering)) (now flows)
         (now places) ⌝ }
     ensures { λ r. ⌜ Makes (stepChange
         (netOf frame (now (tails .entry)) (now (heads .entry)) (now (demands .entry)))
-        (now (flows .entry)) (frame .marks) (now (places .entry)))
+        (now (flows .entry)) (setOf (frame .marks)) (now (places .entry)))
         (madeOf r (now (flows .exit)) (now (places .exit))) ⌝ }
 {
-    let found = solve_carry::open_carry(
-        heads,
-        entering,
-        demands,
-        frame.terminals,
-        frame.edges,
-        flows,
-        frame.positive,
-        frame.marks,
-        places,
-    );
-    if found.terminal < frame.terminals {
-        return carry_on(
-            frame,
-            tails,
-            demands,
-            found.terminal,
-            found.edge,
-            flows,
-            places,
-        );
-    }
-    turn_on(
+    let next = solve_next::next_move(
         frame,
         tails,
         heads,
@@ -264,6 +249,25 @@ fn advance<'a>(
         entering,
         flows,
         places,
+    );
+    if next.kind == Advice::NONE {
+        return halted(28, frame);
+    }
+    if next.kind == Advice::CARRY {
+        let terminal = next.terminal;
+        return carry_on(frame, tails, demands, terminal, next.edge, flows, places);
+    }
+    let steps = next.steps;
+    let count = next.count as usize;
+    turn_on(
+        frame,
+        tails,
+        heads,
+        demands,
+        leaving,
+        flows,
+        places,
+        &steps[..count],
     )
 }
 

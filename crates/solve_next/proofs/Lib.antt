@@ -1,4 +1,2 @@
-pub mod Intact
 pub mod Advised
 pub mod Ways
-pub mod Lent

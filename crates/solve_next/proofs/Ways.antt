@@ -3,16 +3,18 @@
 use mathlib.Core.Path.{_≡_, refl, sym, ap, _∙_}
 use mathlib.Core.Bool.{Bool, true, false}
 use lib.Dec.{eqb}
-use lib.ListN.{length}
 use borrow.Author.Tests.{eq-eqb, ne-eqb}
 use Rattle.lists.specs.Choice.{pick, either}
-use Rattle.lists.proofs.Laws.{pick-yes, pick-no}
-use Rattle.board.specs.Limits.{maxEdges}
+use mathlib.Core.Logic.{_≢_}
+use Prim.Native.Nat.{ℕ}
+use Rattle.lists.proofs.Laws.{Known, was-true, was-false, known, pick-yes, pick-no}
 use Rattle.board.specs.Whole.{Board}
 use Rattle.move_guard.specs.Guard.{playing}
+use Rattle.move_guard.specs.Bounds.{InBounds}
 use Rattle.solve_next.specs.declared.Advice.{Advice}
-use Rattle.solve_next.specs.Choosing.{allHome, judge, nextAct, noAdvice, adviceOf, actOf}
-use Rattle.solve_next.proofs.Advised.{advice-act}
+use Rattle.solve_next.specs.Choosing.{allHome, judgeIn, judge, nextAct, noAdvice}
+use Rattle.solve_next.proofs.Advised.{advice-none, advice-number}
+use Rattle.solve_next.specs.Parts.{adviceNumberIn}
 use Rattle.solve_next.specs.Hints.{hintRefusal, nextAdvice, hintCall}
 
 -- the number: the board is not in play; every terminal is at the source, or the solver's move is accepted; or it is refused
@@ -35,19 +37,30 @@ module _ (b : Board) (n : Advice) (none : n ≡ noAdvice) where
   unfolding hintCall pick
   hint-closed p = rw (number-closed b p, none)
 
-  pub hint-home : playing b ≡ true → allHome b ≡ true → record { answer = 0; advice = n } ≡ hintCall b
-  unfolding hintCall nextAdvice pick
-  hint-home p h = rw (number-home b p h, h, none)
+-- the solver's move, by the number that its record is judged with
+module _ (b : Board) (play : playing b ≡ true) (bounds : InBounds (b .network) (b .flows) (b .places)) (a : Advice) (next : a ≡ nextAdvice b) (number : ℕ)
+    (en : number ≡ adviceNumberIn (b .network) (b .flows) (b .marks) (b .places) a) where
+  home-number : allHome b ≡ true → number ≡ 0
+  unfolding adviceNumberIn pick
+  home-number h = en ∙ ap (adviceNumberIn (b .network) (b .flows) (b .marks) (b .places)) (next ∙ sym (advice-none (b .network) (b .flows) (b .marks) (b .places) h))
 
--- the solver's move
-module _ (b : Board) (a : Advice) (next : a ≡ adviceOf (nextAct b)) (play : playing b ≡ true) (long : length (b .flows) ≡ maxEdges) where
-  same-act : actOf a ≡ nextAct b
-  same-act = ap actOf next ∙ advice-act b play long
+  away-number : allHome b ≡ false → number ≡ judge b (nextAct b)
+  away-number h =
+      en ∙ ap (adviceNumberIn (b .network) (b .flows) (b .marks) (b .places)) next ∙ advice-number (b .network) (b .flows) (b .marks) (b .places) bounds h
+      ∙ ap (λ (p : Bool). judgeIn p (b .network) (b .flows) (b .marks) (b .places) (nextAct b)) (sym play)
 
-  pub hint-stuck : (n : Advice) → n ≡ noAdvice → allHome b ≡ false → (judge b (actOf a) ≡ 0 → ⊥) → record { answer = 20; advice = n } ≡ hintCall b
+  pub hint-stuck : (n : Advice) → n ≡ noAdvice → number ≢ 0 → record { answer = 20; advice = n } ≡ hintCall b
   unfolding hintCall pick
-  hint-stuck n none h j = rw (number-judged b play false h (ne-eqb _ 0 (λ q. j (ap (judge b) same-act ∙ q))), none)
+  hint-stuck n none j = go (known (allHome b))
+    where
+      go : Known (allHome b) → record { answer = 20; advice = n } ≡ hintCall b
+      go (was-true h) = absurd (j (home-number h))
+      go (was-false h) = rw (number-judged b play false h (ne-eqb _ 0 (λ q. j (away-number h ∙ q))), none)
 
-  pub hint-move : allHome b ≡ false → judge b (actOf a) ≡ 0 → record { answer = 0; advice = a } ≡ hintCall b
-  unfolding hintCall nextAdvice pick
-  hint-move h j = rw (number-judged b play true h (eq-eqb _ 0 (ap (judge b) (sym same-act) ∙ j)), h, next)
+  pub hint-move : number ≡ 0 → record { answer = 0; advice = a } ≡ hintCall b
+  unfolding hintCall pick
+  hint-move j = go (known (allHome b))
+    where
+      go : Known (allHome b) → record { answer = 0; advice = a } ≡ hintCall b
+      go (was-true h) = rw (number-home b play h, next)
+      go (was-false h) = rw (number-judged b play true h (eq-eqb _ 0 (sym (away-number h) ∙ j)), next)

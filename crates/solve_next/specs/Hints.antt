@@ -1,20 +1,25 @@
 -- The call `hint`: document 01, "Moves"; document 02, E3.
 use Prim.Native.Nat.{ℕ}
 use lib.Dec.{eqb}
-use Rattle.lists.specs.Choice.{pick, either}
+use mathlib.Core.List.{List}
+use Rattle.lists.specs.Choice.{pick, either, unless}
 use Rattle.board.specs.Whole.{Board}
+use Rattle.board.specs.declared.Network.{Network}
 use Rattle.move_guard.specs.Guard.{playing}
 use Rattle.solve_next.specs.declared.Advice.{Advice}
-use Rattle.solve_next.specs.Choosing.{allHome, judge, nextAct, noAdvice, adviceOf}
+use Rattle.solve_next.specs.Choosing.{allHomeIn, allHome, judge, nextActIn, nextAct, noAdvice, adviceOf}
 use Rattle.solve_next.specs.declared.Suggestion.{Suggestion}
 
 -- "Hint: 20". A board on which terminals are away and the solver's move is refused was never loaded: see the theorem about every list of calls
 unfoldable pub hintRefusal : Board → ℕ
-hintRefusal b = pick (playing b) (pick (either (allHome b) (eqb (judge b (nextAct b)) 0)) 0 20) 20
+hintRefusal b = unless (playing b) 20 (unless (either (allHome b) (eqb (judge b (nextAct b)) 0)) 20 0)
 
 -- "The hint shall give the move that finish would make next on this board"; "none only if every mill is at the spring"
-unfoldable pub nextAdvice : Board → Advice
-nextAdvice b = pick (allHome b) noAdvice (adviceOf (nextAct b))
+unfoldable pub nextAdviceIn : Network → List ℕ → ℕ → List ℕ → Advice
+nextAdviceIn net flows marks places = pick (allHomeIn (net .terminals) (net .source) places) noAdvice (adviceOf (nextActIn net flows marks places))
+
+abbrev pub nextAdvice : Board → Advice
+nextAdvice b = nextAdviceIn (b .network) (b .flows) (b .marks) (b .places)
 
 -- the call; a refusal gives the number alone
 unfoldable pub hintCall : Board → Suggestion

@@ -1,4 +1,3 @@
 pub mod Choosing
 pub mod Parts
 pub mod Hints
-pub mod Acts

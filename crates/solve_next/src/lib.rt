@@ -1,23 +1,20 @@
 // The solver's next move, and the call `hint`.
 use board::Board;
-use board::EdgeSet;
-use board::Network;
 use journal::WORDS;
-use solve_carry::Found;
-use solve_walk::Walk;
+use move_carry::Frame;
+use move_cycle::StepCode;
+use sets::EdgeSet;
 ghost use mathlib.Core.Path.{_≡_};
-ghost use mathlib.Core.Bool.{true};
 ghost use Prim.Native.Nat.{_≤_};
+ghost use Rattle.sets.specs.Sets.{setOf};
+ghost use Rattle.sets.specs.Inner.{setsOf};
 ghost use Rattle.board.specs.Limits.{maxEdges};
 ghost use Rattle.journal.specs.Words.{wholeOf};
-ghost use Rattle.move_guard.specs.Guard.{playing};
-ghost use Rattle.move_turn.specs.Inner.{Sound};
-ghost use Rattle.solve_carry.specs.Search.{foundCarry};
-ghost use Rattle.solve_walk.specs.Walk.{cycleOf, packed};
-ghost use Rattle.solve_next.specs.Parts.{Searchable, Walkable};
-ghost use Rattle.solve_next.specs.Choosing.{allHomeIn, noAdvice, adviceOf, actOf};
-ghost use Rattle.solve_next.specs.Acts.{nextActIn, judgeIn};
-ghost use Rattle.solve_next.specs.Hints.{hintCall};
+ghost use Rattle.move_edges.specs.Inner.{ChartedOut};
+ghost use Rattle.move_carry.specs.Frames.{netOf};
+ghost use Rattle.solve_next.specs.Parts.{Movable, adviceNumberIn};
+ghost use Rattle.solve_next.specs.Choosing.{allHomeIn, noAdvice};
+ghost use Rattle.solve_next.specs.Hints.{nextAdviceIn, hintCall};
 
 // ---- The move that the solver makes next.
 
@@ -27,7 +24,7 @@ pub struct Advice {
     pub terminal: u32,
     pub edge: u32,
     pub count: u32,
-    pub steps: [u8; Board::MAX_EDGES],
+    pub steps: [StepCode; Board::MAX_EDGES],
 }
 
 impl Advice {
@@ -66,75 +63,41 @@ pub fn all_home(places: &[u32], terminals: u32, source: u32) -> bool
     true
 }
 
-// The lowest terminal with an open carry, and the edge to carry it over.
-fn next_carry(
-    net: Network,
-    flows: [u32; Board::MAX_EDGES],
-    marks: EdgeSet,
-    places: [u32; Board::MAX_TERMINALS],
-) -> Found
-    requires { ⌜ Searchable net flows places ⌝ }
-    ensures { λ r. ⌜ r ≡ foundCarry (net .heads) (net .demands) (net .edges) flows marks places (net .terminals) ⌝ }
+// The same; this terminal is looked at before the others.
+fn all_home_after(places: &[u32], terminals: u32, source: u32, first: u32) -> bool
+    ensures { λ r. ⌜ r ≡ allHomeIn terminals source (now (places .entry)) ⌝ }
 {
-    let heads = net.heads;
-    let entering = move_edges::at_vertices(heads);
-    let positive = move_edges::positive(&flows);
-    solve_carry::open_carry(
-        &heads,
-        &entering,
-        &net.demands,
-        net.terminals,
-        net.edges,
-        &flows,
-        positive,
-        marks,
-        &places,
-    )
+    let place = lists::word_at(places, first as usize);
+    if lists::and(first < terminals, place != source) {
+        return false;
+    }
+    all_home(places, terminals, source)
 }
 
-// The cycle to turn.
-fn next_cycle(net: Network, flows: [u32; Board::MAX_EDGES]) -> Walk
-    requires { ⌜ Walkable net ⌝ }
-    ensures { λ r. ⌜ r ≡ packed (cycleOf (net .tails) (net .heads) flows (net .vertices) (net .source)) ⌝ }
-{
-    let tails = net.tails;
-    let heads = net.heads;
-    let leaving = move_edges::at_vertices(tails);
-    let entering = move_edges::at_vertices(heads);
-    let positive = move_edges::positive(&flows);
-    solve_walk::cycle(
-        &tails,
-        &heads,
-        &leaving,
-        &entering,
-        positive,
-        &flows,
-        net.vertices,
-        net.source,
-    )
-}
-
-// ---- The call `hint`.
-
-// What a hint gives: 0 and the move that a finish would make next, or none; or the number that it is refused with.
-pub struct Suggestion {
-    pub answer: u32,
-    pub advice: Advice,
-}
-
-// The move that the solver makes next, by the parts of a board in play.
-fn next_in(
-    net: Network,
-    flows: [u32; Board::MAX_EDGES],
-    marks: EdgeSet,
-    places: [u32; Board::MAX_TERMINALS],
+// The move that the solver makes next, by the lists of a board in play and the sets of its edges: none where every
+// terminal is at the source, else an open carry, else the cycle.
+pub fn next_move<'a>(
+    frame: Frame,
+    tails: &'a [u32; Board::MAX_EDGES],
+    heads: &'a [u32; Board::MAX_EDGES],
+    demands: &'a [u32; Board::MAX_TERMINALS],
+    leaving: &'a [EdgeSet],
+    entering: &'a [EdgeSet],
+    flows: &'a [u32; Board::MAX_EDGES],
+    places: &'a [u32; Board::MAX_TERMINALS],
 ) -> Advice
-    requires { ⌜ Searchable net flows places ⌝ }
-    requires { ⌜ Walkable net ⌝ }
-    ensures { λ r. ⌜ r ≡ adviceOf (nextActIn net flows marks places) ⌝ }
+    requires { ⌜ Movable frame (now tails) (now heads) (now demands) (setsOf (now leaving))
+        (setsOf (now entering)) (now flows)
+        (now places) ⌝ }
+    ensures { λ r. ⌜ r ≡ nextAdviceIn
+        (netOf frame (now (tails .entry)) (now (heads .entry)) (now (demands .entry)))
+        (now (flows .entry)) (setOf (frame .marks)) (now (places .entry)) ⌝ }
 {
-    let found = next_carry(net, flows, marks, places);
-    if found.terminal < net.terminals {
+    let found = solve_carry::open_carry(frame, heads, demands, entering, flows, places);
+    if all_home_after(places, frame.terminals, frame.source, found.terminal) {
+        return Advice::none();
+    }
+    if found.terminal < frame.terminals {
         return Advice {
             kind: Advice::CARRY,
             terminal: found.terminal,
@@ -143,7 +106,16 @@ fn next_in(
             steps: [0; Board::MAX_EDGES],
         };
     }
-    let walk = next_cycle(net, flows);
+    let walk = solve_walk::cycle(
+        tails,
+        heads,
+        leaving,
+        entering,
+        frame.positive,
+        flows,
+        frame.vertices,
+        frame.source,
+    );
     let steps = walk.steps;
     Advice {
         kind: Advice::TURN,
@@ -154,38 +126,51 @@ fn next_in(
     }
 }
 
-// The number that a move is refused with, by the parts of a board in play; 0 where it is accepted.
+// ---- The call `hint`.
+
+// What a hint gives: 0 and the move that a finish would make next, or none; or the number that it is refused with.
+pub struct Suggestion {
+    pub answer: u32,
+    pub advice: Advice,
+}
+
+// The number that a move is refused with, by the lists of a board in play; 0 where it is accepted, and for no move. A
+// turn is judged where no carry is open.
 fn judge_in<'a>(
-    net: Network,
-    flows: [u32; Board::MAX_EDGES],
-    marks: EdgeSet,
+    frame: Frame,
+    tails: &'a [u32],
+    heads: &'a [u32],
+    demands: &'a [u32],
+    leaving: &'a [EdgeSet],
+    flows: &'a [u32],
     places: &'a [u32],
     advice: Advice,
 ) -> u32
-    requires { ⌜ Sound net flows ⌝ }
+    requires { ⌜ frame .edges ≤ maxEdges ⌝ }
+    requires { ⌜ ChartedOut (now tails) (now heads) (now flows) (setsOf (now leaving)) (setOf (frame .positive)) ⌝ }
     requires { ⌜ advice .count ≤ maxEdges ⌝ }
-    ensures { λ r. ⌜ r ≡ judgeIn net flows marks (now (places .entry)) (actOf advice) ⌝ }
+    ensures { λ r. ⌜ r ≡ adviceNumberIn
+        (netOf frame (now (tails .entry)) (now (heads .entry)) (now (demands .entry)))
+        (now (flows .entry)) (setOf (frame .marks)) (now (places .entry)) advice ⌝ }
 {
+    if advice.kind == Advice::NONE {
+        return 0;
+    }
     if advice.kind == Advice::CARRY {
         return move_carry::refusal_in(
             true,
-            net,
-            &flows,
-            marks,
+            frame,
+            heads,
+            demands,
+            flows,
             places,
             advice.terminal,
             advice.edge,
         );
     }
     let steps = advice.steps;
-    move_turn::turn_refusal_in(
-        true,
-        net,
-        flows,
-        marks,
-        places,
-        &steps[..advice.count as usize],
-    )
+    let count = advice.count as usize;
+    move_turn::refusal_in(false, frame, tails, heads, leaving, flows, &steps[..count])
 }
 
 // The move that the solver would make next; none where every terminal is at the source, and after a refusal.
@@ -202,14 +187,41 @@ pub fn hint(board: Board, journal: &[[u64; WORDS]; Board::JOURNAL]) -> Suggestio
     let net = board.network;
     let flows = board.flows;
     let places = board.places;
-    if all_home(&places, net.terminals, net.source) {
-        return Suggestion {
-            answer: 0,
-            advice: none,
-        };
-    }
-    let next = next_in(net, flows, board.marks, places);
-    if judge_in(net, flows, board.marks, &places, next) != 0 {
+    let tails = net.tails;
+    let heads = net.heads;
+    let demands = net.demands;
+    let leaving = move_edges::at_vertices(tails);
+    let entering = move_edges::at_vertices(heads);
+    let positive = move_edges::positive(&flows);
+    let frame = Frame {
+        vertices: net.vertices,
+        edges: net.edges,
+        terminals: net.terminals,
+        source: net.source,
+        marks: board.marks,
+        positive: positive,
+    };
+    let next = next_move(
+        frame,
+        &tails,
+        &heads,
+        &demands,
+        &leaving,
+        &entering,
+        &flows,
+        &places,
+    );
+    let number = judge_in(
+        frame,
+        &tails,
+        &heads,
+        &demands,
+        &leaving,
+        &flows,
+        &places,
+        next,
+    );
+    if number != 0 {
         return Suggestion {
             answer: 20,
             advice: none,

@@ -1,7 +1,7 @@
 -- The walk by sets is the walk by lists. The edges in the set at a vertex are those that the search over all edges would find; two edges leave where the set
 -- without its lowest edge is not empty; and a step makes one vertex more seen, the one that it starts from.
 use mathlib.Core.Path.{_≡_, refl, sym, ap, _∙_}
-use mathlib.Core.Bool.{Bool}
+use mathlib.Core.Bool.{Bool, true, false, not}
 use mathlib.Core.List.{List, [], _∷_, _++_}
 use mathlib.Core.Logic.{_⊎_, inl, inr, _≢_}
 use Prim.Native.Nat.{ℕ, suc, _+_, _-_, _<_, _≤_, _^_}
@@ -12,7 +12,8 @@ use borrow.Author.Tests.{lt-ltb, le-ltb, eq-eqb, ne-eqb}
 use Rattle.lists.specs.Lists.{indexOf, lowest}
 use Rattle.lists.proofs.Laws.{Known, was-true, was-false, known, lt-or-ge, eq-or-ne}
 use Rattle.sets.specs.Sets.{hasBit, withBit}
-use Rattle.sets.specs.Inner.{setWidth, dropped}
+use Rattle.sets.specs.Inner.{setWidth, isEmpty, dropped, lowestIn}
+use Rattle.sets.proofs.Scan.{empty-above}
 use Rattle.sets.proofs.Bits.{has-none, has-with-same, has-with-other}
 use Rattle.board.specs.Limits.{maxVertices, maxEdges}
 use Rattle.move_edges.specs.Incidence.{Incident, PositiveSet, touchingAt}
@@ -20,7 +21,15 @@ use Rattle.move_edges.proofs.Leaving.{without-at, more-in}
 use Rattle.graph_flows.specs.Trails.{Step, startOf}
 use Rattle.solve_walk.specs.Walk.{touches, another, parts, startsOf, firstMet}
 use Rattle.solve_walk.proofs.Loops.{starts-length}
-use Rattle.solve_walk.specs.Chart.{Charted, Seen, anotherIn, partsIn}
+use Rattle.solve_walk.specs.Chart.{Charted, Seen, anotherBy, partsBy}
+
+-- a set is not empty where its number is above 0
+not-not : (t : Bool) → not (not t) ≡ t
+not-not true = refl
+not-not false = refl
+
+not-empty : (m : ℕ) → not (isEmpty m) ≡ ltb 0 m
+not-empty m = ap not (empty-above m) ∙ not-not (ltb 0 m)
 
 -- one end of the edges
 module _ (ends flows edges : List ℕ) (positive v : ℕ) (at : Incident ends edges) (is-positive : PositiveSet flows positive) (small : v < maxVertices)
@@ -29,24 +38,24 @@ module _ (ends flows edges : List ℕ) (positive v : ℕ) (at : Incident ends ed
   unfolding touches
   others = without-at ends flows edges positive v at is-positive small fits long
 
-  pub another-in : (x : ℕ) → anotherIn edges positive v x ≡ another ends flows v x
+  pub another-in : (x : ℕ) → anotherBy edges positive v x ≡ another ends flows v x
   unfolding another
   another-in x = ap (λ (p : ℕ → Bool). lowest p 0 setWidth) (λ i e. others x e i) ∙ ap (λ (n : ℕ). lowest (touches ends flows v x) 0 n) (sym long)
 
-  pub parts-in : partsIn edges positive v ≡ parts ends flows v
+  pub parts-in : partsBy edges positive v ≡ parts ends flows v
   unfolding parts
-  parts-in = more-in ends flows edges positive v at is-positive small fits long
+  parts-in = not-empty (dropped (touchingAt edges positive v) (lowestIn (touchingAt edges positive v))) ∙ more-in ends flows edges positive v at is-positive small fits long
 
 -- the walk's two ends
 module _ (tails heads flows leaving entering : List ℕ) (positive v : ℕ) (chart : Charted tails heads flows leaving entering positive)
     (fits : positive < 2 ^ setWidth) (small : v < maxVertices) where
-  pub falls-in : (x : ℕ) → anotherIn leaving positive v x ≡ another tails flows v x
+  pub falls-in : (x : ℕ) → anotherBy leaving positive v x ≡ another tails flows v x
   falls-in = another-in tails flows leaving positive v (chart .leave) (chart .is-positive) small fits (chart .all)
 
-  pub climbs-in : (x : ℕ) → anotherIn entering positive v x ≡ another heads flows v x
+  pub climbs-in : (x : ℕ) → anotherBy entering positive v x ≡ another heads flows v x
   climbs-in = another-in heads flows entering positive v (chart .enter) (chart .is-positive) small fits (chart .all)
 
-  pub parting-in : partsIn leaving positive v ≡ parts tails flows v
+  pub parting-in : partsBy leaving positive v ≡ parts tails flows v
   parting-in = parts-in tails flows leaving positive v (chart .leave) (chart .is-positive) small fits (chart .all)
 
 -- one start more: v is among them where it is among the old ones, or is the new one

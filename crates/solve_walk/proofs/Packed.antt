@@ -1,56 +1,33 @@
--- A walk in a record and its steps are the same thing. A byte gives one step and a step one byte, as long as the edge is below 128; every edge that the
+-- A walk in a record and its steps are the same thing: codes have room for their edges, since every edge that the
 -- search chooses is at most the number of edges; and each step of the walk uses up one of the vertices not yet seen, so that the cycle is no longer than
 -- they are many.
 use mathlib.Core.Path.{_≡_, refl, sym, ap, _∙_}
 use mathlib.Core.Bool.{Bool, false}
 use mathlib.Core.List.{List, [], _∷_, _++_}
-use Prim.Native.Nat.{ℕ, zero, suc, _+_, _-_, _≤_, _<_}
+use Prim.Native.Nat.{ℕ, zero, suc, _+_, _≤_, _<_}
 use native.Mathlib.Omega.{arith}
-use lib.Dec.{ltb, leb}
+use lib.Dec.{ltb}
 use lib.ListN.{length, getD, take, drop, replicate, length-append, length-drop, length-replicate}
 use lib.Seq.{sets, sets-eq, take-append-seam}
-use borrow.Author.Tests.{leb-true, leb-false}
 use Rattle.board.specs.Limits.{maxEdges}
 use Rattle.lists.specs.Lists.{lowest}
 use Rattle.lists.proofs.Laws.{Known, was-true, was-false, known}
 use Rattle.lists.proofs.Lowest.{lowest-least}
 use Rattle.graph_flows.specs.Trails.{Step, down, up, edgeOf}
-use Rattle.move_cycle.specs.Steps.{upFrom, stepOf, stepsOf}
-use Rattle.move_cycle.proofs.Bytes.{step-up, step-down}
-use Rattle.solve_walk.specs.Walk.{another, parts, firstMet, downWalk, upWalk, cycleOf, byteOf, bytesOf, packed}
+use Rattle.move_cycle.specs.Steps.{codeUp, codeSteps, codesOf}
+use Rattle.move_cycle.proofs.Codes.{step-code, codes-length}
+use Rattle.solve_walk.specs.Walk.{another, parts, firstMet, downWalk, upWalk, cycleOf, packed}
 use Rattle.solve_walk.specs.Inner.{walked}
-
--- the byte of a byte's step
-byte-step : (b : ℕ) → byteOf (stepOf b) ≡ b
-byte-step b = split (known (leb upFrom b))
-  where
-    split : Known (leb upFrom b) → byteOf (stepOf b) ≡ b
-    split (was-true t) = let h = leb-true upFrom b t in ap byteOf (step-up b h) ∙ omega arith
-    split (was-false t) = ap byteOf (step-down b (leb-false upFrom b t))
-
-pub bytes-steps : (bs : List ℕ) → bytesOf (stepsOf bs) ≡ bs
-unfolding stepsOf
-bytes-steps [] = refl
-bytes-steps (b ∷ bs) = rw (byte-step b, bytes-steps bs) refl
-
--- the step of a step's byte
-pub step-byte : (s : Step) → edgeOf s < upFrom → stepOf (byteOf s) ≡ s
-step-byte (down e) h = step-down e h
-step-byte (up e) h = let back : e + upFrom - upFrom ≡ e = omega arith in step-up (e + upFrom) (omega arith) ∙ ap up back
 
 -- every step's edge is at most m
 abbrev pub EdgesTo : ℕ → List Step → Type 0
 EdgesTo m [] = Unit {0}
 EdgesTo m (s ∷ w) = (edgeOf s ≤ m) × EdgesTo m w
 
-pub steps-bytes : (m : ℕ) (w : List Step) → m < upFrom → EdgesTo m w → stepsOf (bytesOf w) ≡ w
-unfolding stepsOf
-steps-bytes m [] h b = refl
-steps-bytes m (s ∷ w) h b = let l = b .0 in rw (step-byte s (omega (arith, l, h)), steps-bytes m w h (b .1)) refl
-
-pub bytes-length : (w : List Step) → length (bytesOf w) ≡ length w
-bytes-length [] = refl
-bytes-length (s ∷ w) = ap suc (bytes-length w)
+steps-codes : (m : ℕ) (w : List Step) → m < codeUp → EdgesTo m w → codeSteps (codesOf w) ≡ w
+unfolding codeSteps
+steps-codes m [] h b = refl
+steps-codes m (s ∷ w) h b = let l = b .0 in rw (step-code s (omega (arith, l, h)), steps-codes m w h (b .1)) refl
 
 -- what is stored at the start of a list is what it then starts with
 stored-take : (buf xs : List ℕ) → length xs ≤ length buf → take (length xs) (sets buf 0 xs) ≡ xs
@@ -59,13 +36,13 @@ stored-take buf xs h =
     rw (sets-eq xs buf 0 fits) (take-append-seam xs (drop (0 + length xs) buf))
 
 -- the walk in the record of a walk
-pub walked-packed : (m : ℕ) (w : List Step) → m < upFrom → EdgesTo m w → length w ≤ maxEdges → walked (packed w) ≡ w
+pub walked-packed : (m : ℕ) (w : List Step) → m < codeUp → EdgesTo m w → length w ≤ maxEdges → walked (packed w) ≡ w
 walked-packed m w h b l =
-    let size = bytes-length w in
-    let fits : length (bytesOf w) ≤ length {A = ℕ} (replicate maxEdges 0) = omega (arith, size, l, length-replicate {A = ℕ} maxEdges 0) in
-    ap (λ (n : ℕ). stepsOf (take n (sets (replicate maxEdges 0) 0 (bytesOf w)))) (sym size)
-    ∙ ap stepsOf (stored-take (replicate maxEdges 0) (bytesOf w) fits)
-    ∙ steps-bytes m w h b
+    let size = codes-length w in
+    let fits : length (codesOf w) ≤ length {A = ℕ} (replicate maxEdges 0) = omega (arith, size, l, length-replicate {A = ℕ} maxEdges 0) in
+    ap (λ (n : ℕ). codeSteps (take n (sets (replicate maxEdges 0) 0 (codesOf w)))) (sym size)
+    ∙ ap codeSteps (stored-take (replicate maxEdges 0) (codesOf w) fits)
+    ∙ steps-codes m w h b
 
 -- more steps, and fewer
 edges-more : (m : ℕ) (w : List Step) (s : Step) → EdgesTo m w → edgeOf s ≤ m → EdgesTo m (w ++ (s ∷ []))
@@ -166,7 +143,7 @@ module _ (tails heads flows : List ℕ) where
   unfolding cycleOf
   cycle-left n source = walks-leave n n .0 [] (length flows) source (record { edges = tt; short = omega arith }) (omega arith)
 
-  pub cycle-walked : (n source : ℕ) → n ≤ maxEdges → length flows < upFrom
+  pub cycle-walked : (n source : ℕ) → n ≤ maxEdges → length flows < codeUp
       → walked (packed (cycleOf tails heads flows n source)) ≡ cycleOf tails heads flows n source
   cycle-walked n source h l =
       let c = cycle-left n source in

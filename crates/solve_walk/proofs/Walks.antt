@@ -15,12 +15,13 @@ use Rattle.lists.proofs.Laws.{index-le, either-left, either-right}
 use Rattle.sets.specs.Sets.{hasBit}
 use Rattle.sets.specs.Inner.{setWidth}
 use Rattle.graph_flows.specs.Trails.{Step, down, up}
-use Rattle.move_cycle.specs.Steps.{upFrom}
+use Rattle.move_cycle.specs.Steps.{codeUp}
+use Rattle.move_cycle.proofs.Codes.{steps-length}
 use Rattle.solve_walk.specs.declared.Walk.{Walk}
 use Rattle.solve_walk.specs.Walk.{another, parts, startsOf, firstMet, downWalk, upWalk, packed}
 use Rattle.solve_walk.specs.Inner.{walked}
 use Rattle.solve_walk.proofs.Packed.{another-most}
-use Rattle.solve_walk.proofs.Loops.{held, steps-length, starts-length}
+use Rattle.solve_walk.proofs.Loops.{held, starts-length}
 
 -- a walk has as many steps as its count says
 walked-length : (t : Walk) → length (t .steps) ≡ maxEdges → t .count ≤ maxEdges → length (walked t) ≡ t .count
@@ -39,7 +40,7 @@ module _ (t : Walk) (left : ℕ) (room : t .count + left ≤ maxEdges) where
   room-now = omega (arith, room)
 
   pub room-step : (ends flows : List ℕ) (v x e : ℕ) → (left ≡ 0 → ⊥) → length flows ≡ maxEdges → e ≡ another ends flows v x
-      → (t .count < maxEdges) × (e < upFrom)
+      → (t .count < maxEdges) × (e < codeUp)
   room-step ends flows v x e some few i = (omega (arith, room, some), omega (arith, few, i, another-most ends flows v x))
 
   pub room-on : (n : ℕ) → (left ≡ 0 → ⊥) → n ≡ t .count + 1 → n + (left - 1) ≤ maxEdges

@@ -1,13 +1,12 @@
 -- For inner contracts only: what the code's walk looks at besides the lists: the edges at each vertex, the positive edges and the vertices seen, as sets.
 use mathlib.Core.Path.{_≡_}
-use mathlib.Core.Bool.{Bool}
+use mathlib.Core.Bool.{Bool, not}
 use mathlib.Core.List.{List}
 use Prim.Native.Nat.{ℕ, _<_}
 use lib.Dec.{ltb}
 use lib.ListN.{length, getD}
-use Rattle.lists.specs.Lists.{lowest}
 use Rattle.sets.specs.Sets.{hasBit}
-use Rattle.sets.specs.Inner.{setWidth, dropped}
+use Rattle.sets.specs.Inner.{isEmpty, dropped, lowestIn}
 use Rattle.board.specs.Limits.{maxVertices, maxEdges}
 use Rattle.move_edges.specs.Incidence.{Incident, PositiveSet, touchingAt}
 use Rattle.graph_flows.specs.Trails.{Step}
@@ -27,8 +26,8 @@ abbrev pub Seen : List ℕ → List ℕ → List Step → ℕ → Type 0
 Seen tails heads w seen = (v : ℕ) → v < maxVertices → hasBit seen v ≡ ltb (firstMet tails heads w v) (length w)
 
 -- `another` and `parts` by the sets
-abbrev pub anotherIn : List ℕ → ℕ → ℕ → ℕ → ℕ
-anotherIn edges positive v x = lowest (hasBit (dropped (touchingAt edges positive v) x)) 0 setWidth
+abbrev pub anotherBy : List ℕ → ℕ → ℕ → ℕ → ℕ
+anotherBy edges positive v x = lowestIn (dropped (touchingAt edges positive v) x)
 
-abbrev pub partsIn : List ℕ → ℕ → ℕ → Bool
-partsIn leaving positive v = ltb 0 (dropped (touchingAt leaving positive v) (lowest (hasBit (touchingAt leaving positive v)) 0 setWidth))
+abbrev pub partsBy : List ℕ → ℕ → ℕ → Bool
+partsBy leaving positive v = not (isEmpty (dropped (touchingAt leaving positive v) (lowestIn (touchingAt leaving positive v))))

@@ -2,7 +2,7 @@
 -- the first one first.
 use mathlib.Core.Bool.{Bool, true, false, not}
 use mathlib.Core.List.{List, [], _∷_, _++_}
-use Prim.Native.Nat.{ℕ, zero, suc, _+_}
+use Prim.Native.Nat.{ℕ, zero, suc}
 use lib.Dec.{ltb, eqb}
 use lib.ListN.{length, getD, drop, replicate}
 use lib.Seq.{sets}
@@ -11,7 +11,7 @@ use Rattle.lists.specs.Lists.{indexOf, lowest}
 use Rattle.board.specs.Limits.{maxEdges}
 use Rattle.move_edges.specs.Singular.{leaves, leaving}
 use Rattle.graph_flows.specs.Trails.{Step, down, up, startOf}
-use Rattle.move_cycle.specs.Steps.{upFrom}
+use Rattle.move_cycle.specs.Steps.{codesOf}
 use Rattle.solve_walk.specs.declared.Walk.{Walk}
 
 -- edge e is wet, has this end at v, and is another than x
@@ -68,14 +68,6 @@ module _ (tails heads flows : List ℕ) (falls climbs : ℕ → ℕ → ℕ) whe
 unfoldable pub cycleOf : List ℕ → List ℕ → List ℕ → ℕ → ℕ → List Step
 cycleOf tails heads flows n source = downWalk tails heads flows (another tails flows) (another heads flows) n [] (length flows) source
 
--- the byte of a step: "channel number, plus 128 for an up-step"
-abbrev pub byteOf : Step → ℕ
-byteOf (down e) = e
-byteOf (up e) = e + upFrom
-
-abbrev pub bytesOf : List Step → List ℕ
-bytesOf [] = []
-bytesOf (s ∷ w) = byteOf s ∷ bytesOf w
-
+-- the record of a walk: its steps, and 0 in the places past them
 abbrev pub packed : List Step → Walk
-packed w = record { count = length w; steps = sets (replicate maxEdges 0) 0 (bytesOf w) }
+packed w = record { count = length w; steps = sets (replicate maxEdges 0) 0 (codesOf w) }

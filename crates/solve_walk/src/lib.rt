@@ -1,80 +1,78 @@
 // The cycle that the solver turns.
 use board::Board;
-use board::EdgeSet;
+use move_cycle::StepCode;
+use sets::EdgeSet;
+use sets::VertexSet;
 ghost use mathlib.Core.Path.{_≡_};
 ghost use mathlib.Core.List.{[], _∷_, _++_};
 ghost use Prim.Native.Nat.{_+_, _≤_, _<_};
-ghost use lib.ListN.{getD, set, drop};
+ghost use lib.ListN.{getD, drop};
 ghost use Rattle.board.specs.Limits.{maxVertices, maxEdges};
-ghost use Rattle.sets.specs.Sets.{withBit};
-ghost use Rattle.sets.specs.Inner.{setWidth};
-ghost use Rattle.move_cycle.specs.Steps.{upFrom};
-ghost use Rattle.solve_walk.specs.Walk.{another, firstMet, downWalk, upWalk, cycleOf, byteOf, packed};
-ghost use Rattle.solve_walk.specs.Inner.{walked, stride};
-ghost use Rattle.solve_walk.specs.Chart.{Charted, Seen, anotherIn, partsIn};
+ghost use Rattle.sets.specs.Sets.{withBit, setOf};
+ghost use Rattle.sets.specs.Inner.{wordWidth, setsOf};
+ghost use Rattle.move_cycle.specs.Steps.{codeUp, stride};
+ghost use Rattle.solve_walk.specs.Walk.{another, firstMet, downWalk, upWalk, cycleOf, packed};
+ghost use Rattle.solve_walk.specs.Inner.{walked};
+ghost use Rattle.solve_walk.specs.Chart.{Charted, Seen, anotherBy, partsBy};
 
-// The steps of a walk, a byte each, from the first on; 0 in the places past them.
+// The steps of a walk, from the first on; 0 in the places past them.
 pub struct Walk {
     pub count: u32,
-    pub steps: [u8; Board::MAX_EDGES],
+    pub steps: [StepCode; Board::MAX_EDGES],
 }
 
 // The lowest positive edge with this end at v other than x, or a number that no edge has.
 fn another(edges: &[EdgeSet], positive: EdgeSet, v: u32, x: u32) -> u32
-    ensures { λ r. ⌜ r ≡ anotherIn (now (edges .entry)) positive v x ⌝ }
+    ensures { λ r. ⌜ r ≡ anotherBy (setsOf (now (edges .entry))) (setOf positive) v x ⌝ }
 {
     let at = move_edges::touching(edges, positive, v);
     let others = sets::drop(at, x);
     sets::lowest(others)
 }
 
+// The edge to go down by from v, where the walk came over x.
+fn fall(leaving: &[EdgeSet], positive: EdgeSet, v: u32, x: u32) -> u32
+    ensures { λ r. ⌜ r ≡ anotherBy (setsOf (now (leaving .entry))) (setOf positive) v x ⌝ }
+{
+    another(leaving, positive, v, x)
+}
+
+// The edge to go up by from v, where the walk came over x.
+fn climb(entering: &[EdgeSet], positive: EdgeSet, v: u32, x: u32) -> u32
+    ensures { λ r. ⌜ r ≡ anotherBy (setsOf (now (entering .entry))) (setOf positive) v x ⌝ }
+{
+    another(entering, positive, v, x)
+}
+
 // Whether two or more positive edges leave v.
 fn parts(leaving: &[EdgeSet], positive: EdgeSet, v: u32) -> bool
-    ensures { λ r. ⌜ r ≡ partsIn (now (leaving .entry)) positive v ⌝ }
+    ensures { λ r. ⌜ r ≡ partsBy (setsOf (now (leaving .entry))) (setOf positive) v ⌝ }
 {
     let at = move_edges::touching(leaving, positive, v);
     let e = sets::lowest(at);
-    0 < sets::drop(at, e)
+    let others = sets::drop(at, e);
+    !sets::is_empty(others)
 }
 
 // The vertices seen, with the one where a step over e starts.
-fn meet(starts: &[u32], seen: u64, e: u32) -> u64
-    requires { ⌜ getD (now starts) e 0 < setWidth ⌝ }
+fn meet(starts: &[u32], seen: VertexSet, e: u32) -> VertexSet
+    requires { ⌜ getD (now starts) e 0 < wordWidth ⌝ }
     ensures { λ r. ⌜ r ≡ withBit seen (getD (now (starts .entry)) e 0) ⌝ }
 {
     let v = lists::word_at(starts, e as usize);
-    sets::with(seen, true, v as usize)
-}
-
-// The byte of a step over e.
-fn byte_of(ups: bool, e: usize) -> u8
-    requires { ⌜ e < upFrom ⌝ }
-    ensures { λ r. ⌜ r ≡ byteOf (stride ups e) ⌝ }
-{
-    if ups { (e + 128) as u8 } else { e as u8 }
-}
-
-// The steps with another one at i.
-fn put_step(steps: [u8; Board::MAX_EDGES], i: usize, step: u8) -> [u8; Board::MAX_EDGES]
-    ensures { λ r. ⌜ r ≡ set steps i step ⌝ }
-{
-    let mut next = steps;
-    if i < Board::MAX_EDGES {
-        next[i] = step;
-    }
-    next
+    sets::word::with(seen, true, v as usize)
 }
 
 // The walk with one step more.
-fn with_step(walk: Walk, ups: bool, e: usize) -> Walk
+fn with_step(walk: Walk, ups: bool, e: u32) -> Walk
     requires { ⌜ walk .count < maxEdges ⌝ }
-    requires { ⌜ e < upFrom ⌝ }
+    requires { ⌜ e < codeUp ⌝ }
     ensures { λ r. ⌜ walked r ≡ walked walk ++ (stride ups e ∷ []) ⌝ }
     ensures { λ r. ⌜ r .count ≡ walk .count + 1 ⌝ }
 {
     let old = walk.steps;
-    let step = byte_of(ups, e);
-    let steps = put_step(old, walk.count as usize, step);
+    let step = move_cycle::stride(ups, e);
+    let steps = move_cycle::put_step(old, walk.count as usize, step);
     Walk {
         count: walk.count + 1,
         steps: steps,
@@ -87,10 +85,10 @@ fn first_met<'a>(tails: &'a [u32], heads: &'a [u32], walk: Walk, v: u32) -> u32
     ensures { λ r. ⌜ r ≡ firstMet (now (tails .entry)) (now (heads .entry)) (walked walk) v ⌝ }
 {
     let count = walk.count;
-    let bytes = walk.steps;
+    let codes = walk.steps;
     let mut i: u32 = 0;
     while i < count {
-        if move_cycle::start_of(tails, heads, bytes[i as usize]) == v {
+        if move_cycle::start_of(tails, heads, codes[i as usize]) == v {
             return i;
         }
         i += 1;
@@ -104,12 +102,12 @@ fn walk_from(walk: Walk, k: u32) -> Walk
     requires { ⌜ walk .count ≤ maxEdges ⌝ }
     ensures { λ r. ⌜ r ≡ packed (drop k (walked walk)) ⌝ }
 {
-    let bytes = walk.steps;
+    let codes = walk.steps;
     let rest = walk.count - k;
-    let mut steps: [u8; Board::MAX_EDGES] = [0; Board::MAX_EDGES];
+    let mut steps: [StepCode; Board::MAX_EDGES] = [0; Board::MAX_EDGES];
     let mut i: u32 = 0;
     while i < rest {
-        steps[i as usize] = bytes[(k + i) as usize];
+        steps[i as usize] = codes[(k + i) as usize];
         i += 1;
     }
     Walk {
@@ -136,26 +134,27 @@ fn down_walk<'a>(
     leaving: &'a [EdgeSet],
     entering: &'a [EdgeSet],
     positive: EdgeSet,
-    seen: u64,
+    seen: VertexSet,
     left: u32,
     walk: Walk,
     x: u32,
     v: u32,
 ) -> Walk
     requires { ⌜ walk .count + left ≤ maxEdges ⌝ }
-    requires { ⌜ Charted (now tails) (now heads) (now flows) (now leaving) (now entering) positive ⌝ }
+    requires { ⌜ Charted (now tails) (now heads) (now flows) (setsOf (now leaving)) (setsOf (now entering))
+        (setOf positive) ⌝ }
     requires { ⌜ Seen (now tails) (now heads) (walked walk) seen ⌝ }
     requires { ⌜ v < maxVertices ⌝ }
     ensures { λ r. ⌜ r ≡ packed (downWalk (now (tails .entry)) (now (heads .entry)) (now (flows .entry))
         (another (now (tails .entry)) (now (flows .entry))) (another (now (heads .entry)) (now (flows .entry))) left
         (walked walk) x v) ⌝ }
 {
-    if lists::or(left == 0, sets::has(seen, v as usize)) {
+    if lists::or(left == 0, sets::word::has(seen, v as usize)) {
         return since_met(tails, heads, walk, v);
     }
-    let e = another(leaving, positive, v, x);
+    let e = fall(leaving, positive, v, x);
     if (e as usize) < flows.len() {
-        let longer = with_step(walk, false, e as usize);
+        let longer = with_step(walk, false, e);
         let met = meet(tails, seen, e);
         let next = lists::word_at(heads, e as usize);
         return down_walk(
@@ -172,8 +171,8 @@ fn down_walk<'a>(
             next,
         );
     }
-    let c = another(entering, positive, v, x);
-    let longer = with_step(walk, true, c as usize);
+    let c = climb(entering, positive, v, x);
+    let longer = with_step(walk, true, c);
     let met = meet(heads, seen, c);
     let next = lists::word_at(tails, c as usize);
     up_walk(
@@ -199,26 +198,27 @@ fn up_walk<'a>(
     leaving: &'a [EdgeSet],
     entering: &'a [EdgeSet],
     positive: EdgeSet,
-    seen: u64,
+    seen: VertexSet,
     left: u32,
     walk: Walk,
     x: u32,
     v: u32,
 ) -> Walk
     requires { ⌜ walk .count + left ≤ maxEdges ⌝ }
-    requires { ⌜ Charted (now tails) (now heads) (now flows) (now leaving) (now entering) positive ⌝ }
+    requires { ⌜ Charted (now tails) (now heads) (now flows) (setsOf (now leaving)) (setsOf (now entering))
+        (setOf positive) ⌝ }
     requires { ⌜ Seen (now tails) (now heads) (walked walk) seen ⌝ }
     requires { ⌜ v < maxVertices ⌝ }
     ensures { λ r. ⌜ r ≡ packed (upWalk (now (tails .entry)) (now (heads .entry)) (now (flows .entry))
         (another (now (tails .entry)) (now (flows .entry))) (another (now (heads .entry)) (now (flows .entry))) left
         (walked walk) x v) ⌝ }
 {
-    if lists::or(left == 0, sets::has(seen, v as usize)) {
+    if lists::or(left == 0, sets::word::has(seen, v as usize)) {
         return since_met(tails, heads, walk, v);
     }
     if parts(leaving, positive, v) {
-        let e = another(leaving, positive, v, x);
-        let longer = with_step(walk, false, e as usize);
+        let e = fall(leaving, positive, v, x);
+        let longer = with_step(walk, false, e);
         let met = meet(tails, seen, e);
         let next = lists::word_at(heads, e as usize);
         return down_walk(
@@ -235,8 +235,8 @@ fn up_walk<'a>(
             next,
         );
     }
-    let c = another(entering, positive, v, x);
-    let longer = with_step(walk, true, c as usize);
+    let c = climb(entering, positive, v, x);
+    let longer = with_step(walk, true, c);
     let met = meet(heads, seen, c);
     let next = lists::word_at(tails, c as usize);
     up_walk(
@@ -266,7 +266,8 @@ pub fn cycle<'a>(
     source: u32,
 ) -> Walk
     requires { ⌜ vertices ≤ maxEdges ⌝ }
-    requires { ⌜ Charted (now tails) (now heads) (now flows) (now leaving) (now entering) positive ⌝ }
+    requires { ⌜ Charted (now tails) (now heads) (now flows) (setsOf (now leaving)) (setsOf (now entering))
+        (setOf positive) ⌝ }
     requires { ⌜ source < maxVertices ⌝ }
     ensures { λ r. ⌜ r ≡ packed (cycleOf (now (tails .entry)) (now (heads .entry))
         (now (flows .entry)) vertices source) ⌝ }
@@ -276,6 +277,7 @@ pub fn cycle<'a>(
         steps: [0; Board::MAX_EDGES],
     };
     let none = flows.len() as u32;
+    let unseen = sets::word::none();
     down_walk(
         tails,
         heads,
@@ -283,7 +285,7 @@ pub fn cycle<'a>(
         leaving,
         entering,
         positive,
-        0,
+        unseen,
         vertices,
         walk,
         none,

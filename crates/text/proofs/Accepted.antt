@@ -17,7 +17,7 @@ use Rattle.board.specs.Limits.{maxEdges, maxTerminals}
 use Rattle.text.specs.Text.{Read, refused, got, header, headed, headRanges, edgeRanges, terminalRanges, lines, withEdges}
 use Rattle.text.specs.Text.{withTerminals, nothingFollows, layout, lineText, linesText, headRow, edgeRow, terminalRow, textOf}
 use Rattle.text_rules.specs.Rules.{judged, countsFit, Lawful}
-use Rattle.text_rules.proofs.Meaning.{Kept, kept, judged-zero, counts-tested}
+use Rattle.text_rules.proofs.Meaning.{Kept, kept, judged-zero, Sized, counts-tested, lawful-sized}
 use Rattle.text.specs.Results.{judgement, readingOf, readText}
 use Rattle.text.proofs.Fields.{InRanges, Rows, Heading, rowsText, parts, parts-in, after, after-in, header-of-text, header-only}
 use Rattle.text.proofs.Fields.{lines-of-text, lines-only, refused-above}
@@ -123,25 +123,32 @@ module _ (ns : List ℕ) (rows homes : List (List ℕ)) (laid : Laid ns rows hom
   lawful-built k =
       let f = first in
       record {
-        tails-size = stored-length maxEdges 0 rows;
-        heads-size = stored-length maxEdges 1 rows;
-        flows-size = stored-length maxEdges 2 rows;
-        homes-size = stored-length maxTerminals 0 homes;
-        demands-size = stored-length maxTerminals 1 homes;
-        vertices = omega arith;
-        edges = omega arith;
-        terminals = omega arith;
-        source = laid .heading .source-below;
-        tail = λ i h. omega (arith, edge-held 0 i, row-within (laid .edges) i h);
-        head = λ i h. omega (arith, edge-held 1 i, row-within (laid .edges) i h);
-        flow = λ i h. omega (arith, edge-held 2 i, row-within (laid .edges) i h);
-        home = λ j h. omega (arith, terminal-held 0 j, row-within (laid .terminals) j h);
-        demand = λ j h. omega (arith, terminal-held 1 j, row-within (laid .terminals) j h);
-        no-edge = λ i h. (no-edge-held 0 i h, no-edge-held 1 i h, no-edge-held 2 i h);
-        no-terminal = λ j h. (no-terminal-held 0 j h, no-terminal-held 1 j h);
-        no-loop = k .no-loop;
-        away = k .away;
-        balance = k .balance;
+        sound = record {
+          tails-size = stored-length maxEdges 0 rows ∙ sym (stored-length maxEdges 2 rows);
+          heads-size = stored-length maxEdges 1 rows ∙ sym (stored-length maxEdges 2 rows);
+          homes-size = stored-length maxTerminals 0 homes ∙ sym (stored-length maxTerminals 1 homes);
+          edges = omega (arith, stored-length maxEdges 2 rows);
+          terminals = omega (arith, stored-length maxTerminals 1 homes);
+          source = laid .heading .source-below;
+          tail = λ i h. omega (arith, edge-held 0 i, row-within (laid .edges) i h);
+          head = λ i h. omega (arith, edge-held 1 i, row-within (laid .edges) i h);
+          home = λ j h. omega (arith, terminal-held 0 j, row-within (laid .terminals) j h);
+          demand = λ j h. omega (arith, terminal-held 1 j, row-within (laid .terminals) j h);
+          no-edge = λ i h. (no-edge-held 0 i h, no-edge-held 1 i h, no-edge-held 2 i h);
+          no-terminal = λ j h. (no-terminal-held 0 j h, no-terminal-held 1 j h);
+          no-loop = k .no-loop;
+          away = k .away;
+        };
+        within = record {
+          flows-size = stored-length maxEdges 2 rows;
+          demands-size = stored-length maxTerminals 1 homes;
+          vertices = omega arith;
+          edges = omega arith;
+          terminals = omega arith;
+          flow = λ i h. omega (arith, edge-held 2 i, row-within (laid .edges) i h);
+          demand = λ j h. omega (arith, terminal-held 1 j, row-within (laid .terminals) j h);
+        };
+        balanced = k .balanced;
       }
 
 -- a text that keeps the layout has counts and a source in their ranges, whatever rule its network breaks
@@ -167,15 +174,18 @@ module _ (net : Network) (law : Lawful net) where
   laid-of = record {
     heading = record {
       within = omega arith;
-      source-below = law .source;
+      source-below = law .sound .source;
     };
     edges = rows-run (edgeRow net) 0 (net .edges) λ i low h.
         let less : i < net .edges = omega arith in
-        omega (arith, law .tail i less, law .head i less, law .flow i less);
+        omega (arith, law .sound .tail i less, law .sound .head i less, law .within .flow i less);
     terminals = rows-run (terminalRow net) 0 (net .terminals) λ j low h.
         let less : j < net .terminals = omega arith in
-        omega (arith, law .home j less, law .demand j less);
+        omega (arith, law .sound .home j less, law .sound .demand j less, law .within .demand j less);
   }
+
+  size : Sized net
+  size = lawful-sized net law
 
   built-of : built (headRow net) (edgesOf net) (terminalsOf net) ≡ net
   built-of = λ t. record {
@@ -183,16 +193,16 @@ module _ (net : Network) (law : Lawful net) where
     edges = net .edges;
     terminals = net .terminals;
     source = net .source;
-    tails = stored-back (net .tails) maxEdges 0 (net .edges) (edgeRow net) (law .tails-size) (law .edges .1)
-        (λ i h. law .no-edge i h .0) (λ i. refl) t;
-    heads = stored-back (net .heads) maxEdges 1 (net .edges) (edgeRow net) (law .heads-size) (law .edges .1)
-        (λ i h. law .no-edge i h .1) (λ i. refl) t;
-    flows = stored-back (net .flows) maxEdges 2 (net .edges) (edgeRow net) (law .flows-size) (law .edges .1)
-        (λ i h. law .no-edge i h .2) (λ i. refl) t;
-    homes = stored-back (net .homes) maxTerminals 0 (net .terminals) (terminalRow net) (law .homes-size) (law .terminals .1)
-        (λ j h. law .no-terminal j h .0) (λ j. refl) t;
-    demands = stored-back (net .demands) maxTerminals 1 (net .terminals) (terminalRow net) (law .demands-size) (law .terminals .1)
-        (λ j h. law .no-terminal j h .1) (λ j. refl) t;
+    tails = stored-back (net .tails) maxEdges 0 (net .edges) (edgeRow net) (size .tails) (law .within .edges .1)
+        (λ i h. law .sound .no-edge i h .0) (λ i. refl) t;
+    heads = stored-back (net .heads) maxEdges 1 (net .edges) (edgeRow net) (size .heads) (law .within .edges .1)
+        (λ i h. law .sound .no-edge i h .1) (λ i. refl) t;
+    flows = stored-back (net .flows) maxEdges 2 (net .edges) (edgeRow net) (size .flows) (law .within .edges .1)
+        (λ i h. law .sound .no-edge i h .2) (λ i. refl) t;
+    homes = stored-back (net .homes) maxTerminals 0 (net .terminals) (terminalRow net) (size .homes) (law .within .terminals .1)
+        (λ j h. law .sound .no-terminal j h .0) (λ j. refl) t;
+    demands = stored-back (net .demands) maxTerminals 1 (net .terminals) (terminalRow net) (size .demands) (law .within .terminals .1)
+        (λ j h. law .sound .no-terminal j h .1) (λ j. refl) t;
   }
 
 -- ---- the theorem

@@ -10,10 +10,11 @@ use native.Mathlib.Omega.{arith}
 use lib.ListN.{length, replicate, length-append}
 use Rattle.lists.specs.Inner.{Below}
 use Rattle.lists.proofs.Laws.{lt-or-ge}
-use Rattle.decimal.specs.Decimal.{decimal}
+use Rattle.decimal.specs.Decimal.{decimal, maxDigits}
 use Rattle.decimal.proofs.Laws.{decimal-length}
 use Rattle.board.specs.declared.Network.{Network}
 use Rattle.text_rules.specs.Rules.{Lawful}
+use Rattle.text.specs.Sizes.{vertexDigits, edgeDigits, terminalDigits, lineWidth, headWidth, edgeWidth, terminalWidth, longestText}
 use Rattle.text.specs.Text.{endByte, numbersText, lineText, linesText, headRow, edgeRow, terminalRow, textOf}
 
 -- ---- a line
@@ -24,11 +25,6 @@ DigitsWithin [] [] = Unit {0}
 DigitsWithin (d ∷ ds) [] = Unit {0}
 DigitsWithin [] (n ∷ ns) = ⊥
 DigitsWithin (d ∷ ds) (n ∷ ns) = (0 < d) × (n < 10 ^ d) × DigitsWithin ds ns
-
--- a line's letter and comma, and its digits with one byte behind those of each number
-abbrev pub lineWidth : List ℕ → ℕ
-lineWidth [] = 2
-lineWidth (d ∷ ds) = d + 1 + lineWidth ds
 
 digits-within : (d n : ℕ) → 0 < d → n < 10 ^ d → length (decimal n) ≤ d
 digits-within zero n h l = absurd (omega arith)
@@ -103,23 +99,22 @@ lines-parted x row v w m n first others = go (lt-or-ge m n)
 -- ---- the text of a network
 
 module _ (net : Network) (law : Lawful net) where
-  head-short : length (lineText 66 (headRow net)) ≤ 14
-  head-short = line-within 66 (2 ∷ 2 ∷ 2 ∷ 2 ∷ []) (headRow net) (omega arith)
+  head-short : length (lineText 66 (headRow net)) ≤ headWidth
+  head-short = line-within 66 (vertexDigits ∷ edgeDigits ∷ terminalDigits ∷ vertexDigits ∷ []) (headRow net) (omega arith)
 
-  edge-short : (i : ℕ) → i < net .edges → length (lineText 67 (edgeRow net i)) ≤ 16
-  edge-short i h = line-within 67 (2 ∷ 2 ∷ 7 ∷ []) (edgeRow net i) (omega (arith, law .tail i h, law .head i h, law .flow i h))
+  edge-short : (i : ℕ) → i < net .edges → length (lineText 67 (edgeRow net i)) ≤ edgeWidth
+  edge-short i h = line-within 67 (vertexDigits ∷ vertexDigits ∷ maxDigits ∷ []) (edgeRow net i) (omega (arith, law .sound .tail i h, law .sound .head i h, law .within .flow i h))
 
-  terminal-short : (j : ℕ) → j < net .terminals → length (lineText 87 (terminalRow net j)) ≤ 13
-  terminal-short j h = line-within 87 (2 ∷ 7 ∷ []) (terminalRow net j) (omega (arith, law .home j h, law .demand j h))
+  terminal-short : (j : ℕ) → j < net .terminals → length (lineText 87 (terminalRow net j)) ≤ terminalWidth
+  terminal-short j h = line-within 87 (vertexDigits ∷ maxDigits ∷ []) (terminalRow net j) (omega (arith, law .sound .home j h, law .within .demand j h))
 
-  -- 14 bytes for the first line, 64 * 16 for the edges, 16 * 13 for the terminals
-  pub network-short : length (textOf net) ≤ 1246
+  pub network-short : length (textOf net) ≤ longestText
   unfolding textOf
   network-short =
       let edges : List ℕ = linesText 67 (edgeRow net) 0 (net .edges) in
       let terminals : List ℕ = linesText 87 (terminalRow net) 0 (net .terminals) in
       let whole = length-append (lineText 66 (headRow net)) (edges ++ terminals) in
       let rest = length-append edges terminals in
-      let edges-short = lines-within 67 (edgeRow net) 16 0 (net .edges) (λ i a b. edge-short i (omega arith)) in
-      let terminals-short = lines-within 87 (terminalRow net) 13 0 (net .terminals) (λ j a b. terminal-short j (omega arith)) in
-      omega (arith, head-short, law .edges, law .terminals)
+      let edges-short = lines-within 67 (edgeRow net) edgeWidth 0 (net .edges) (λ i a b. edge-short i (omega arith)) in
+      let terminals-short = lines-within 87 (terminalRow net) terminalWidth 0 (net .terminals) (λ j a b. terminal-short j (omega arith)) in
+      omega (arith, head-short, law .within .edges, law .within .terminals)

@@ -1,3 +1,5 @@
+pub mod Sizes
+pub mod Room
 pub mod Text
 pub mod Views
 pub mod Results

@@ -4,8 +4,8 @@ use mathlib.Core.List.{List, _++_}
 use Prim.Native.Nat.{ℕ}
 use lib.Dec.{leb, eqb}
 use lib.ListN.{length, drop}
-use Rattle.lists.specs.Choice.{pick, both}
-use Rattle.board.specs.Record.{emptyNetwork, playStage, finishedStage}
+use Rattle.lists.specs.Choice.{pick, both, unless}
+use Rattle.board.specs.Record.{emptyNetwork, staged}
 use Rattle.text.specs.Text.{Read, refused, got, layout, textOf}
 use Rattle.text_rules.specs.Rules.{judged, lawful}
 use Rattle.board.specs.declared.Network.{Network}
@@ -33,7 +33,7 @@ readText s = readingOf (layout s)
 
 -- what the writer asks of a board: in play or finished, over a lawful network
 unfoldable pub writable : ℕ → Network → Bool
-writable stage net = both (both (leb playStage stage) (leb stage finishedStage)) (lawful net)
+writable stage net = both (staged stage) (lawful net)
 
 -- a text that is refused, of which nothing is written
 abbrev pub unwritten : ℕ → Written
@@ -42,9 +42,8 @@ unwritten n = record { answer = n; used = 0 }
 -- writing into a buffer of n bytes: 29 where no board was loaded, then 8, else 0 and the length of the text; by the stage and the network
 unfoldable pub writeTextIn : ℕ → Network → ℕ → Written
 writeTextIn stage net n =
-    pick (writable stage net)
-    (pick (leb (length (textOf net)) n) (record { answer = 0; used = length (textOf net) }) (unwritten 8))
-    (unwritten 29)
+    unless (writable stage net) (unwritten 29)
+    (unless (leb (length (textOf net)) n) (unwritten 8) (record { answer = 0; used = length (textOf net) }))
 
 -- the buffer then: the text with the bytes past it kept, or as it was
 unfoldable pub writtenIn : ℕ → Network → List ℕ → List ℕ

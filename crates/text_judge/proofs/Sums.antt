@@ -16,7 +16,8 @@ use Rattle.lists.specs.Lists.{all, keyed, sumAt}
 use Rattle.lists.proofs.Laws.{eq-or-ne, all-same, sum-turn, zeros-at}
 use Rattle.board.specs.Limits.{maxVertices}
 use Rattle.board.specs.declared.Network.{Network}
-use Rattle.text_rules.specs.Rules.{balanced, inflow, outflow, demandAt}
+use Rattle.text_rules.specs.Sound.{inflow, outflow, demandAt}
+use Rattle.text_rules.specs.Rules.{balanced}
 use Rattle.text_judge.specs.Sums.{evenAt}
 
 -- a test for equality, negated

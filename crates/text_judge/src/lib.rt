@@ -109,8 +109,8 @@ fn all_balanced(net: Network) -> bool
     requires { ⌜ net .vertices ≤ maxVertices ⌝ }
     ensures { λ r. ⌜ r ≡ all (balanced net) 0 (net .vertices) ⌝ }
 {
-    let mut inflow = [0u64; Board::MAX_VERTICES as usize];
-    let mut outflow = [0u64; Board::MAX_VERTICES as usize];
+    let mut inflow = [0u64; Board::MAX_VERTICES];
+    let mut outflow = [0u64; Board::MAX_VERTICES];
     add_keyed(&net.heads, &net.flows, &mut inflow);
     add_keyed(&net.tails, &net.flows, &mut outflow);
     add_keyed(&net.homes, &net.demands, &mut outflow);
@@ -144,7 +144,7 @@ fn between(low: u32, n: u32, high: u32) -> bool
 pub fn counts_fit_in(vertices: u32, edges: u32, terminals: u32, source: u32) -> bool
     ensures { λ r. ⌜ r ≡ countsFitIn vertices edges terminals source ⌝ }
 {
-    let vertices_fit = between(2, vertices, Board::MAX_VERTICES);
+    let vertices_fit = between(2, vertices, Board::MAX_VERTICES as u32);
     let edges_fit = between(1, edges, Board::MAX_EDGES as u32);
     let terminals_fit = between(1, terminals, Board::MAX_TERMINALS as u32);
     let source_fits = source < vertices;

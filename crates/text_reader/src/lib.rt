@@ -19,7 +19,7 @@ fn head_ranges() -> [Range; 4]
     [
         Range {
             low: 2,
-            high: Board::MAX_VERTICES,
+            high: Board::MAX_VERTICES as u32,
         },
         Range {
             low: 1,
@@ -31,7 +31,7 @@ fn head_ranges() -> [Range; 4]
         },
         Range {
             low: 0,
-            high: Board::MAX_VERTICES - 1,
+            high: Board::MAX_VERTICES as u32 - 1,
         },
     ]
 }

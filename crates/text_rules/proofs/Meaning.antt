@@ -13,13 +13,14 @@ use Rattle.lists.specs.Lists.{all}
 use Rattle.lists.proofs.Laws.{Known, was-true, was-false, known, pick-yes, pick-no, both-left, both-right, both-true, all-from, all-zero}
 use Rattle.board.specs.Limits.{maxVertices, maxEdges, maxTerminals, maxFlow}
 use Rattle.board.specs.declared.Network.{Network}
-use Rattle.text_rules.specs.Rules.{edgeFits, terminalFits, noLoop, awayFromSource, balanced, judged, countsFit, lawful, inflow, outflow, demandAt, Lawful}
+use Rattle.text_rules.specs.Rules.{edgeFits, terminalFits, noLoop, awayFromSource, balanced, judged, countsFit, lawful, Lawful}
+use Rattle.text_rules.specs.Sound.{Balanced}
 
 -- what `judged` tests, said of each place
 pub record Kept (net : Network) : Type 0 where
   pub no-loop : (i : ℕ) → i < net .edges → getD (net .tails) i 0 ≡ getD (net .heads) i 0 → ⊥
   pub away : (j : ℕ) → j < net .terminals → getD (net .homes) j 0 ≡ net .source → ⊥
-  pub balance : (v : ℕ) → v < net .vertices → (v ≡ net .source → ⊥) → inflow net v ≡ outflow net v + demandAt net v
+  pub balanced : Balanced net
 
 pick-zero : (t : Bool) (a n : ℕ) → 0 < n → pick t a n ≡ 0 → (t ≡ true) × (a ≡ 0)
 unfolding pick
@@ -35,14 +36,14 @@ kept net h =
     record {
       no-loop = λ i less. eqb-false _ _ (not-true _ (all-from (noLoop net) _ i (p .0) less));
       away = λ j less. eqb-false _ _ (not-true _ (all-from (awayFromSource net) _ j (q .0) less));
-      balance = λ v less other. eqb-true _ _ (sym (pick-no _ _ _ (ne-eqb _ _ other)) ∙ all-from (balanced net) _ v (r .0) less);
+      balanced = λ v less other. eqb-true _ _ (sym (pick-no _ _ _ (ne-eqb _ _ other)) ∙ all-from (balanced net) _ v (r .0) less);
     }
 
 pub judged-zero : (net : Network) → Lawful net → judged net ≡ 0
 unfolding judged
 judged-zero net law =
-    pick-yes _ _ _ (all-zero _ _ λ i h. differ _ _ (law .no-loop i h))
-    ∙ (pick-yes _ _ _ (all-zero _ _ λ j h. differ _ _ (law .away j h))
+    pick-yes _ _ _ (all-zero _ _ λ i h. differ _ _ (law .sound .no-loop i h))
+    ∙ (pick-yes _ _ _ (all-zero _ _ λ j h. differ _ _ (law .sound .away j h))
     ∙ pick-yes _ _ _ (all-zero _ _ λ v h. go v h (known (eqb v (net .source)))))
   where
     differ : (a b : ℕ) → (a ≡ b → ⊥) → not (eqb a b) ≡ true
@@ -50,7 +51,7 @@ judged-zero net law =
 
     go : (v : ℕ) → v < net .vertices → Known (eqb v (net .source)) → balanced net v ≡ true
     go v h (was-true t) = pick-yes _ _ _ t
-    go v h (was-false t) = pick-no _ _ _ t ∙ eq-eqb _ _ (law .balance v h (eqb-false _ _ t))
+    go v h (was-false t) = pick-no _ _ _ t ∙ eq-eqb _ _ (law .balanced v h (eqb-false _ _ t))
 
 -- the lengths of the arrays, which no code can change
 pub record Sized (net : Network) : Type 0 where
@@ -75,9 +76,9 @@ module _ (net : Network) (law : Lawful net) where
       go (was-true t) =
           let h = ltb-true i (net .edges) t in
           pick-yes _ _ _ t
-          ∙ both-true _ _ (lt-ltb _ _ (law .tail i h)) (both-true _ _ (lt-ltb _ _ (law .head i h)) (le-leb _ _ (law .flow i h)))
+          ∙ both-true _ _ (lt-ltb _ _ (law .sound .tail i h)) (both-true _ _ (lt-ltb _ _ (law .sound .head i h)) (le-leb _ _ (law .within .flow i h)))
       go (was-false t) =
-          let z = law .no-edge i (ltb-false i (net .edges) t) in
+          let z = law .sound .no-edge i (ltb-false i (net .edges) t) in
           pick-no _ _ _ t ∙ both-true _ _ (eq-eqb _ _ (z .0)) (both-true _ _ (eq-eqb _ _ (z .1)) (eq-eqb _ _ (z .2)))
 
   terminal-fits : (j : ℕ) → terminalFits net j ≡ true
@@ -87,16 +88,16 @@ module _ (net : Network) (law : Lawful net) where
       go (was-true t) =
           let h = ltb-true j (net .terminals) t in
           pick-yes _ _ _ t
-          ∙ both-true _ _ (lt-ltb _ _ (law .home j h)) (both-true _ _ (le-leb _ _ (law .demand j h .0)) (le-leb _ _ (law .demand j h .1)))
+          ∙ both-true _ _ (lt-ltb _ _ (law .sound .home j h)) (both-true _ _ (le-leb _ _ (law .sound .demand j h)) (le-leb _ _ (law .within .demand j h)))
       go (was-false t) =
-          let z = law .no-terminal j (ltb-false j (net .terminals) t) in
+          let z = law .sound .no-terminal j (ltb-false j (net .terminals) t) in
           pick-no _ _ _ t ∙ both-true _ _ (eq-eqb _ _ (z .0)) (eq-eqb _ _ (z .1))
 
   pub lawful-tested : lawful net ≡ true
   unfolding lawful
   lawful-tested =
       both-true _ _
-      (counts-tested net (law .vertices) (law .edges) (law .terminals) (law .source))
+      (counts-tested net (law .within .vertices) (law .within .edges) (law .within .terminals) (law .sound .source))
       (both-true _ _ (all-zero (edgeFits net) maxEdges (λ i h. edge-fits i))
       (both-true _ _ (all-zero (terminalFits net) maxTerminals (λ j h. terminal-fits j)) (eq-eqb _ _ (judged-zero net law))))
 
@@ -175,26 +176,43 @@ module _ (net : Network) (size : Sized net) (h : lawful net ≡ true) where
 
   pub lawful-holds : Lawful net
   lawful-holds = record {
-    tails-size = size .tails;
-    heads-size = size .heads;
-    flows-size = size .flows;
-    homes-size = size .homes;
-    demands-size = size .demands;
-    vertices = counts .vertices;
-    edges = counts .edges;
-    terminals = counts .terminals;
-    source = counts .source;
-    tail = λ i less. edge-in i less .0;
-    head = λ i less. edge-in i less .1;
-    flow = λ i less. edge-in i less .2;
-    home = λ j less. terminal-in j less .0;
-    demand = λ j less. (terminal-in j less .1, terminal-in j less .2);
-    no-edge = edge-out;
-    no-terminal = terminal-out;
-    no-loop = the-rules .no-loop;
-    away = the-rules .away;
-    balance = the-rules .balance;
+    sound = record {
+      tails-size = size .tails ∙ sym (size .flows);
+      heads-size = size .heads ∙ sym (size .flows);
+      homes-size = size .homes ∙ sym (size .demands);
+      edges = omega (arith, counts .edges, size .flows);
+      terminals = omega (arith, counts .terminals, size .demands);
+      source = counts .source;
+      tail = λ i less. edge-in i less .0;
+      head = λ i less. edge-in i less .1;
+      home = λ j less. terminal-in j less .0;
+      demand = λ j less. terminal-in j less .1;
+      no-edge = edge-out;
+      no-terminal = terminal-out;
+      no-loop = the-rules .no-loop;
+      away = the-rules .away;
+    };
+    within = record {
+      flows-size = size .flows;
+      demands-size = size .demands;
+      vertices = counts .vertices;
+      edges = counts .edges;
+      terminals = counts .terminals;
+      flow = λ i less. edge-in i less .2;
+      demand = λ j less. terminal-in j less .2;
+    };
+    balanced = the-rules .balanced;
   }
+
+-- the lengths of a lawful network's lists
+pub lawful-sized : (net : Network) → Lawful net → Sized net
+lawful-sized net law = record {
+  tails = law .sound .tails-size ∙ law .within .flows-size;
+  heads = law .sound .heads-size ∙ law .within .flows-size;
+  flows = law .within .flows-size;
+  homes = law .sound .homes-size ∙ law .within .demands-size;
+  demands = law .within .demands-size;
+}
 
 pub lawful-iff : (net : Network) → Sized net → (lawful net ≡ true) ↔ Lawful net
 lawful-iff net size = (lawful-holds net size, lawful-tested net)

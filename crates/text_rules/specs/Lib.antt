@@ -1,1 +1,2 @@
+pub mod Sound
 pub mod Rules

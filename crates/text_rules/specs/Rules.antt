@@ -4,22 +4,13 @@ use mathlib.Core.Bool.{Bool, true, not}
 use Prim.Native.Nat.{ℕ, _+_, _<_, _≤_}
 use lib.Dec.{leb, ltb, eqb}
 use lib.ListN.{getD, length}
-use Rattle.lists.specs.Choice.{pick, both}
+use Rattle.lists.specs.Choice.{pick, both, unless}
 use Rattle.lists.specs.Lists.{all, sumAt}
 use Rattle.board.specs.Limits.{maxVertices, maxEdges, maxTerminals, maxFlow}
 use Rattle.board.specs.declared.Network.{Network}
+use Rattle.text_rules.specs.Sound.{inflow, outflow, demandAt, Sound, Balanced}
 use Rattle.text_rules.specs.declared.Rule.{Rule}
 use Rattle.text_rules.specs.declared.Rule.the-variants.{EdgeFits, TerminalFits}
-
--- the flow that enters v, the flow that leaves v, and what the terminals there need; places past the counts hold 0
-abbrev pub inflow : Network → ℕ → ℕ
-inflow net v = sumAt (net .heads) (net .flows) v
-
-abbrev pub outflow : Network → ℕ → ℕ
-outflow net v = sumAt (net .tails) (net .flows) v
-
-abbrev pub demandAt : Network → ℕ → ℕ
-demandAt net v = sumAt (net .homes) (net .demands) v
 
 -- 3: a channel's tail is its head
 abbrev pub noLoop : Network → ℕ → Bool
@@ -61,11 +52,9 @@ keeps TerminalFits net j = terminalFits net j
 unfoldable pub judged : Network → ℕ
 unfolding all balanced
 judged net =
-    pick (all (noLoop net) 0 (net .edges))
-    (pick (all (awayFromSource net) 0 (net .terminals))
-    (pick (all (balanced net) 0 (net .vertices)) 0 5)
-    4)
-    3
+    unless (all (noLoop net) 0 (net .edges)) 3
+    (unless (all (awayFromSource net) 0 (net .terminals)) 4
+    (unless (all (balanced net) 0 (net .vertices)) 5 0))
 
 -- 2: the counts and the source are in their ranges
 abbrev pub countsFitIn : ℕ → ℕ → ℕ → ℕ → Bool
@@ -83,24 +72,18 @@ lawful net =
     both (countsFit net)
     (both (all (edgeFits net) 0 maxEdges) (both (all (terminalFits net) 0 maxTerminals) (eqb (judged net) 0)))
 
--- what an accepted text says: numbers in their ranges, 0 in the places past the counts, and the three rules
-pub record Lawful (net : Network) : Type 0 where
-  pub tails-size : length (net .tails) ≡ maxEdges
-  pub heads-size : length (net .heads) ≡ maxEdges
+-- the limits: how long the lists are, how many vertices, edges and terminals there are, and how large flows and demands
+pub record Within (net : Network) : Type 0 where
   pub flows-size : length (net .flows) ≡ maxEdges
-  pub homes-size : length (net .homes) ≡ maxTerminals
   pub demands-size : length (net .demands) ≡ maxTerminals
   pub vertices : (2 ≤ net .vertices) × (net .vertices ≤ maxVertices)
   pub edges : (1 ≤ net .edges) × (net .edges ≤ maxEdges)
   pub terminals : (1 ≤ net .terminals) × (net .terminals ≤ maxTerminals)
-  pub source : net .source < net .vertices
-  pub tail : (i : ℕ) → i < net .edges → getD (net .tails) i 0 < net .vertices
-  pub head : (i : ℕ) → i < net .edges → getD (net .heads) i 0 < net .vertices
   pub flow : (i : ℕ) → i < net .edges → getD (net .flows) i 0 ≤ maxFlow
-  pub home : (j : ℕ) → j < net .terminals → getD (net .homes) j 0 < net .vertices
-  pub demand : (j : ℕ) → j < net .terminals → (1 ≤ getD (net .demands) j 0) × (getD (net .demands) j 0 ≤ maxFlow)
-  pub no-edge : (i : ℕ) → net .edges ≤ i → (getD (net .tails) i 0 ≡ 0) × (getD (net .heads) i 0 ≡ 0) × (getD (net .flows) i 0 ≡ 0)
-  pub no-terminal : (j : ℕ) → net .terminals ≤ j → (getD (net .homes) j 0 ≡ 0) × (getD (net .demands) j 0 ≡ 0)
-  pub no-loop : (i : ℕ) → i < net .edges → getD (net .tails) i 0 ≡ getD (net .heads) i 0 → ⊥
-  pub away : (j : ℕ) → j < net .terminals → getD (net .homes) j 0 ≡ net .source → ⊥
-  pub balance : (v : ℕ) → v < net .vertices → (v ≡ net .source → ⊥) → inflow net v ≡ outflow net v + demandAt net v
+  pub demand : (j : ℕ) → j < net .terminals → getD (net .demands) j 0 ≤ maxFlow
+
+-- what an accepted text says: numbers in their ranges, 0 in the places past the counts, and the three rules
+pub record Lawful (net : Network) : Type 0 where
+  pub sound : Sound net
+  pub within : Within net
+  pub balanced : Balanced net

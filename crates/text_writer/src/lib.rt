@@ -8,6 +8,8 @@ ghost use lib.ListN.{length};
 ghost use lib.Seq.{sets};
 ghost use Rattle.board.specs.Limits.{maxEdges, maxTerminals};
 ghost use Rattle.text.specs.Text.{lineText, linesText, edgeRow, terminalRow, textOf};
+ghost use Rattle.text.specs.Sizes.{lineBytes, lineNumbers};
+ghost use Rattle.text.specs.Room.{lineStartMost};
 ghost use Rattle.text.specs.Results.{writable, writeTextIn, writtenIn};
 
 // ---- The text of a network, written into a buffer. A byte past the end of the buffer is dropped, so writing into a
@@ -15,9 +17,9 @@ ghost use Rattle.text.specs.Results.{writable, writeTextIn, writtenIn};
 
 // Writes a line, as `C,0,1,3` and a line feed, at a place of the buffer, and answers the place behind it.
 pub fn put_line(buf: &mut [u8], at: usize, letter: u8, values: &[u32]) -> usize
-    requires { ⌜ (at ≤ 131072) × (length (now values) ≤ 64) ⌝ }
+    requires { ⌜ (at ≤ lineStartMost) × (length (now values) ≤ lineNumbers) ⌝ }
     ensures { λ r. ⌜ r ≡ at + length (lineText letter (now (values .entry))) ⌝ }
-    ensures { λ r. ⌜ r ≤ at + (2 + 11 * length (now (values .entry))) ⌝ }
+    ensures { λ r. ⌜ r ≤ at + lineBytes (length (now (values .entry))) ⌝ }
     ensures { λ r. ⌜ now (buf .exit) ≡ sets (now (buf .entry)) at (lineText letter (now (values .entry))) ⌝ }
 {
     lists::put_byte(buf, at, letter);
@@ -45,9 +47,9 @@ fn edge_row(net: Network, i: usize) -> [u32; 3]
 
 // Writes the edge lines.
 fn put_edges(buf: &mut [u8], at: usize, net: Network) -> usize
-    requires { ⌜ (at ≤ 50) × (net .edges ≤ maxEdges) ⌝ }
+    requires { ⌜ (at ≤ lineBytes 4) × (net .edges ≤ maxEdges) ⌝ }
     ensures { λ r. ⌜ r ≡ at + length (linesText 67 (edgeRow net) 0 (net .edges)) ⌝ }
-    ensures { λ r. ⌜ r ≤ at + 50 * maxEdges ⌝ }
+    ensures { λ r. ⌜ r ≤ at + lineBytes 3 * maxEdges ⌝ }
     ensures { λ r. ⌜ now (buf .exit) ≡ sets (now (buf .entry)) at (linesText 67 (edgeRow net) 0 (net .edges)) ⌝ }
 {
     let edges = net.edges as usize;
@@ -71,7 +73,7 @@ fn terminal_row(net: Network, j: usize) -> [u32; 2]
 
 // Writes the terminal lines.
 fn put_terminals(buf: &mut [u8], at: usize, net: Network) -> usize
-    requires { ⌜ (at ≤ 50 + 50 * maxEdges) × (net .terminals ≤ maxTerminals) ⌝ }
+    requires { ⌜ (at ≤ lineBytes 4 + lineBytes 3 * maxEdges) × (net .terminals ≤ maxTerminals) ⌝ }
     ensures { λ r. ⌜ r ≡ at + length (linesText 87 (terminalRow net) 0 (net .terminals)) ⌝ }
     ensures { λ r. ⌜ now (buf .exit) ≡
         sets (now (buf .entry)) at (linesText 87 (terminalRow net) 0 (net .terminals)) ⌝ }
@@ -105,7 +107,7 @@ fn put_text(buf: &mut [u8], net: Network) -> usize
 fn writable(stage: u32, net: Network) -> bool
     ensures { λ r. ⌜ r ≡ writable stage net ⌝ }
 {
-    if !lists::and(Board::PLAY <= stage, stage <= Board::FINISHED) {
+    if !Board::staged(stage) {
         return false;
     }
     text_judge::lawful(net)

@@ -27,20 +27,21 @@ use Rattle.load.specs.Load.{loadText}
 use Rattle.move_edges.specs.Singular.{leaves, leaving, straight}
 use Rattle.move_guard.specs.Moved.{lastEntry, answered}
 use Rattle.move_guard.specs.Guard.{intact, loaded, playing}
-use Rattle.move_carry.specs.Opens.{flowFits, enters, isOpen, openEdge, hasOpen, openTerminal, someOpen}
-use Rattle.move_carry.specs.Carries.{onBoard, carryRefusal, carried, carryCall}
+use Rattle.move_carry.specs.Opens.{flowFits, entersIn, isOpenIn, openEdgeIn, hasOpenIn, openTerminalIn, someOpenIn, isHomeIn}
+use Rattle.move_carry.specs.Carries.{onBoardIn, carryRefusalIn, carriedIn, carryCall}
 use Rattle.move_cycle.specs.Steps.{every, leadsBack, isCycle, gather}
-use Rattle.move_edges.specs.Marking.{singular, isFresh, fresh}
-use Rattle.move_cycle.specs.Amounts.{smaller, isShort, raise, amountFrom, amount}
+use Rattle.move_edges.specs.Marking.{singularIn, freshIn}
+use Rattle.move_cycle.specs.Amounts.{smaller, lessened, raiseIn, allowedIn, amountIn}
 use Rattle.move_cycle.specs.Shifts.{shiftedAt, shiftFrom, shifted}
-use Rattle.move_turn.specs.Turns.{turnRefusal, turned, turnCall}
-use Rattle.move_undo.specs.Undone.{undoRefusal, undone, undoCall}
+use Rattle.move_turn.specs.Turns.{turnRefusalIn, turnedIn, turnCall}
+use Rattle.move_undo.specs.Undone.{undoRefusalIn, undoCall}
 use Rattle.solve_walk.specs.Walk.{touches, another, parts, firstMet, downWalk, cycleOf}
-use Rattle.solve_next.specs.Choosing.{isHome, allHome, markedOpen, markedEdge, chosenEdge, nextCycle, nextAct}
+use Rattle.solve_next.specs.Choosing.{allHomeIn, nextActIn}
 use Rattle.solve_finish.specs.Finishes.{Finished}
 use Rattle.solve_finish.specs.Finishes.{stepped, steppedOn, playedOut, finishRefusal, finishCall}
-use Rattle.move_list.specs.Calls.{Call, carry, turn, undo, played, answers}
+use Rattle.move_list.specs.Calls.{Call, carry, turn, undo, gameOf, played, answers}
 use Rattle.report_routes.specs.Routes.{routeBy, route, load}
+use Rattle.solve_carry.specs.Search.{chosenEdgeIn, markedEdgeIn, markedOpenIn}
 
 -- a text in ASCII
 unfoldable pub bytes : String → List ℕ
@@ -138,8 +139,8 @@ finishes x (r ∷ rs) b = completes x (finishCall b)
 holds : Case → Loaded → Bool
 holds x l =
     both (eqb (l .answer) (x .answer))
-    (both (same (answers (l .board) (x .calls)) (x .given))
-    (both (ends x (played (l .board) (x .calls))) (finishes x (x .routes) (played (l .board) (x .calls)))))
+    (both (same (answers (gameOf (l .board)) (x .calls)) (x .given))
+    (both (ends x (played (gameOf (l .board)) (x .calls) .board)) (finishes x (x .routes) (played (gameOf (l .board)) (x .calls) .board))))
 
 -- every case of the table is as it says
 pub hold : List Case → Bool
@@ -150,9 +151,9 @@ pub starred : T (hold cases)
 unfolding loadText readText bytes cases hold holds same both pick indexOf numberOf valueFrom ranged all lowest sumAt keyed closedBoard
     opens pass passes reached leads onward since follow smallest lowered lowerCycle onCycle cycleVertex cycleFrom cancelled acyclicFlows
     loading calling withCycle boardT around amountOf ends played answers answered intact loaded playing
-    flowFits enters isOpen openEdge hasOpen openTerminal someOpen onBoard carryRefusal carried carryCall
-    hasBit withBit collect every leadsBack isCycle gather leaves leaving straight singular isFresh fresh
-    smaller isShort raise amountFrom amount shiftedAt shiftFrom shifted turnRefusal turned turnCall undoRefusal undone undoCall
-    finishing routed loadsFrom completes finishes total has touches another parts firstMet downWalk cycleOf isHome allHome markedOpen markedEdge chosenEdge nextCycle nextAct
+    flowFits entersIn isOpenIn openEdgeIn hasOpenIn openTerminalIn someOpenIn onBoardIn carryRefusalIn carriedIn carryCall
+    hasBit withBit collect every leadsBack isCycle gather leaves leaving straight singularIn freshIn
+    smaller lessened raiseIn allowedIn amountIn shiftedAt shiftFrom shifted turnRefusalIn turnedIn turnCall undoRefusalIn undoCall
+    finishing routed loadsFrom completes finishes total has touches another parts firstMet downWalk cycleOf isHomeIn allHomeIn markedOpenIn markedEdgeIn chosenEdgeIn nextActIn
     stepped steppedOn playedOut finishRefusal finishCall routeBy route load
 starred = tt

@@ -20,19 +20,19 @@ use Rattle.load.specs.Load.{loadText}
 use Rattle.move_edges.specs.Singular.{leaves, leaving, straight}
 use Rattle.move_guard.specs.Moved.{answered}
 use Rattle.move_guard.specs.Guard.{intact, loaded, playing}
-use Rattle.move_carry.specs.Opens.{flowFits, enters, isOpen, openEdge, hasOpen, openTerminal, someOpen}
-use Rattle.move_carry.specs.Carries.{onBoard, carryRefusal, carried, carryCall}
-use Rattle.move_cycle.specs.Steps.{stepOf, stepsOf, every, leadsBack, isCycle, gather}
-use Rattle.move_edges.specs.Marking.{singular, isFresh, fresh}
-use Rattle.move_cycle.specs.Amounts.{smaller, isShort, raise, amountFrom, amount}
+use Rattle.move_carry.specs.Opens.{flowFits, entersIn, isOpenIn, openEdgeIn, hasOpenIn, openTerminalIn, someOpenIn, isHomeIn}
+use Rattle.move_carry.specs.Carries.{onBoardIn, carryRefusalIn, carriedIn, carryCall}
+use Rattle.move_cycle.specs.Steps.{codeStep, codeSteps, every, leadsBack, isCycle, gather}
+use Rattle.move_edges.specs.Marking.{singularIn, freshIn}
+use Rattle.move_cycle.specs.Amounts.{smaller, lessened, raiseIn, allowedIn, amountIn}
 use Rattle.move_cycle.specs.Shifts.{shiftedAt, shiftFrom, shifted}
-use Rattle.move_turn.specs.Turns.{turnRefusal, turned, turnCall}
-use Rattle.move_undo.specs.Undone.{undoRefusal, undone, undoCall}
+use Rattle.move_turn.specs.Turns.{turnRefusalIn, turnedIn, turnCall}
+use Rattle.move_undo.specs.Undone.{undoRefusalIn, undoCall}
 use Rattle.solve_walk.specs.Walk.{touches, another, parts, firstMet, downWalk, cycleOf}
-use Rattle.solve_next.specs.Choosing.{isHome, allHome, markedOpen, markedEdge, chosenEdge, nextCycle, nextAct, actOf}
+use Rattle.solve_next.specs.Choosing.{allHomeIn, nextActIn, actOf}
 use Rattle.solve_finish.specs.Finishes.{stepped, steppedOn, playedOut, finishRefusal, finishCall}
 use Rattle.report_routes.specs.Routes.{routeBy, route, load}
-use Rattle.solve_next.specs.Hints.{hintRefusal, nextAdvice, hintCall}
+use Rattle.solve_next.specs.Hints.{hintRefusal, nextAdviceIn, hintCall}
 use Rattle.report_routes.specs.Tables.{routesFit}
 use Rattle.report.specs.Reports.{reportText, started, unreported}
 use Rattle.play_lines.specs.Orders.{fieldsOf, onto, isLetter, carryOf, turnOf, byFields, orderOf}
@@ -41,6 +41,7 @@ use Rattle.sheet_output.specs.Outputs.{reportOf, finishOutput, sheetOutput}
 use Rattle.sheet_output.specs.Inputs.{firstLines, linesOf, linesWanted, boardPart, movesPart}
 use Rattle.play_session.specs.Replies.{replied, replyText, repliesFrom, playOutput}
 use Rattle.theorem_cases.proofs.Cases.{bytes, withCycle, boardT, same}
+use Rattle.solve_carry.specs.Search.{chosenEdgeIn, markedEdgeIn, markedOpenIn}
 
 -- document 01's sheet
 sheetT : String
@@ -65,13 +66,13 @@ asShown =
     (same (playOutput (bytes withCycle ++ bytes "K,0,0\nH\n")) (bytes "0\n0\nN\n"))))
 
 pub printed : T asShown
-unfolding asShown lines answersT playOutput repliesFrom replyText replied hintRefusal nextAdvice hintCall actOf stepOf stepsOf stepsText moveLine hintLine boardPart movesPart firstLines linesWanted linesOf header line letter
+unfolding asShown lines answersT playOutput repliesFrom replyText replied hintRefusal nextAdviceIn hintCall actOf codeStep codeSteps stepsText moveLine hintLine boardPart movesPart firstLines linesWanted linesOf header line letter
     field numbers then fieldsOf onto isLetter carryOf turnOf byFields orderOf same bytes withCycle boardT sheetT sheetWithCycle sheetOutput finishOutput reportOf reportText
     started unreported routesFit route routeBy load decimal decimalFrom numbersText lineText linesText loadText readText both pick indexOf numberOf
     valueFrom ranged all lowest sumAt keyed closedBoard opens pass passes reached leads onward since follow smallest lowered lowerCycle onCycle
-    cycleVertex cycleFrom cancelled acyclicFlows answered intact loaded playing flowFits enters isOpen openEdge hasOpen openTerminal someOpen onBoard
-    carryRefusal carried carryCall hasBit withBit collect every leadsBack isCycle gather leaves leaving straight singular isFresh fresh
-    smaller isShort raise amountFrom amount shiftedAt shiftFrom shifted turnRefusal turned turnCall undoRefusal undone undoCall total has touches another parts
-    firstMet downWalk cycleOf isHome allHome markedOpen markedEdge chosenEdge nextCycle nextAct stepped steppedOn playedOut finishRefusal finishCall
+    cycleVertex cycleFrom cancelled acyclicFlows answered intact loaded playing flowFits entersIn isOpenIn openEdgeIn hasOpenIn openTerminalIn someOpenIn onBoardIn
+    carryRefusalIn carriedIn carryCall hasBit withBit collect every leadsBack isCycle gather leaves leaving straight singularIn freshIn
+    smaller lessened raiseIn allowedIn amountIn shiftedAt shiftFrom shifted turnRefusalIn turnedIn turnCall undoRefusalIn undoCall total has touches another parts
+    firstMet downWalk cycleOf isHomeIn allHomeIn markedOpenIn markedEdgeIn chosenEdgeIn nextActIn stepped steppedOn playedOut finishRefusal finishCall
     either
 printed = tt

@@ -4,7 +4,7 @@
 use mathlib.Core.Path.{_≡_, refl, sym, _∙_}
 use mathlib.Core.Bool.{true, false}
 use mathlib.Core.Logic.{_⊎_, inl, inr, _≢_}
-use Prim.Native.Nat.{ℕ, _+_, _-_, _<_, _≤_}
+use Prim.Native.Nat.{ℕ, _+_, _*_, _-_, _<_, _≤_}
 use native.Mathlib.Omega.{arith}
 use lib.ListN.{length, getD, set, length-set}
 use lib.Seq.{getD-set-same, getD-set-other}
@@ -12,46 +12,44 @@ use Rattle.lists.specs.Lists.{sumAt}
 use Rattle.lists.specs.Members.{has}
 use Rattle.lists.proofs.Laws.{eq-or-ne}
 use Rattle.lists.proofs.Pigeon.{has-cases}
-use Rattle.board.specs.Limits.{maxMoves}
 use Rattle.board.specs.Record.{blank}
 use Rattle.board.specs.Whole.{Board}
 use Rattle.board.specs.declared.Entry.{Entry}
 use Rattle.board.specs.declared.Move.the-variants.{Carry}
-use Rattle.text_rules.specs.Rules.{Lawful}
+use Rattle.text_rules.specs.Sound.{Sound}
 use Rattle.graph_flows.specs.Trails.{Trail, go, down, downs}
 use Rattle.graph_flows.proofs.Sums.{keyed-add, sum-set, sum-key}
 use Rattle.move_guard.specs.Parts.{flow, acyclicFlow, tail, head, marked, demand, place}
-use Rattle.move_guard.specs.Guard.{moveIntact}
-use Rattle.move_carry.specs.Carries.{carried}
+use Rattle.move_carry.specs.Carries.{carried, carriedIn}
 use Rattle.report_routes.specs.Routes.{route, load, largest}
-use Rattle.theorem_keep.specs.Invariant.{Marked, At, Invariant}
-use Rattle.theorem_keep.specs.Allowed.{Carriable}
+use Rattle.theorem_cycles.specs.Invariant.{amountOf, Marked, At, Invariant, SmallAmounts}
+use Rattle.theorem_cycles.specs.Allowed.{Carriable}
 use Rattle.theorem_keep.proofs.CarriedRoutes.{route-moved, route-kept, load-kept, largest-kept, load-moved, largest-moved}
 
 module _ (b : Board) (i e : ℕ) (inv : Invariant b) (c : Carriable b i e) where
-  law : Lawful (b .network)
-  law = inv .lawful
+  law : Sound (b .network)
+  law = inv .sound
 
   needs : 1 ≤ demand b i
-  needs = law .demand i (c .terminal) .0
+  needs = law .demand i (c .terminal)
 
   positive : 0 < flow b e
   positive = omega (arith, needs, c .covers)
 
   -- the edge and the terminal are within their lists
   pub in-flows : e < length (b .flows)
-  in-flows = omega (arith, c .edge, law .edges .1, inv .flows-size, law .flows-size)
+  in-flows = omega (arith, c .edge, law .edges, inv .flows-size)
 
   in-places : i < length (b .places)
-  in-places = omega (arith, c .terminal, law .terminals .1, inv .places-size, law .homes-size)
+  in-places = omega (arith, c .terminal, law .terminals, inv .places-size, law .homes-size)
 
   -- flows and places after the carry
   flow-moved : flow (carried b i e) e ≡ flow b e - demand b i
-  unfolding carried
+  unfolding carriedIn
   flow-moved = getD-set-same (b .flows) e (flow b e - demand b i) 0 in-flows
 
   flow-kept : (g : ℕ) → g ≢ e → flow (carried b i e) g ≡ flow b g
-  unfolding carried
+  unfolding carriedIn
   flow-kept g n = getD-set-other (b .flows) e g (flow b e - demand b i) 0 n
 
   flow-falls : (g : ℕ) → flow (carried b i e) g ≤ flow b g
@@ -65,7 +63,7 @@ module _ (b : Board) (i e : ℕ) (inv : Invariant b) (c : Carriable b i e) where
   was-positive g h = omega (arith, flow-falls g)
 
   was-marked : (g : ℕ) → Marked (carried b i e) g → Marked b g
-  unfolding carried
+  unfolding carriedIn
   was-marked g m = record { mark = m .mark; above = was-positive g (m .above) }
 
   -- a marked edge is at 0 after the carry
@@ -73,15 +71,15 @@ module _ (b : Board) (i e : ℕ) (inv : Invariant b) (c : Carriable b i e) where
   emptied m = omega (arith, flow-moved, c .exact m)
 
   place-moved : place (carried b i e) i ≡ tail b e
-  unfolding carried
+  unfolding carriedIn
   place-moved = getD-set-same (b .places) i (tail b e) 0 in-places
 
   place-kept : (k : ℕ) → k ≢ i → place (carried b i e) k ≡ place b k
-  unfolding carried
+  unfolding carriedIn
   place-kept k n = getD-set-other (b .places) i k (tail b e) 0 n
 
   was-at : (k v : ℕ) → k ≢ i → At (carried b i e) k v → At b k v
-  unfolding carried
+  unfolding carriedIn
   was-at k v n a = record { terminal = a .terminal; here = sym (place-kept k n) ∙ a .here }
 
   -- where the terminal arrives
@@ -100,15 +98,15 @@ module _ (b : Board) (i e : ℕ) (inv : Invariant b) (c : Carriable b i e) where
 
   balance : (v : ℕ) → v < b .network .vertices → (v ≡ b .network .source → ⊥)
       → sumAt (b .network .heads) (carried b i e .flows) v ≡ sumAt (b .network .tails) (carried b i e .flows) v + sumAt (carried b i e .places) (b .network .demands) v
-  unfolding carried
+  unfolding carriedIn
   balance v h s =
       let f = flow b e in
       let d = demand b i in
       let split : f - d + d ≡ f = omega (arith, c .covers) in
-      let p = sum-set (b .network .heads) (b .flows) e (f - d) v (omega (arith, in-flows, law .heads-size, law .flows-size, inv .flows-size)) in-flows in
-      let q = sum-set (b .network .tails) (b .flows) e (f - d) v (omega (arith, in-flows, law .tails-size, law .flows-size, inv .flows-size)) in-flows in
+      let p = sum-set (b .network .heads) (b .flows) e (f - d) v (omega (arith, in-flows, law .heads-size, inv .flows-size)) in-flows in
+      let q = sum-set (b .network .tails) (b .flows) e (f - d) v (omega (arith, in-flows, law .tails-size, inv .flows-size)) in-flows in
       let r = rw (sym (c .enters)) at (sum-key (b .places) (b .network .demands) i (tail b e) v in-places
-      (omega (arith, in-places, law .demands-size, law .homes-size, inv .places-size))) in
+      (omega (arith, in-places, law .homes-size, inv .places-size))) in
       let x = rw split at (keyed-add (head b e) v (f - d) d) in
       let y = rw split at (keyed-add (tail b e) v (f - d) d) in
       omega (arith, inv .balance v h s)
@@ -142,27 +140,25 @@ module _ (b : Board) (i e : ℕ) (inv : Invariant b) (c : Carriable b i e) where
       at (inr q) (inl r) = kept (inl (inv .all-fit g e k (was-marked g m) (arrived j (head b g) r a') positive (was-at k (head b g) q a)))
       at (inr q) (inr r) = kept (inv .one-misfit g g' k j (was-marked g m) (was-marked g' m') s (was-at k (head b g) q a) (was-at j (head b g) r a') n)
 
-  module _ (room : b .moves < maxMoves) where
-    pub in-journal : b .moves < length (b .journal)
-    in-journal = omega (arith, inv .journal-size)
-
+  module _ (in-journal : b .moves < length (b .journal)) where
     -- the journal
     blanks : (k : ℕ) → b .moves + 1 ≤ k → getD (carried b i e .journal) k blank ≡ blank
-    unfolding carried
+    unfolding carriedIn
     blanks k h =
         getD-set-other (b .journal) (b .moves) k (record { step = Carry (record { terminal = i; edge = e }) }) blank (λ q. omega (arith, q, h))
         ∙ inv .blanks k (omega arith)
 
-    amounts : (k : ℕ) → moveIntact (getD (carried b i e .journal) k blank .step) ≡ true
-    unfolding carried
-    amounts k = at (eq-or-ne k (b .moves))
+    pub carried-small : (m : ℕ) → SmallAmounts b m → SmallAmounts (carried b i e) m
+    unfolding carriedIn
+    carried-small m small = record { demands = small .demands; amounts = λ k. at k (eq-or-ne k (b .moves)) }
       where
         entry : Entry
         entry = record { step = Carry (record { terminal = i; edge = e }) }
 
-        at : (k ≡ b .moves) ⊎ (k ≢ b .moves) → moveIntact (getD (set (b .journal) (b .moves) entry) k blank .step) ≡ true
-        at (inl q) = rw (q, getD-set-same (b .journal) (b .moves) entry blank in-journal) refl
-        at (inr n) = rw (getD-set-other (b .journal) (b .moves) k entry blank n) (inv .amounts k)
+        at : (k : ℕ) → (k ≡ b .moves) ⊎ (k ≢ b .moves)
+            → amountOf (getD (set (b .journal) (b .moves) entry) k blank .step) ≤ length (b .network .demands) * m
+        at k (inl q) = rw (q, getD-set-same (b .journal) (b .moves) entry blank in-journal) (omega arith)
+        at k (inr n) = rw (getD-set-other (b .journal) (b .moves) k entry blank n) (small .amounts k)
 
     -- the loads
     load-unmarked : (g : ℕ) → marked b g ≡ false → flow (carried b i e) g + load (carried b i e) g ≤ acyclicFlow b g
@@ -216,17 +212,17 @@ module _ (b : Board) (i e : ℕ) (inv : Invariant b) (c : Carriable b i e) where
         at (inr n) = inv .on-routes k g h (rw (route-kept b i e in-journal k n) at t)
 
     pub carried-invariant : Invariant (carried b i e)
-    unfolding carried
+    unfolding carriedIn
     carried-invariant = record {
-      lawful = law;
+      sound = law;
+      balanced = inv .balanced;
       acyclic = inv .acyclic;
       flows-size = length-set (b .flows) e (flow b e - demand b i) ∙ inv .flows-size;
       places-size = length-set (b .places) i (tail b e) ∙ inv .places-size;
       placed = placed;
       unplaced = unplaced;
-      journal-size = length-set (b .journal) (b .moves) (record { step = Carry (record { terminal = i; edge = e }) }) ∙ inv .journal-size;
+      room = omega (arith, inv .room, length-set (b .journal) (b .moves) (record { step = Carry (record { terminal = i; edge = e }) }));
       blanks = blanks;
-      amounts = amounts;
       balance = balance;
       support = λ g h. inv .support g (was-positive g h);
       one-out = λ g w w' m t h t' h'. inv .one-out g w w' (was-marked g m) t (was-positive w h) t' (was-positive w' h');

@@ -20,7 +20,7 @@ use Rattle.board.specs.Whole.{Board}
 use Rattle.board.specs.declared.Entry.{Entry}
 use Rattle.board.specs.declared.Move.the-variants.{Carry}
 use Rattle.move_guard.specs.Parts.{demand}
-use Rattle.move_carry.specs.Carries.{carried}
+use Rattle.move_carry.specs.Carries.{carried, carriedIn}
 use Rattle.report_routes.specs.Routes.{carriedOver, routeBy, route, share, load, largest}
 
 -- one more move at the end of the list
@@ -33,7 +33,7 @@ route-more i (n ∷ ms) m =
 module _ (b : Board) (i e : ℕ) (room : b .moves < length (b .journal)) where
   -- the routes
   route-carried : (k : ℕ) → route (carried b i e) k ≡ pick (eqb i k) (e ∷ []) [] ++ route b k
-  unfolding carried route
+  unfolding carriedIn route
   route-carried k = rw (add-one (b .moves), take-suc-set (b .journal) (b .moves) (record { step = Carry (record { terminal = i; edge = e }) }) room)
       (route-more k (take (b .moves) (b .journal)) (record { step = Carry (record { terminal = i; edge = e }) }))
 
@@ -49,11 +49,11 @@ module _ (b : Board) (i e : ℕ) (room : b .moves < length (b .journal)) where
   has-other g n = rw (route-moved, ne-eqb g e n, has) refl
 
   share-kept : (g k : ℕ) → k ≢ i → share (carried b i e) g k ≡ share b g k
-  unfolding carried
+  unfolding carriedIn
   share-kept g k n = ap (λ (l : List ℕ). pick (has g l) (demand b k) 0) (route-kept k n)
 
   share-other : (g k : ℕ) → g ≢ e → share (carried b i e) g k ≡ share b g k
-  unfolding carried
+  unfolding carriedIn
   share-other g k n = go (eq-or-ne k i)
     where
       go : (k ≡ i) ⊎ (k ≢ i) → share (carried b i e) g k ≡ share b g k
@@ -61,22 +61,22 @@ module _ (b : Board) (i e : ℕ) (room : b .moves < length (b .journal)) where
       go (inr d) = share-kept g k d
 
   share-moved : share (carried b i e) e i ≡ demand b i
-  unfolding carried
+  unfolding carriedIn
   share-moved = pick-yes _ _ _ (rw route-moved (has-here e e (route b i) refl))
 
   -- the loads
   pub load-kept : (g : ℕ) → g ≢ e → load (carried b i e) g ≡ load b g
-  unfolding load carried
+  unfolding load carriedIn
   load-kept g n = total-same (share (carried b i e) g) (share b g) 0 (b .network .terminals) (λ k h l. share-other g k n)
 
   pub largest-kept : (g : ℕ) → g ≢ e → largest (carried b i e) g ≡ largest b g
-  unfolding largest carried
+  unfolding largest carriedIn
   largest-kept g n = most-same (share (carried b i e) g) (share b g) 0 (b .network .terminals) (λ k. share-other g k n)
 
   pub load-moved : load (carried b i e) e ≤ load b e + demand b i
-  unfolding load carried
+  unfolding load carriedIn
   load-moved = rw share-moved at (total-raised (share (carried b i e) e) (share b e) 0 (b .network .terminals) i (λ k n. share-kept e k n))
 
   pub largest-moved : i < b .network .terminals → demand b i ≤ largest (carried b i e) e
-  unfolding largest carried
+  unfolding largest carriedIn
   largest-moved h = rw share-moved at (most-at (share (carried b i e) e) 0 (b .network .terminals) i (omega arith) (omega arith))

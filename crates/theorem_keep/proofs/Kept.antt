@@ -1,9 +1,8 @@
--- A board that keeps the invariant is intact. No flow passes what the terminals need together, since each vertex balances and the positive edges lead up in the
--- rank of the acyclic flow.
-use mathlib.Core.Path.{_≡_, sym, _∙_}
+-- A board that keeps the invariant, within the limits and with small amounts, is intact.
+use mathlib.Core.Path.{_≡_, refl, _∙_}
 use mathlib.Core.Bool.{true}
 use mathlib.Core.Logic.{_⊎_, inl, inr}
-use Prim.Native.Nat.{ℕ, _-_, _<_, _≤_}
+use Prim.Native.Nat.{ℕ, _*_, _-_, _<_, _≤_}
 use native.Mathlib.Omega.{arith}
 use lib.Dec.{leb, ltb, eqb}
 use lib.ListN.{length, getD}
@@ -12,84 +11,61 @@ use Rattle.lists.specs.Choice.{pick, both}
 use Rattle.lists.specs.Lists.{all}
 use Rattle.lists.proofs.Laws.{Known, was-true, was-false, known, lt-or-ge, pick-yes, pick-no, both-left, both-right, both-true, all-from, all-zero}
 use Rattle.board.specs.Limits.{maxEdges, maxTerminals, maxMoves, maxFlow, maxTotal}
+use Rattle.board.specs.Record.{blank}
 use Rattle.board.specs.Whole.{Board}
-use Rattle.text_rules.specs.Rules.{edgeFits, terminalFits, countsFit, judged, lawful, Lawful}
+use Rattle.board.specs.declared.Network.{Network}
+use Rattle.board.specs.declared.Move.{Move}
+use Rattle.board.specs.declared.Move.the-variants.{Carry, Turn}
+use Rattle.text_rules.specs.Sound.{Sound}
+use Rattle.text_rules.specs.Rules.{edgeFits, terminalFits, countsFit, judged, lawful, Within, Lawful}
 use Rattle.text_rules.proofs.Meaning.{lawful-tested}
-use Rattle.graph_flows.specs.Paths.{PositiveEdge, EndsBelow}
-use Rattle.graph_flows.specs.Inner.{rank}
-use Rattle.graph_flows.proofs.Rank.{rank-rises}
-use Rattle.graph_flows.proofs.Cut.{flow-most}
-use Rattle.load.specs.Load.{acyclicOf}
-use Rattle.move_guard.specs.Parts.{flow, acyclicFlow, place}
-use Rattle.move_guard.specs.Guard.{edgeIntact, terminalIntact, intact}
-use Rattle.theorem_keep.specs.Invariant.{Invariant}
-use Rattle.theorem_keep.proofs.Network.{within, within-acyclic, long-tails, long-heads, long-acyclic, acyclic-of-below, acyclic-of-acyclic, source-rank}
+use Rattle.move_guard.specs.Parts.{flow, acyclicFlow, demand, place}
+use Rattle.move_guard.specs.Guard.{edgeIntact, terminalIntact, moveIntact, intact}
+use Rattle.theorem_cycles.specs.Invariant.{Invariant, amountOf, SmallAmounts}
+use Rattle.theorem_cycles.proofs.Network.{acyclic-of-below}
+use Rattle.theorem_cycles.proofs.Flowing.{small-flows}
 
-module _ (b : Board) (inv : Invariant b) where
-  law : Lawful (b .network)
-  law = inv .lawful
-
-  level : ℕ → ℕ
-  level = rank (b .network .tails) (b .network .heads) (acyclicOf (b .network)) (b .network .vertices)
-
-  -- the edges join vertices
-  pub joined : EndsBelow (b .network .tails) (b .network .heads) (b .flows) (b .network .vertices)
-  joined =
-      let w = within (b .network) law in
-      record { start = λ g h. w .start g (omega (arith, h, inv .flows-size)); end = λ g h. w .end g (omega (arith, h, inv .flows-size)) }
-
-  pub tails-long : length (b .network .tails) ≡ length (b .flows)
-  tails-long = long-tails (b .network) law ∙ sym (inv .flows-size)
-
-  pub heads-long : length (b .network .heads) ≡ length (b .flows)
-  heads-long = long-heads (b .network) law ∙ sym (inv .flows-size)
-
-  -- a positive edge is positive in the acyclic flow, so it leads up
-  pub positive-acyclic : (u v : ℕ) → PositiveEdge (b .network .tails) (b .network .heads) (b .flows) u v
-      → PositiveEdge (b .network .tails) (b .network .heads) (acyclicOf (b .network)) u v
-  positive-acyclic u v p = record {
-    edge = p .edge;
-    inside = omega (arith, p .inside, inv .flows-size, long-acyclic (b .network) law);
-    start = p .start;
-    end = p .end;
-    above = rw (inv .acyclic) at (inv .support (p .edge) (p .above));
-  }
-
-  rises : (u v : ℕ) → PositiveEdge (b .network .tails) (b .network .heads) (b .flows) u v → level u < level v
-  unfolding level
-  rises u v p =
-      rank-rises (b .network .tails) (b .network .heads) (acyclicOf (b .network)) (b .network .vertices) u v (within-acyclic (b .network) law)
-      (acyclic-of-acyclic (b .network) law) (positive-acyclic u v p)
-
-  at-vertex : (i : ℕ) → place b i < b .network .vertices
-  at-vertex i = go (lt-or-ge i (b .network .terminals))
+-- the numbers of every place of a network within the limits
+module _ (net : Network) (sound : Sound net) (within : Within net) where
+  pub text-flow-small : (e : ℕ) → getD (net .flows) e 0 ≤ maxFlow
+  text-flow-small e = go (lt-or-ge e (net .edges))
     where
-      go : (i < b .network .terminals) ⊎ (b .network .terminals ≤ i) → place b i < b .network .vertices
-      go (inl h) = inv .placed i h
-      go (inr h) = omega (arith, inv .unplaced i h, law .vertices)
+      go : (e < net .edges) ⊎ (net .edges ≤ e) → getD (net .flows) e 0 ≤ maxFlow
+      go (inl h) = within .flow e h
+      go (inr h) = omega (arith, sound .no-edge e h .2)
 
-  demand-small : (i : ℕ) → getD (b .network .demands) i 0 ≤ maxFlow
-  demand-small i = go (lt-or-ge i (b .network .terminals))
+  pub demand-small : (i : ℕ) → getD (net .demands) i 0 ≤ maxFlow
+  demand-small i = go (lt-or-ge i (net .terminals))
     where
-      go : (i < b .network .terminals) ⊎ (b .network .terminals ≤ i) → getD (b .network .demands) i 0 ≤ maxFlow
-      go (inl h) = law .demand i h .1
-      go (inr h) = omega (arith, law .no-terminal i h .1)
+      go : (i < net .terminals) ⊎ (net .terminals ≤ i) → getD (net .demands) i 0 ≤ maxFlow
+      go (inl h) = within .demand i h
+      go (inr h) = omega (arith, sound .no-terminal i h .1)
 
-  pub small-flows : (e : ℕ) → flow b e ≤ maxTotal
-  unfolding level
-  small-flows e =
-      let most = flow-most (b .network .tails) (b .network .heads) (b .flows) (b .places) (b .network .demands) (b .network .vertices) (b .network .source) level
-      tails-long heads-long joined
-      (λ i h. at-vertex i) (source-rank (b .network) law) rises (inv .balance) maxFlow demand-small e in
-      rw (law .demands-size) at most
+module _ (b : Board) (inv : Invariant b) (within : Within (b .network)) (small : SmallAmounts b maxFlow) where
+  pub kept-lawful : Lawful (b .network)
+  kept-lawful = record { sound = inv .sound; within = within; balanced = inv .balanced }
+
+  -- as many terminals as there may be, each with the greatest demand
+  demands-most : length (b .network .demands) * maxFlow ≤ maxTotal
+  demands-most = rw (within .demands-size) (omega arith)
+
+  pub flows-within : (e : ℕ) → flow b e ≤ maxTotal
+  flows-within e = omega (arith, small-flows b inv maxFlow (small .demands) e, demands-most)
+
+  move-intact : (i : ℕ) → moveIntact (getD (b .journal) i blank .step) ≡ true
+  move-intact i = go (getD (b .journal) i blank .step) (small .amounts i)
+    where
+      go : (m : Move) → amountOf m ≤ length (b .network .demands) * maxFlow → moveIntact m ≡ true
+      go (Carry r) h = refl
+      go (Turn a) h = le-leb (a .amount) maxTotal (omega (arith, h, demands-most))
 
   -- the test
   fits : both (countsFit (b .network)) (both (all (edgeFits (b .network)) 0 maxEdges) (both (all (terminalFits (b .network)) 0 maxTerminals) (eqb (judged (b .network)) 0))) ≡ true
   unfolding lawful
-  fits = lawful-tested (b .network) law
+  fits = lawful-tested (b .network) kept-lawful
 
   below : (e : ℕ) → acyclicFlow b e ≤ getD (b .network .flows) e 0
-  below e = rw (inv .acyclic) (acyclic-of-below (b .network) law e)
+  below e = rw (inv .acyclic) (acyclic-of-below (b .network) (inv .sound) e)
 
   edge-intact : (i : ℕ) → i < maxEdges → edgeIntact b i ≡ true
   edge-intact i h = both-true _ _ (all-from (edgeFits (b .network)) maxEdges i (both-left _ _ (both-right _ _ fits)) h)
@@ -98,7 +74,7 @@ module _ (b : Board) (inv : Invariant b) where
       go : Known (eqb (acyclicFlow b i) 0) → (0 < flow b i) ⊎ (flow b i ≤ 0) → pick (eqb (acyclicFlow b i) 0) (eqb (flow b i) 0) (leb (flow b i) maxTotal) ≡ true
       go (was-true t) (inl q) = let z : acyclicFlow b i ≡ 0 = eqb-true _ _ t in absurd (omega (arith, inv .support i q))
       go (was-true t) (inr q) = let z : flow b i ≡ 0 = omega arith in pick-yes (eqb (acyclicFlow b i) 0) _ _ t ∙ eq-eqb _ _ z
-      go (was-false t) q = pick-no (eqb (acyclicFlow b i) 0) _ _ t ∙ le-leb (flow b i) maxTotal (small-flows i)
+      go (was-false t) q = pick-no (eqb (acyclicFlow b i) 0) _ _ t ∙ le-leb (flow b i) maxTotal (flows-within i)
 
   terminal-intact : (j : ℕ) → j < maxTerminals → terminalIntact b j ≡ true
   terminal-intact j h = both-true _ _ (all-from (terminalFits (b .network)) maxTerminals j (both-left _ _ (both-right _ _ (both-right _ _ fits))) h)
@@ -115,4 +91,4 @@ module _ (b : Board) (inv : Invariant b) where
       both-true _ _ (both-left _ _ fits)
       (both-true _ _ (all-zero (edgeIntact b) maxEdges edge-intact)
       (both-true _ _ (all-zero (terminalIntact b) maxTerminals terminal-intact)
-      (both-true _ _ (le-leb _ _ h) (inv .amounts (b .moves - 1)))))
+      (both-true _ _ (le-leb _ _ h) (move-intact (b .moves - 1)))))

@@ -6,13 +6,13 @@ use mathlib.Core.List.{[]}
 use Prim.Native.Nat.{ℕ, zero, suc}
 use native.Mathlib.Nat.{div-eq-of-lt}
 use native.Mathlib.Omega.{arith}
-use lib.ListN.{getD, replicate, length-replicate}
+use lib.ListN.{length, getD, replicate, length-replicate}
 use lib.Pow.{pow-pos}
 use Rattle.lists.specs.Members.{has}
 use Rattle.lists.proofs.Laws.{pick-no}
 use Rattle.lists.proofs.Totals.{total-none}
 use Rattle.sets.specs.Sets.{hasBit}
-use Rattle.board.specs.Limits.{maxMoves}
+use Rattle.board.specs.Limits.{maxMoves, maxFlow}
 use Rattle.board.specs.Record.{blank}
 use Rattle.board.specs.declared.Network.{Network}
 use Rattle.board.specs.Whole.{Board}
@@ -20,11 +20,12 @@ use Rattle.board.specs.declared.Entry.{Entry}
 use Rattle.text_rules.specs.Rules.{Lawful}
 use Rattle.graph_flows.specs.Trails.{stay}
 use Rattle.move_guard.specs.Parts.{marked}
-use Rattle.move_guard.specs.Guard.{moveIntact}
 use Rattle.load.specs.Load.{acyclicOf, opened}
 use Rattle.report_routes.specs.Routes.{routeBy, route, share, load}
-use Rattle.theorem_keep.specs.Invariant.{Invariant}
-use Rattle.theorem_keep.proofs.Network.{long-acyclic, acyclic-of-balance}
+use Rattle.theorem_cycles.specs.Invariant.{Invariant, amountOf, SmallAmounts}
+use Rattle.theorem_cycles.proofs.Network.{long-acyclic, acyclic-of-balance}
+use Rattle.theorem_keep.proofs.Kept.{demand-small}
+use Rattle.theorem_keep.proofs.Bounds.{bound-fits}
 
 module _ (net : Network) (law : Lawful net) where
   -- the board before the first move
@@ -61,18 +62,27 @@ module _ (net : Network) (law : Lawful net) where
   getD-blank (suc n) zero = refl
   getD-blank (suc n) (suc i) = getD-blank n i
 
+  pub opened-places : length (start .journal) ≡ maxMoves
+  opened-places = length-replicate maxMoves blank
+
+  pub opened-small : SmallAmounts start maxFlow
+  opened-small = record {
+    demands = demand-small net (law .sound) (law .within);
+    amounts = λ i. omega (arith, ap (λ (m : Entry). amountOf (m .step)) (getD-blank maxMoves i));
+  }
+
   pub opened-invariant : Invariant start
   opened-invariant = record {
-    lawful = law;
+    sound = law .sound;
+    balanced = law .balanced;
     acyclic = refl;
-    flows-size = long-acyclic net law;
+    flows-size = long-acyclic net (law .sound);
     places-size = refl;
-    placed = law .home;
-    unplaced = λ i h. law .no-terminal i h .0;
-    journal-size = length-replicate maxMoves blank;
+    placed = law .sound .home;
+    unplaced = λ i h. law .sound .no-terminal i h .0;
+    room = omega (arith, opened-places, bound-fits net (law .within));
     blanks = λ i h. getD-blank maxMoves i;
-    amounts = λ i. ap (λ (m : Entry). moveIntact (m .step)) (getD-blank maxMoves i);
-    balance = acyclic-of-balance net law;
+    balance = acyclic-of-balance net (law .sound) (law .balanced);
     support = λ e h. h;
     one-out = λ e g g' m. no-mark e (m .mark);
     down-closed = λ e g m. no-mark e (m .mark);

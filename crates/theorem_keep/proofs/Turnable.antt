@@ -10,12 +10,12 @@ use Rattle.move_guard.specs.Guard.{playing}
 use Rattle.move_cycle.specs.Steps.{isUp}
 use Rattle.move_cycle.proofs.Cycled.{every-in, every-of, cycle-closed, closed-cycle}
 use Rattle.move_turn.specs.declared.StepRule.the-variants.{OnBoard, Positive, UpSingular}
-use Rattle.move_turn.specs.Turns.{meets, turnRefusal}
-use Rattle.theorem_keep.specs.Allowed.{Turnable}
+use Rattle.move_turn.specs.Turns.{meets, turnRefusal, turnRefusalIn}
+use Rattle.theorem_cycles.specs.Allowed.{Turnable}
 
 module _ (b : Board) (w : List Step) where
   pub turn-facts : turnRefusal b w ≡ 0 → (playing b ≡ true) × Turnable b w
-  unfolding turnRefusal
+  unfolding turnRefusalIn
   turn-facts h =
       let play = pick-passed _ _ 19 h in
       let on = pick-passed _ _ 5 (play .1) in
@@ -34,7 +34,7 @@ module _ (b : Board) (w : List Step) where
       )
 
   pub turn-accepted : playing b ≡ true → Turnable b w → turnRefusal b w ≡ 0
-  unfolding turnRefusal
+  unfolding turnRefusalIn
   turn-accepted play t =
       pick-yes _ _ 20 play ∙ pick-yes _ _ 6 (every-of (meets OnBoard b) w (λ s i. lt-ltb _ _ (t .inside s i)))
       ∙ pick-yes _ _ 7 (closed-cycle (b .network .tails) (b .network .heads) w (t .cycle)) ∙ pick-no _ 24 _ (t .none-open)

@@ -4,13 +4,14 @@ use mathlib.Core.Path.{_≡_, refl}
 use Prim.Native.Nat.{_+_, _<_}
 use Rattle.board.specs.Whole.{Board}
 use Rattle.solve_next.specs.Choosing.{Act, relocate, augment, judge, acted}
-use Rattle.move_carry.specs.Carries.{carried}
-use Rattle.move_turn.specs.Turns.{turned}
 use Rattle.theorem_keep.proofs.Carriable.{carry-facts}
 use Rattle.theorem_keep.proofs.Turnable.{turn-facts}
-use Rattle.theorem_keep.proofs.Potential.{potential, carried-falls}
-use Rattle.theorem_keep.proofs.Gains.{turned-falls}
+use Rattle.theorem_cycles.specs.Potential.{potential}
+use Rattle.theorem_keep.proofs.CarryFalls.{carried-falls}
+use Rattle.theorem_cycles.proofs.Gains.{turned-falls}
 use Rattle.theorem_keep.proofs.Standing.{Standing, carry-standing, turn-standing}
+use Rattle.move_carry.specs.Carries.{carriedIn}
+use Rattle.move_turn.specs.Turns.{turnedIn}
 
 module _ (b : Board) where
   pub act-standing : (a : Act) → Standing b → judge b a ≡ 0 → Standing (acted b a)
@@ -22,16 +23,16 @@ module _ (b : Board) where
   act-falls (augment w) st h = turned-falls b w (st .inv) (turn-facts b w h .1)
 
   pub act-network : (a : Act) → acted b a .network ≡ b .network
-  unfolding carried turned
+  unfolding carriedIn turnedIn
   act-network (relocate i e) = refl
   act-network (augment w) = refl
 
   pub act-acyclic : (a : Act) → acted b a .acyclic ≡ b .acyclic
-  unfolding carried turned
+  unfolding carriedIn turnedIn
   act-acyclic (relocate i e) = refl
   act-acyclic (augment w) = refl
 
   pub act-moves : (a : Act) → acted b a .moves ≡ b .moves + 1
-  unfolding carried turned
+  unfolding carriedIn turnedIn
   act-moves (relocate i e) = refl
   act-moves (augment w) = refl

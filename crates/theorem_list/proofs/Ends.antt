@@ -16,12 +16,14 @@ use Rattle.lists.proofs.Pigeon.{has-here, has-later, both-missed}
 use Rattle.board.specs.Whole.{Board}
 use Rattle.graph_flows.specs.Trails.{Trail, go, downs}
 use Rattle.move_guard.specs.Parts.{flow, acyclicFlow, marked, demand, place}
-use Rattle.solve_next.specs.Choosing.{isHome, allHome}
+use Rattle.solve_next.specs.Choosing.{allHome, allHomeIn}
 use Rattle.solve_finish.specs.Finishes.{ended}
 use Rattle.report_routes.specs.Routes.{route, share, load, largest}
-use Rattle.theorem_keep.specs.Invariant.{Invariant}
-use Rattle.theorem_keep.proofs.Potential.{level, acyclic-rises}
+use Rattle.theorem_cycles.specs.Invariant.{Invariant}
+use Rattle.theorem_cycles.specs.Potential.{level}
+use Rattle.theorem_cycles.proofs.Potential.{acyclic-rises}
 use Rattle.theorem_list.specs.Complete.{verticesAlong, Simple, InUse}
+use Rattle.move_carry.specs.Opens.{isHome, isHomeIn}
 
 -- vertices along edges that all rise in level
 module _ (tails heads : List ℕ) (level : ℕ → ℕ) where
@@ -46,7 +48,7 @@ module _ (tails heads : List ℕ) (level : ℕ → ℕ) where
 
 module _ (b : Board) (inv : Invariant b) where
   pub home-facts : allHome b ≡ true → (i : ℕ) → i < b .network .terminals → place b i ≡ b .network .source
-  unfolding allHome isHome
+  unfolding allHomeIn isHomeIn
   home-facts all i h = eqb-true _ _ (all-from (isHome b) (b .network .terminals) i all h)
 
   pub simple-routes : allHome b ≡ true → (i : ℕ) → i < b .network .terminals → Simple b i
@@ -64,7 +66,7 @@ module _ (b : Board) (inv : Invariant b) where
   used e u =
       let whole : share b e (u .terminal) ≡ demand b (u .terminal) = pick-yes _ _ _ (u .holds) in
       let most = most-at (share b e) 0 (b .network .terminals) (u .terminal) (omega arith) (omega (arith, u .on-board)) in
-      omega (arith, whole, most, inv .lawful .demand (u .terminal) (u .on-board) .0)
+      omega (arith, whole, most, inv .sound .demand (u .terminal) (u .on-board))
 
   pub strictly-below : (e : ℕ) → InUse b e → load b e < acyclicFlow b e + largest b e
   strictly-below e u = by-mark (known (marked b e))

@@ -19,21 +19,22 @@ use Rattle.board.specs.declared.Network.{Network}
 use Rattle.board.specs.Whole.{Played}
 use Rattle.move_guard.specs.Guard.{playing}
 use Rattle.move_guard.proofs.Answers.{answered-yes}
-use Rattle.move_carry.specs.Carries.{carried}
-use Rattle.move_turn.specs.Turns.{turned}
 use Rattle.solve_next.specs.Choosing.{Act, relocate, augment, allHome, judge, acted, nextAct}
 use Rattle.solve_next.specs.Hints.{hintRefusal}
 use Rattle.solve_finish.specs.Finishes.{Finished}
 use Rattle.solve_finish.specs.Finishes.{stepped, steppedOn, playedOut, finishRefusal, ended, finishCall}
-use Rattle.theorem_keep.specs.Bound.{movesBound}
-use Rattle.theorem_keep.specs.Invariant.{Invariant}
-use Rattle.theorem_keep.proofs.Potential.{potential, bound-fits}
+use Rattle.theorem_cycles.specs.Bound.{movesBound}
+use Rattle.theorem_cycles.specs.Invariant.{Invariant}
+use Rattle.theorem_cycles.specs.Potential.{potential}
+use Rattle.theorem_keep.proofs.Bounds.{bound-fits}
 use Rattle.theorem_keep.proofs.Standing.{Standing, standing-playing}
 use Rattle.theorem_list.specs.Complete.{SolvedBy, Complete}
 use Rattle.theorem_list.proofs.Ends.{home-facts, ended-simple, ended-below}
 use Rattle.theorem_list.proofs.Acts.{act-standing, act-falls, act-network, act-acyclic, act-moves}
 use Rattle.theorem_list.proofs.Next.{next-accepted}
 use Rattle.theorem_list.proofs.Stops.{none-positive}
+use Rattle.move_carry.specs.Carries.{carriedIn}
+use Rattle.move_turn.specs.Turns.{turnedIn}
 
 -- the board after the solver's move
 abbrev pub next : Board → Board
@@ -107,7 +108,7 @@ record Solving (b c : Board) : Type 0 where
 
 -- an accepted move keeps the entries of before
 entries-kept : (b : Board) (a : Act) → take (b .moves) (acted b a .journal) ≡ take (b .moves) (b .journal)
-unfolding carried turned
+unfolding carriedIn turnedIn
 entries-kept b (relocate i e) = take-set-le (b .moves) (b .journal) (b .moves) _ (omega arith)
 entries-kept b (augment w) = take-set-le (b .moves) (b .journal) (b .moves) _ (omega arith)
 
@@ -137,7 +138,7 @@ module _ (b : Board) (st : Standing b) where
   over = out maxMoves b st
 
   fits : movesBound (b .network) ≤ maxMoves
-  fits = bound-fits (b .network) (st .inv .lawful)
+  fits = bound-fits (b .network) (st .within)
 
   -- as many steps as the journal has places are enough
   over-home : allHome (playedOut b) ≡ true
@@ -180,7 +181,7 @@ module _ (b : Board) (st : Standing b) where
     over = refl;
     kept = done .kept;
     blanks = inv .blanks;
-    places = inv .journal-size;
+    places = over .standing .journal-size;
     home = λ i h. home-facts (playedOut b) inv over-home i (within i h) ∙ ap (λ (n : Network). n .source) (over .network);
     simple = λ i h. ended-simple (playedOut b) inv (b .moves) over-home i (within i h);
     below = ended-below (playedOut b) inv (b .moves);

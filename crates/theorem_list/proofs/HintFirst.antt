@@ -9,7 +9,8 @@ use borrow.Author.Tests.{eq-eqb}
 use Rattle.lists.proofs.Laws.{pick-yes, pick-no}
 use Rattle.board.specs.Whole.{Board}
 use Rattle.solve_next.specs.Choosing.{allHome, acted, nextAct, noAdvice, adviceOf, actOf}
-use Rattle.solve_next.specs.Hints.{hintRefusal, nextAdvice, hintCall}
+use Rattle.solve_next.specs.Hints.{hintRefusal, nextAdviceIn, nextAdvice, hintCall}
+use Rattle.move_guard.proofs.Facts.{intact-vertices, playing-intact}
 use Rattle.solve_next.proofs.Advised.{advice-act}
 use Rattle.solve_finish.specs.Finishes.{ended, finishCall}
 use Rattle.theorem_keep.proofs.Standing.{Standing, standing-playing}
@@ -42,16 +43,16 @@ module _ (b : Board) (st : Standing b) where
 
   -- with every terminal at the source the hint gives none
   pub hint-none : allHome b ≡ true → hintCall b .advice ≡ noAdvice
-  unfolding nextAdvice
+  unfolding nextAdviceIn
   hint-none home = hint-given ∙ pick-yes (allHome b) _ _ home
 
   module _ (away : allHome b ≡ false) where
     pub hint-advice : hintCall b .advice ≡ adviceOf (nextAct b)
-    unfolding nextAdvice
+    unfolding nextAdviceIn
     hint-advice = hint-given ∙ pick-no (allHome b) _ _ away
 
     pub hint-act : actOf (hintCall b .advice) ≡ nextAct b
-    hint-act = ap actOf hint-advice ∙ advice-act b (standing-playing b st) (st .inv .flows-size ∙ st .inv .lawful .flows-size)
+    hint-act = ap actOf hint-advice ∙ advice-act (b .network) (b .flows) (b .marks) (b .places) (omega (arith, intact-vertices b (playing-intact b (standing-playing b st)))) (st .inv .flows-size ∙ st .within .flows-size)
 
     next-standing : Standing (next b)
     next-standing = act-standing b (nextAct b) st (next-accepted b st away)

@@ -1,6 +1,4 @@
-pub mod Degrees
 pub mod NextCarry
-pub mod Walks
 pub mod NextCycle
 pub mod Next
 pub mod Ends

@@ -1,4 +1,4 @@
--- No report of a board of play is longer than 2,948 bytes. A route that comes to no vertex twice has fewer edges than there are vertices, and each is an edge of
+-- No report of a board of play is longer than `longestReport`. A route that comes to no vertex twice has fewer edges than there are vertices, and each is an edge of
 -- the network, since places past the edges join vertex 0 with itself: at most 31 edges of two digits. The load of an edge in use is below its acyclic flow and
 -- its largest demand together, so below 2,000,000, and that of any other is 0. Lines of numbers below 10 are a byte shorter: `R,16,64` is 8 bytes long, the routes
 -- have ten lines of at most 100 and six of 101, the loads ten of 20 and fifty-four of 21.
@@ -6,7 +6,7 @@ use mathlib.Core.Path.{_≡_, sym, ap, _∙_}
 use mathlib.Core.Bool.{Bool, true, false, true≢false}
 use mathlib.Core.Logic.{_⊎_, inl, inr}
 use mathlib.Core.List.{List, [], _∷_, _++_}
-use Prim.Native.Nat.{ℕ, _+_, _^_, _<_, _≤_}
+use Prim.Native.Nat.{ℕ, _+_, _^_, _<_, _≤_, _*_, _-_}
 use native.Mathlib.Omega.{arith}
 use lib.ListN.{length, getD, replicate, length-append}
 use Rattle.lists.specs.Choice.{pick}
@@ -15,7 +15,9 @@ use Rattle.lists.specs.Inner.{Below}
 use Rattle.lists.proofs.Laws.{Known, was-true, was-false, known, lt-or-ge, pick-no}
 use Rattle.lists.proofs.Pigeon.{has-here}
 use Rattle.lists.proofs.Totals.{total-some, most-within}
-use Rattle.board.specs.Limits.{maxFlow}
+use Rattle.board.specs.Limits.{maxVertices, maxFlow}
+use Rattle.decimal.specs.Decimal.{maxDigits}
+use Rattle.text.specs.Sizes.{vertexDigits, edgeDigits, terminalDigits, routeWidth, loadWidth, longestReport}
 use Rattle.board.specs.Whole.{Board}
 use Rattle.board.specs.declared.Network.{Network}
 use Rattle.text_rules.specs.Rules.{Lawful}
@@ -28,10 +30,11 @@ use Rattle.graph_flows.specs.Trails.{Trail, go, downs}
 use Rattle.move_guard.specs.Parts.{acyclicFlow}
 use Rattle.solve_finish.specs.Finishes.{Finished}
 use Rattle.solve_finish.specs.Finishes.{finishCall}
-use Rattle.move_list.specs.Calls.{Call, played}
+use Rattle.move_list.specs.Calls.{Call, gameOf, played}
 use Rattle.report_routes.specs.Routes.{route, share, load, largest}
 use Rattle.report.specs.Reports.{routeRow, loadRow, reportText}
-use Rattle.theorem_keep.proofs.Network.{acyclic-of-below, flow-small}
+use Rattle.theorem_cycles.proofs.Network.{acyclic-of-below}
+use Rattle.theorem_keep.proofs.Kept.{text-flow-small}
 use Rattle.theorem_list.specs.Complete.{verticesAlong, Simple, InUse, Complete}
 use Rattle.theorem_list.proofs.EveryList.{every-list}
 use Rattle.theorem_list.proofs.Reports.{played-acyclic}
@@ -59,7 +62,7 @@ edges-below net law {v} (e ∷ es) (go s p t) once = (by (lt-or-ge e (net .edges
     by : (e < net .edges) ⊎ (net .edges ≤ e) → e < net .edges
     by (inl h) = h
     by (inr h) =
-        let loop : getD (net .heads) e 0 ≡ v = omega (arith, p, law .no-edge e h .0, law .no-edge e h .1) in
+        let loop : getD (net .heads) e 0 ≡ v = omega (arith, p, law .sound .no-edge e h .0, law .sound .no-edge e h .1) in
         absurd (true≢false (sym (along-first (net .heads) (getD (net .heads) e 0) v es loop) ∙ once .0))
 
 -- ---- the report of a board with simple routes and loads below the bound
@@ -68,19 +71,19 @@ module _ (c : Board) (law : Lawful (c .network)) (small : (e : ℕ) → acyclicF
     (simple : (i : ℕ) → i < c .network .terminals → Simple c i)
     (below : (e : ℕ) → InUse c e → load c e < acyclicFlow c e + largest c e) where
   -- the line of terminal i, whose number has at most d digits
-  route-line : (d i : ℕ) → 0 < d → i < 10 ^ d → i < c .network .terminals → length (lineText 77 (routeRow c i)) ≤ d + 99
+  route-line : (d i : ℕ) → 0 < d → i < 10 ^ d → i < c .network .terminals → length (lineText 77 (routeRow c i)) ≤ d + (routeWidth - terminalDigits)
   route-line d i some digits h =
-      let few = distinct-few (c .network) law (c .network .source) (route c i) (law .source) (simple i h .once) in
+      let few = distinct-few (c .network) (law .sound) (c .network .source) (route c i) (law .sound .source) (simple i h .once) in
       let on = edges-below (c .network) law (route c i) (simple i h .trail) (simple i h .once) in
-      let edges = each-within 2 31 (c .network .edges) (route c i) (omega arith) (omega (arith, law .edges)) on (omega (arith, few, law .vertices)) in
-      omega (arith, line-within 77 (d ∷ 2 ∷ replicate 31 2) (routeRow c i) (some, digits, (omega arith, omega (arith, few, law .vertices), edges)))
+      let edges = each-within edgeDigits (maxVertices - 1) (c .network .edges) (route c i) (omega arith) (omega (arith, law .within .edges)) on (omega (arith, few, law .within .vertices)) in
+      omega (arith, line-within 77 (d ∷ vertexDigits ∷ replicate (maxVertices - 1) edgeDigits) (routeRow c i) (some, digits, (omega arith, omega (arith, few, law .within .vertices), edges)))
 
   -- the largest demand over an edge, and its load
   largest-small : (e : ℕ) → largest c e ≤ maxFlow
   unfolding largest
   largest-small e =
       most-within (share c e) maxFlow 0 (c .network .terminals)
-      (λ i a b. pick-within (has e (route c i)) (getD (c .network .demands) i 0) maxFlow (law .demand i (omega arith) .1))
+      (λ i a b. pick-within (has e (route c i)) (getD (c .network .demands) i 0) maxFlow (law .within .demand i (omega arith)))
 
   holding : (e i : ℕ) → 0 < share c e i → has e (route c i) ≡ true
   holding e i h = by (known (has e (route c i)))
@@ -89,23 +92,22 @@ module _ (c : Board) (law : Lawful (c .network)) (small : (e : ℕ) → acyclicF
       by (was-true t) = t
       by (was-false t) = absurd (omega (arith, h, pick-no (has e (route c i)) (getD (c .network .demands) i 0) 0 t))
 
-  load-small : (e : ℕ) → load c e < 2000000
+  load-small : (e : ℕ) → load c e < 2 * maxFlow
   unfolding load
   load-small e = by (lt-or-ge 0 (load c e))
     where
-      by : (0 < load c e) ⊎ (load c e ≤ 0) → load c e < 2000000
+      by : (0 < load c e) ⊎ (load c e ≤ 0) → load c e < 2 * maxFlow
       by (inl h) = total-some (share c e) 0 (c .network .terminals) h λ i a b p.
           let used : InUse c e = record { terminal = i; on-board = omega arith; holds = holding e i p } in
           omega (arith, below e used, small e, largest-small e)
       by (inr h) = omega arith
 
   -- the line of edge e, whose number has at most d digits
-  load-line : (d e : ℕ) → 0 < d → e < 10 ^ d → e < c .network .edges → length (lineText 76 (loadRow c e)) ≤ d + 19
+  load-line : (d e : ℕ) → 0 < d → e < 10 ^ d → e < c .network .edges → length (lineText 76 (loadRow c e)) ≤ d + (loadWidth - edgeDigits)
   load-line d e some digits h =
-      omega (arith, line-within 76 (d ∷ 7 ∷ 7 ∷ []) (loadRow c e) (some, digits, omega (arith, small e, load-small e)))
+      omega (arith, line-within 76 (d ∷ maxDigits ∷ maxDigits ∷ []) (loadRow c e) (some, digits, omega (arith, small e, load-small e)))
 
-  -- 8 bytes for the first line, 1,606 for the routes, 1,334 for the loads
-  short-report : length (reportText c) ≤ 2948
+  short-report : length (reportText c) ≤ longestReport
   unfolding reportText
   short-report =
       let first : List ℕ = lineText 82 (c .network .terminals ∷ c .network .edges ∷ []) in
@@ -113,32 +115,32 @@ module _ (c : Board) (law : Lawful (c .network)) (small : (e : ℕ) → acyclicF
       let loads : List ℕ = linesText 76 (loadRow c) 0 (c .network .edges) in
       let whole = length-append first (routes ++ loads) in
       let rest = length-append routes loads in
-      let first-short = line-within 82 (2 ∷ 2 ∷ []) (c .network .terminals ∷ c .network .edges ∷ []) (omega (arith, law .terminals, law .edges)) in
+      let first-short = line-within 82 (terminalDigits ∷ edgeDigits ∷ []) (c .network .terminals ∷ c .network .edges ∷ []) (omega (arith, law .within .terminals, law .within .edges)) in
       let routes-short =
-      lines-parted 77 (routeRow c) 100 101 10 (c .network .terminals)
+      lines-parted 77 (routeRow c) (routeWidth - 1) routeWidth 10 (c .network .terminals)
       (λ i h g. route-line 1 i (omega arith) (omega arith) h)
-      (λ i h g. route-line 2 i (omega arith) (omega (arith, law .terminals)) h) in
+      (λ i h g. route-line terminalDigits i (omega arith) (omega (arith, law .within .terminals)) h) in
       let loads-short =
-      lines-parted 76 (loadRow c) 20 21 10 (c .network .edges)
+      lines-parted 76 (loadRow c) (loadWidth - 1) loadWidth 10 (c .network .edges)
       (λ e h g. load-line 1 e (omega arith) (omega arith) h)
-      (λ e h g. load-line 2 e (omega arith) (omega (arith, law .edges)) h) in
-      omega (arith, law .terminals, law .edges)
+      (λ e h g. load-line edgeDigits e (omega arith) (omega (arith, law .within .edges)) h) in
+      omega (arith, law .within .terminals, law .within .edges)
 
 -- ---- after every list of calls
 
 -- a board that finish completed, from a lawful network with a small acyclic flow
-complete-short : (b : Board) (f : Finished) → Complete b f → Lawful (b .network) → ((e : ℕ) → acyclicFlow b e ≤ maxFlow) → length (reportText (f .board)) ≤ 2948
+complete-short : (b : Board) (f : Finished) → Complete b f → Lawful (b .network) → ((e : ℕ) → acyclicFlow b e ≤ maxFlow) → length (reportText (f .board)) ≤ longestReport
 complete-short b f done law small =
     short-report (f .board) (rw (done .network) law) (λ e. rw (done .acyclic) (small e))
     (λ i h. done .simple i (omega (arith, h, ap (λ (n : Network). n .terminals) (done .network)))) (done .below)
 
 pub report-short : (text : List ℕ) (cs : List Call) → loadText text .answer ≡ 0
-    → length (reportText (finishCall (played (loadText text .board) cs) .board)) ≤ 2948
+    → length (reportText (finishCall (played (gameOf (loadText text .board)) cs .board) .board)) ≤ longestReport
 report-short text cs loads =
     let faithful = every-list text cs loads in
     let net : Network = readText text .network in
     let law : Lawful net = loaded-lawful text loads in
     let first = load-accepted text loads in
-    let network : played (loadText text .board) cs .network ≡ net = faithful .network ∙ ap (λ (b : Board). b .network) first in
-    complete-short (played (loadText text .board) cs) (finishCall (played (loadText text .board) cs)) (faithful .finish) (rw network law)
-    (λ e. rw (played-acyclic text cs loads) (omega (arith, acyclic-of-below net law e, flow-small net law e)))
+    let network : played (gameOf (loadText text .board)) cs .board .network ≡ net = faithful .network ∙ ap (λ (b : Board). b .network) first in
+    complete-short (played (gameOf (loadText text .board)) cs .board) (finishCall (played (gameOf (loadText text .board)) cs .board)) (faithful .finish) (rw network law)
+    (λ e. rw (played-acyclic text cs loads) (omega (arith, acyclic-of-below net (law .sound) e, text-flow-small net (law .sound) (law .within) e)))

@@ -5,15 +5,16 @@ use mathlib.Core.Bool.{false}
 use Rattle.lists.proofs.Laws.{Known, was-true, was-false, known, pick-yes, pick-no}
 use Rattle.board.specs.Whole.{Board}
 use Rattle.move_carry.specs.Opens.{openTerminal, someOpen}
-use Rattle.solve_next.specs.Choosing.{allHome, chosenEdge, judge, nextCycle, nextAct}
+use Rattle.solve_next.specs.Choosing.{allHome, judge, nextCycle, nextAct, nextActIn}
 use Rattle.theorem_keep.proofs.Carriable.{carry-accepted}
 use Rattle.theorem_keep.proofs.Turnable.{turn-accepted}
 use Rattle.theorem_keep.proofs.Standing.{Standing, standing-playing}
 use Rattle.theorem_list.proofs.NextCarry.{chosen-carriable}
 use Rattle.theorem_list.proofs.NextCycle.{cycle-turnable}
+use Rattle.solve_carry.specs.Search.{chosenEdge}
 
 pub next-accepted : (b : Board) → Standing b → allHome b ≡ false → judge b (nextAct b) ≡ 0
-unfolding nextAct
+unfolding nextActIn
 next-accepted b st away = go (known (someOpen b))
   where
     go : Known (someOpen b) → judge b (nextAct b) ≡ 0

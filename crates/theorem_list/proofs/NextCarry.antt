@@ -6,12 +6,12 @@ use Prim.Native.Nat.{ℕ, _<_}
 use native.Mathlib.Omega.{arith}
 use Rattle.board.specs.Whole.{Board}
 use Rattle.move_carry.specs.Opens.{isOpen, openTerminal, someOpen}
-use Rattle.theorem_keep.specs.Invariant.{Invariant}
-use Rattle.theorem_keep.specs.Allowed.{Carriable}
-use Rattle.theorem_keep.proofs.Carriable.{open-facts}
-use Rattle.solve_next.specs.Choosing.{chosenEdge}
+use Rattle.theorem_cycles.specs.Invariant.{Invariant}
+use Rattle.theorem_cycles.specs.Allowed.{Carriable}
+use Rattle.theorem_cycles.proofs.Openings.{open-facts}
 use Rattle.solve_finish.proofs.Making.{chosen}
-use Rattle.theorem_list.proofs.Degrees.{never-enters}
+use Rattle.theorem_cycles.proofs.Degrees.{never-enters}
+use Rattle.solve_carry.specs.Search.{chosenEdge}
 
 -- an open carry keeps the rules
 open-carriable : (b : Board) → Invariant b → (i e : ℕ) → i < b .network .terminals → e < b .network .edges → isOpen b i e ≡ true → Carriable b i e
@@ -20,7 +20,7 @@ open-carriable b inv i e g h t =
     record {
       terminal = g;
       edge = h;
-      away = λ q. never-enters b inv e (omega (arith, f .1, inv .lawful .demand i g .0)) (f .0 ∙ q);
+      away = λ q. never-enters b inv e (omega (arith, f .1, inv .sound .demand i g)) (f .0 ∙ q);
       enters = f .0;
       covers = f .1;
       exact = f .2;

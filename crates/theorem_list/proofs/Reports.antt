@@ -21,7 +21,7 @@ use Rattle.report.specs.Reports.{started, unreported, reportText}
 use Rattle.sheet_output.specs.Outputs.{reportOf, finishOutput, sheetOutput}
 use Rattle.solve_finish.specs.Finishes.{Finished}
 use Rattle.solve_finish.specs.Finishes.{playedOut, ended, finishCall}
-use Rattle.move_list.specs.Calls.{Call, played}
+use Rattle.move_list.specs.Calls.{Call, gameOf, played}
 use Rattle.theorem_keep.proofs.Standing.{Standing, loaded-standing, standing-playing}
 use Rattle.theorem_list.specs.Player.{standingMoves}
 use Rattle.theorem_list.proofs.Finish.{over, finish-result, finish-completes}
@@ -43,13 +43,13 @@ module _ (b : Board) (st : Standing b) where
   standing-unreported : unreported b ≡ 28
   unfolding unreported
   standing-unreported =
-      let loaded = all-started b (omega (arith, st .stage)) (omega (arith, st .stage)) standing-intact (routes-fit b (st .inv)) in
+      let loaded = all-started b (omega (arith, st .stage)) (omega (arith, st .stage)) standing-intact (routes-fit b (st .inv) (st .within)) in
       pick-yes (started b) _ 29 loaded ∙ pick-no (eqb (b .stage) finishedStage) 0 28 (ne-eqb (b .stage) finishedStage (λ q. omega (arith, st .stage, q)))
 
   ended-reported : (from : ℕ) → unreported (ended from b) ≡ 0
   unfolding unreported intact routesFit route
   ended-reported from =
-      let loaded = all-started (ended from b) (omega arith) (omega arith) standing-intact (routes-fit b (st .inv)) in
+      let loaded = all-started (ended from b) (omega arith) (omega arith) standing-intact (routes-fit b (st .inv) (st .within)) in
       pick-yes (started (ended from b)) _ 29 loaded ∙ pick-yes (eqb finishedStage finishedStage) 0 28 (eq-eqb finishedStage finishedStage refl)
 
 pub finished-reported : (b : Board) → Standing b → unreported (finishCall b .board) ≡ 0
@@ -61,26 +61,26 @@ unfolding finishOutput reportOf
 report-printed f taken there = pick-yes (eqb (f .answer) 0) _ _ (eq-eqb _ 0 taken) ∙ pick-yes (eqb (unreported (f .board)) 0) _ _ (eq-eqb _ 0 there)
 
 -- the board after any calls is one of play
-pub played-standing : (text : List ℕ) (cs : List Call) → loadText text .answer ≡ 0 → Standing (played (loadText text .board) cs)
+pub played-standing : (text : List ℕ) (cs : List Call) → loadText text .answer ≡ 0 → Standing (played (gameOf (loadText text .board)) cs .board)
 played-standing text cs loads =
     rw (every-list text cs loads .board) (stands-follows text loads (standingMoves text [] cs) (all-stand text loads [] cs none) .standing)
 
-pub every-report : (text : List ℕ) (cs : List Call) → loadText text .answer ≡ 0 → Reported (played (loadText text .board) cs)
+pub every-report : (text : List ℕ) (cs : List Call) → loadText text .answer ≡ 0 → Reported (played (gameOf (loadText text .board)) cs .board)
 every-report text cs loads =
     let st = played-standing text cs loads in
     record {
-      before = standing-unreported (played (loadText text .board) cs) st;
+      before = standing-unreported (played (gameOf (loadText text .board)) cs .board) st;
       complete = every-list text cs loads .finish;
-      after = finished-reported (played (loadText text .board) cs) st;
+      after = finished-reported (played (gameOf (loadText text .board)) cs .board) st;
     }
 
 -- the acyclic flow stays that of the text, in play and at its end
 pub played-acyclic : (text : List ℕ) (cs : List Call) → loadText text .answer ≡ 0
-    → played (loadText text .board) cs .acyclic ≡ acyclicOf (readText text .network)
+    → played (gameOf (loadText text .board)) cs .board .acyclic ≡ acyclicOf (readText text .network)
 played-acyclic text cs loads = every-list text cs loads .acyclic ∙ ap (λ (b : Board). b .acyclic) (load-accepted text loads)
 
 pub finished-acyclic : (text : List ℕ) (cs : List Call) → loadText text .answer ≡ 0
-    → finishCall (played (loadText text .board) cs) .board .acyclic ≡ acyclicOf (readText text .network)
+    → finishCall (played (gameOf (loadText text .board)) cs .board) .board .acyclic ≡ acyclicOf (readText text .network)
 finished-acyclic text cs loads = every-list text cs loads .finish .acyclic ∙ played-acyclic text cs loads
 
 pub sheet-printed : (text : List ℕ) → loadText text .answer ≡ 0 → Printed text (loadText text .board)

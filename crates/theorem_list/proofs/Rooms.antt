@@ -15,12 +15,14 @@ use Rattle.lists.proofs.Pigeon.{pigeon}
 use Rattle.board.specs.Limits.{maxVertices}
 use Rattle.board.specs.Whole.{Board}
 use Rattle.board.specs.declared.Network.{Network}
-use Rattle.text_rules.specs.Rules.{Lawful}
+use Rattle.text_rules.specs.Sound.{Sound}
+use Rattle.text_rules.specs.Rules.{Within}
 use Rattle.move_guard.specs.Parts.{place}
 use Rattle.report_routes.specs.Routes.{route}
 use Rattle.report_routes.specs.Tables.{routesFit}
-use Rattle.theorem_keep.specs.Invariant.{Invariant}
-use Rattle.theorem_keep.proofs.Potential.{level, acyclic-rises}
+use Rattle.theorem_cycles.specs.Invariant.{Invariant}
+use Rattle.theorem_cycles.specs.Potential.{level}
+use Rattle.theorem_cycles.proofs.Potential.{acyclic-rises}
 use Rattle.theorem_list.specs.Complete.{verticesAlong}
 use Rattle.theorem_list.proofs.Ends.{rising-once}
 
@@ -33,14 +35,14 @@ vertices-along-below : (heads : List ℕ) (n v : ℕ) (es : List ℕ) → v < n 
 vertices-along-below heads n v [] h ends = (h, tt)
 vertices-along-below heads n v (e ∷ es) h ends = (h, vertices-along-below heads n (getD heads e 0) es (ends e) ends)
 
-module _ (net : Network) (law : Lawful net) where
+module _ (net : Network) (sound : Sound net) where
   -- a place past the edges holds 0, which is a vertex
   head-below : (e : ℕ) → getD (net .heads) e 0 < net .vertices
   head-below e = go (lt-or-ge e (net .edges))
     where
       go : (e < net .edges) ⊎ (net .edges ≤ e) → getD (net .heads) e 0 < net .vertices
-      go (inl h) = law .head e h
-      go (inr h) = omega (arith, law .no-edge e h .1, law .vertices)
+      go (inl h) = sound .head e h
+      go (inr h) = omega (arith, sound .no-edge e h .1, sound .source)
 
   -- edges that lead over distinct vertices are fewer than the vertices
   pub distinct-few : (v : ℕ) (es : List ℕ) → v < net .vertices → Distinct (verticesAlong (net .heads) v es) → length es < net .vertices
@@ -49,12 +51,12 @@ module _ (net : Network) (law : Lawful net) where
       let few = pigeon (net .vertices) (verticesAlong (net .heads) v es) once below in
       omega (arith, few, vertices-along-length (net .heads) v es)
 
-module _ (b : Board) (inv : Invariant b) where
+module _ (b : Board) (inv : Invariant b) (within : Within (b .network)) where
   route-short : (i : ℕ) → i < b .network .terminals → length (route b i) ≤ maxVertices
   route-short i h =
       let once =
       rising-once (b .network .tails) (b .network .heads) (level b) (route b i) (inv .routes i h) (λ e t. acyclic-rises b inv e (inv .on-routes i e h t)) in
-      omega (arith, distinct-few (b .network) (inv .lawful) (place b i) (route b i) (inv .placed i h) once, inv .lawful .vertices)
+      omega (arith, distinct-few (b .network) (inv .sound) (place b i) (route b i) (inv .placed i h) once, within .vertices)
 
   pub routes-fit : routesFit b ≡ true
   unfolding routesFit

@@ -12,10 +12,11 @@ use Rattle.graph_flows.proofs.Sums.{sum-entry}
 use Rattle.graph_flows.proofs.Rank.{rank-below}
 use Rattle.move_guard.specs.Parts.{flow, tail, head}
 use Rattle.solve_next.specs.Choosing.{allHome}
-use Rattle.theorem_keep.specs.Invariant.{Invariant}
-use Rattle.theorem_keep.proofs.Potential.{level, level-rises}
-use Rattle.theorem_keep.proofs.TurnedMarks.{positive-inside}
-use Rattle.theorem_list.proofs.Degrees.{never-enters, in-at-least, at-terminal}
+use Rattle.theorem_cycles.specs.Invariant.{Invariant}
+use Rattle.theorem_cycles.specs.Potential.{level}
+use Rattle.theorem_cycles.proofs.Potential.{level-rises}
+use Rattle.theorem_cycles.proofs.TurnedMarks.{positive-inside}
+use Rattle.theorem_cycles.proofs.Degrees.{never-enters, in-at-least, at-terminal}
 use Rattle.theorem_list.proofs.Ends.{home-facts}
 
 module _ (b : Board) (inv : Invariant b) (home : allHome b ≡ true) where
@@ -40,7 +41,7 @@ module _ (b : Board) (inv : Invariant b) (home : allHome b ≡ true) where
   further e h =
       let v = head b e in
       let away : v ≢ b .network .source = never-enters b inv e h in
-      let inside : v < b .network .vertices = inv .lawful .head e (positive-inside b inv e h) in
+      let inside : v < b .network .vertices = inv .sound .head e (positive-inside b inv e h) in
       let most : flow b e ≤ sumAt (b .network .heads) (b .flows) v = in-at-least b inv v e (record { start = refl; above = h }) in
       let out : 0 < sumAt (b .network .tails) (b .flows) v = omega (arith, h, most, inv .balance v inside away, none-needed v away) in
       let w = sum-entry (b .network .tails) (b .flows) v out in
@@ -49,7 +50,7 @@ module _ (b : Board) (inv : Invariant b) (home : allHome b ≡ true) where
   -- no positive edge leads to a vertex with k ranks or fewer above it
   never-positive : (k e : ℕ) → b .network .vertices ≤ k + level b (head b e) → 0 < flow b e → ⊥
   never-positive zero e low h =
-      let below = rank-below (b .network .tails) (b .network .heads) (b .acyclic) (b .network .vertices) (head b e) (inv .lawful .head e (positive-inside b inv e h)) in
+      let below = rank-below (b .network .tails) (b .network .heads) (b .acyclic) (b .network .vertices) (head b e) (inv .sound .head e (positive-inside b inv e h)) in
       omega (arith, low, below)
   never-positive (suc k) e low h =
       let g = further e h in

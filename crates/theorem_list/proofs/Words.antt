@@ -9,12 +9,12 @@ use Rattle.journal.specs.Words.{packed, blankWords, noWords}
 use Rattle.journal.proofs.Places.{packed-at}
 use Rattle.load.specs.Load.{loadText}
 use Rattle.load.proofs.Lent.{loaded-words}
-use Rattle.move_list.specs.Calls.{Call, played}
+use Rattle.move_list.specs.Calls.{Call, gameOf, played}
 use Rattle.move_list.specs.Words.{wordsPlayed}
 use Rattle.move_list.proofs.Worded.{Kept, played-kept}
 
-pub calls-kept : (text : List ℕ) (cs : List Call) → Kept (played (loadText text .board) cs) (wordsPlayed (loadText text .board) cs noWords)
-calls-kept text cs = played-kept (loadText text .board) cs noWords (loaded-words text)
+pub calls-kept : (text : List ℕ) (cs : List Call) → Kept (played (gameOf (loadText text .board)) cs .board) (wordsPlayed (gameOf (loadText text .board)) cs noWords)
+calls-kept text cs = played-kept (gameOf (loadText text .board)) cs noWords (loaded-words text)
 
 -- where the journal is blank the words are
 pub blank-words : (b : Board) (w : List (List ℕ)) → Kept b w → ((i : ℕ) → b .moves ≤ i → getD (b .journal) i blank ≡ blank)

@@ -14,7 +14,7 @@ use Rattle.solve_next.specs.Choosing.{allHome, judge, acted, nextAct}
 use Rattle.solve_finish.specs.Finishes.{Finished}
 use Rattle.solve_finish.specs.Finishes.{ended, finishCall}
 use Rattle.report_routes.specs.Routes.{route, load, largest}
-use Rattle.theorem_keep.specs.Bound.{movesBound}
+use Rattle.theorem_cycles.specs.Bound.{movesBound}
 
 -- the vertices that edges lead over, from v on
 abbrev pub verticesAlong : List ℕ → ℕ → List ℕ → List ℕ

@@ -13,9 +13,9 @@ use Rattle.load.specs.Load.{loadText}
 use Rattle.move_guard.specs.Guard.{playing}
 use Rattle.solve_finish.specs.Finishes.{finishCall}
 use Rattle.report_routes.specs.Routes.{route}
-use Rattle.move_list.specs.Calls.{Call, played, answers, hintsOf}
+use Rattle.move_list.specs.Calls.{Call, gameOf, played, answers, hintsOf}
 use Rattle.move_list.specs.Words.{wordsPlayed}
-use Rattle.theorem_list.specs.Player.{afresh, standingMoves, says, suggests, routeOf}
+use Rattle.theorem_list.specs.Player.{afresh, standingMoves, says, suggests, routeOf, callsAgain}
 use Rattle.theorem_list.specs.Complete.{Complete}
 
 -- b, the board after the calls cs on the board that the text gave, is the reference player's, and so were the answers; and finish completes it
@@ -27,22 +27,22 @@ pub record Faithful (text : List ℕ) (cs : List Call) (b : Board) : Type 0 wher
   pub board : b ≡ afresh text (standingMoves text [] cs)
   pub routes : (i : ℕ) → route b i ≡ routeOf i (standingMoves text [] cs)
   -- "equals the one that a fresh load of the same text gives once the standing moves alone are called in order"
-  pub again : b ≡ played (loadText text .board) (standingMoves text [] cs)
+  pub again : b ≡ played (gameOf (loadText text .board)) (callsAgain (standingMoves text [] cs)) .board
   pub moves : b .moves ≡ length (standingMoves text [] cs)
   -- "The journal has 1,056 places": in the words that were lent to the load and the calls each is packed of the journal's entry
   pub places : length (b .journal) ≡ maxMoves
-  pub words : wordsPlayed (loadText text .board) cs noWords ≡ packedAll (b .journal)
+  pub words : wordsPlayed (gameOf (loadText text .board)) cs noWords ≡ packedAll (b .journal)
   -- "places beyond the standing moves all hold the same fixed blank": of the entries, and of the words
   pub blanks : (i : ℕ) → b .moves ≤ i → getD (b .journal) i blank ≡ blank
-  pub blank-words : (i : ℕ) → b .moves ≤ i → getD (wordsPlayed (loadText text .board) cs noWords) i blankWords ≡ blankWords
+  pub blank-words : (i : ℕ) → b .moves ≤ i → getD (wordsPlayed (gameOf (loadText text .board)) cs noWords) i blankWords ≡ blankWords
   -- the standing moves are each accepted when they are called again
-  pub accepted-again : answers (loadText text .board) (standingMoves text [] cs) ≡ replicate (length (standingMoves text [] cs)) 0
+  pub accepted-again : answers (gameOf (loadText text .board)) (callsAgain (standingMoves text [] cs)) ≡ replicate (length (standingMoves text [] cs)) 0
   -- play goes on, so that no answer was 20
   pub in-play : playing b ≡ true
-  pub none-over : has 20 (answers (loadText text .board) cs) ≡ false
+  pub none-over : has 20 (answers (gameOf (loadText text .board)) cs) ≡ false
   -- "Each carry, turn and undo answered this player's number"; each hint was that of "this player's board at that point"
-  pub same-answers : answers (loadText text .board) cs ≡ says text [] cs
-  pub same-hints : hintsOf (loadText text .board) cs ≡ suggests text [] cs
+  pub same-answers : answers (gameOf (loadText text .board)) cs ≡ says text [] cs
+  pub same-hints : hintsOf (gameOf (loadText text .board)) cs ≡ suggests text [] cs
   -- finish completes the board, and its moves are packed into the words behind those that stood
   pub finish : Complete b (finishCall b)
-  pub finish-words : wordsAfter (b .moves) (finishCall b .board) (wordsPlayed (loadText text .board) cs noWords) ≡ packedAll (finishCall b .board .journal)
+  pub finish-words : wordsAfter (b .moves) (finishCall b .board) (wordsPlayed (gameOf (loadText text .board)) cs noWords) ≡ packedAll (finishCall b .board .journal)

@@ -78,7 +78,7 @@ fn trials() -> Part {
         }
         let (loading, mut player) = Player::load(text);
         let mut numbers = vec![loading];
-        numbers.extend(calls.iter().map(|call| call_by_reference(&mut player, call)));
+        numbers.extend(calls.iter().filter_map(|call| call_by_reference(&mut player, call)));
         numbers.extend(match player.finish() {
             Ok(count) => [0, count as u32],
             Err(refusal) => [refusal, 0],

@@ -16,7 +16,8 @@ same-length-2 c = search needs
 
 returns : tie.Need-returns
 returns c =
-    let at-play = c .before .before .before .before .before .before .before .before in
+    let stored = c .before .before .before .before in
+    let at-play = stored .before .before .before .before in
     let gave = at-play .play-through .ensures in
     let through = gave .0 in (
       ap (λ (o : Outcome). o .finish .answer) through,

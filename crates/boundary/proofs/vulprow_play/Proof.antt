@@ -4,7 +4,7 @@ use lib.Seq.{sets}
 use Rattle.board.specs.Whole.{Board}
 use Rattle.journal.specs.Words.{packedAll}
 use Rattle.load.specs.Load.{Loaded}
-use Rattle.move_list.specs.Calls.{answers, hintsOf, noted}
+use Rattle.move_list.specs.Calls.{gameOf, answers, hintsOf, noted}
 use Rattle.move_list.specs.Codes.{callsOf}
 use Rattle.playthrough.proofs.Words.{after-calls, kept, from-load}
 use borrow.Author.Needs.{needs}
@@ -39,9 +39,9 @@ returns c =
     let end = after-calls text calls opened empty (loads .0) (loads .1) table words (runs .0) (runs .1 .0) in
     let packs = kept text calls opened empty (loads .0) (loads .1) table words (runs .0) (runs .1 .0) ∙ ap (λ (b : Board). packedAll (b .journal)) end in
     let given = runs .1 .1 .0
-    ∙ from-load text calls opened empty (loads .0) (loads .1) table words (runs .0) (runs .1 .0) (λ b. sets (args .given .now) 0 (answers b calls)) in
+    ∙ from-load text calls opened empty (loads .0) (loads .1) table words (runs .0) (runs .1 .0) (λ b. sets (args .given .now) 0 (answers (gameOf b) calls)) in
     let hints = runs .1 .1 .1
-    ∙ from-load text calls opened empty (loads .0) (loads .1) table words (runs .0) (runs .1 .0) (λ b. noted (args .hints .now) 0 (hintsOf b calls)) in (
+    ∙ from-load text calls opened empty (loads .0) (loads .1) table words (runs .0) (runs .1 .0) (λ b. noted (args .hints .now) 0 (hintsOf (gameOf b) calls)) in (
       ap (λ (l : Loaded). l .answer) (loads .0),
       (
         given,

@@ -5,6 +5,7 @@ use native.Mathlib.Nat.{sub-zero}
 use native.Mathlib.Omega.{arith}
 use lib.ListN.{length}
 use lib.Seq.{sets, length-sets}
+use Rattle.text.specs.Sizes.{lineBytes}
 use Rattle.text.specs.Text.{linesText}
 use Rattle.text_writer.proofs.Writing.{TextLeft, lines-turned, lines-done}
 use Rattle.catalog.specs.Catalog.{tableRow}
@@ -14,7 +15,7 @@ use Rattle.catalog.proofs.put_rows.Tie as tie
 
 abbrev Inv-loop : tie.InvT-loop
 Inv-loop buf₀ at letter t width count to₀ i₀ buf to i =
-    (i ≤ count) × (to ≤ at + 46 * i)
+    (i ≤ count) × (to ≤ at + lineBytes 4 * i)
     × TextLeft buf (sets buf₀ at (linesText letter (tableRow width t) 0 count)) to (at + length (linesText letter (tableRow width t) 0 count))
     (linesText letter (tableRow width t) i (count - i))
 
@@ -55,10 +56,13 @@ loop-less c = omega arith
 
 loop-again : tie.Need-loop-again Inv-loop μ-loop
 loop-again c =
+    let in-loop = c .before .before .before .before .before in
+    let looping = in-loop .before in
+    let start = looping .before .before .before in
     let at-put-line = c .before .before .put-line in
-    let at-loop-test = c .before .before .before .before .before .loop-test in
-    let at-loop = c .before .before .before .before .before .before .loop in
-    let at-args = c .before .before .before .before .before .before .before .before .before .args in (
+    let at-loop-test = in-loop .loop-test in
+    let at-loop = looping .loop in
+    let at-args = start .args in (
       omega arith,
       omega (arith, at-put-line .ensures .1 .0, row-length (at-args .width) (at-loop .i) (at-args .t .now)),
       lines-turned _ _ _ _ (at-loop-test .taken) (at-loop .inv .2) _ _ _ (row-part (at-args .width) (at-loop .i) (at-args .t .now))

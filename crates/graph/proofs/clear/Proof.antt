@@ -1,5 +1,5 @@
 -- The vertices passed are alone in their bitsets.
-use mathlib.Core.Path.{_≡_, refl, _∙_}
+use mathlib.Core.Path.{_≡_, refl, ap, _∙_}
 use Prim.Native.Nat.{ℕ, _-_, _≤_, _<_}
 use lib.ListN.{length, getD, length-set}
 use Rattle.lists.proofs.Laws.{pick-yes}
@@ -11,11 +11,14 @@ use Rattle.graph.proofs.clear.Statement.{statement}
 use Rattle.graph.proofs.clear.Tie as tie
 
 abbrev Inv-loop : tie.InvT-loop
-Inv-loop bitsets₀ v₀ bitsets v =
+Inv-loop bitsets₀ none v₀ bitsets v =
     (v ≤ length bitsets₀) × (length bitsets ≡ length bitsets₀) × ((k : ℕ) → k < v → getD bitsets k 0 ≡ withBit 0 k)
 
 abbrev μ-loop : tie.MeasureT-loop
-μ-loop bitsets₀ v₀ bitsets v = length bitsets₀ - v
+μ-loop bitsets₀ none v₀ bitsets v = length bitsets₀ - v
+
+none-requires : tie.Need-none-requires Inv-loop μ-loop
+none-requires c κs = search needs
 
 loop-holds : tie.Need-loop-holds Inv-loop μ-loop
 loop-holds c = (omega arith, refl, λ k h. absurd (omega arith))
@@ -42,7 +45,7 @@ loop-again c =
     let inside : at-loop .v < length (at-loop .bitsets) = omega arith in (
       omega arith,
       length-set (at-loop .bitsets) (at-loop .v) _ ∙ at-loop .inv .1,
-      stored-more (withBit 0) (at-loop .bitsets) (at-loop .v) _ 0 inside (at-loop .inv .2) (at-with .ensures ∙ pick-yes _ _ _ refl),
+      stored-more (withBit 0) (at-loop .bitsets) (at-loop .v) _ 0 inside (at-loop .inv .2) (at-with .ensures ∙ pick-yes _ _ _ refl ∙ ap (λ (m : ℕ). withBit m (at-loop .v)) (c .before .before .before .none .ensures)),
     )
 
 same-length : tie.Need-same-length Inv-loop μ-loop
@@ -59,6 +62,7 @@ clear-spec =
     (tie.spec
     Inv-loop
     μ-loop
+    none-requires
     loop-holds
     with-requires
     mul-bitsets

@@ -1,4 +1,4 @@
--- The bitsets passed are empty.
+-- The sets passed are empty.
 use mathlib.Core.Path.{_≡_, refl, _∙_}
 use Prim.Native.Nat.{ℕ, _-_, _≤_, _<_}
 use lib.ListN.{length, getD, length-set}
@@ -9,20 +9,23 @@ use Rattle.graph.proofs.empty.Statement.{statement}
 use Rattle.graph.proofs.empty.Tie as tie
 
 abbrev Inv-loop : tie.InvT-loop
-Inv-loop bitsets₀ v₀ bitsets v =
-    (v ≤ length bitsets₀) × (length bitsets ≡ length bitsets₀) × ((k : ℕ) → k < v → getD bitsets k 0 ≡ 0)
+Inv-loop edges₀ none v₀ edges v =
+    (v ≤ length edges₀) × (length edges ≡ length edges₀) × ((k : ℕ) → k < v → getD edges k 0 ≡ none)
 
 abbrev μ-loop : tie.MeasureT-loop
-μ-loop bitsets₀ v₀ bitsets v = length bitsets₀ - v
+μ-loop edges₀ none v₀ edges v = length edges₀ - v
+
+none-requires : tie.Need-none-requires Inv-loop μ-loop
+none-requires c κs = search needs
 
 loop-holds : tie.Need-loop-holds Inv-loop μ-loop
 loop-holds c = (omega arith, refl, λ k h. absurd (omega arith))
 
-mul-bitsets : tie.Need-mul-bitsets Inv-loop μ-loop
-mul-bitsets c = search needs
+mul-edges : tie.Need-mul-edges Inv-loop μ-loop
+mul-edges c = search needs
 
-slice-write-bitsets : tie.Need-slice-write-bitsets Inv-loop μ-loop
-slice-write-bitsets c = omega arith
+slice-write-edges : tie.Need-slice-write-edges Inv-loop μ-loop
+slice-write-edges c = omega arith
 
 add-v : tie.Need-add-v Inv-loop μ-loop
 add-v c = omega arith
@@ -33,17 +36,18 @@ loop-less c = omega arith
 loop-again : tie.Need-loop-again Inv-loop μ-loop
 loop-again c =
     let at-loop = c .before .loop in
-    let inside : at-loop .v < length (at-loop .bitsets) = omega arith in (
+    let at-none = c .before .before .none in
+    let inside : at-loop .v < length (at-loop .edges) = omega arith in (
       omega arith,
-      length-set (at-loop .bitsets) (at-loop .v) 0 ∙ at-loop .inv .1,
-      stored-more (λ (k : ℕ). 0) (at-loop .bitsets) (at-loop .v) 0 0 inside (at-loop .inv .2) refl,
+      length-set (at-loop .edges) (at-loop .v) _ ∙ at-loop .inv .1,
+      stored-more (λ (k : ℕ). at-none .result) (at-loop .edges) (at-loop .v) (at-none .result) 0 inside (at-loop .inv .2) refl,
     )
 
 same-length : tie.Need-same-length Inv-loop μ-loop
 same-length c = c .before .loop .inv .1
 
 returns : tie.Need-returns Inv-loop μ-loop
-returns c = λ k h. c .before .loop .inv .2 k (omega arith)
+returns c = λ k h. c .before .loop .inv .2 k (omega arith) ∙ c .before .before .none .ensures
 
 pub empty-spec : {M : Type 1} → statement M
 empty-spec =
@@ -51,9 +55,10 @@ empty-spec =
     (tie.spec
     Inv-loop
     μ-loop
+    none-requires
     loop-holds
-    mul-bitsets
-    slice-write-bitsets
+    mul-edges
+    slice-write-edges
     add-v
     loop-less
     loop-again

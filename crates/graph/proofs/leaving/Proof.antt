@@ -1,4 +1,4 @@
--- For each vertex, the edges left, collected into its bitset, give the whole set of the edges that lead on from it.
+-- For each vertex, the edges left, collected into its set, give the whole set of the edges that lead on from it.
 use mathlib.Core.Path.{_≡_, refl}
 use Prim.Native.Nat.{ℕ, _-_, _<_}
 use lib.ListN.{length, getD}
@@ -12,13 +12,13 @@ use Rattle.graph.proofs.leaving.Statement.{statement}
 use Rattle.graph.proofs.leaving.Tie as tie
 
 abbrev Inv-loop : tie.InvT-loop
-Inv-loop from to flows seen bitsets₀ e₀ bitsets e =
-    (length bitsets ≡ length bitsets₀)
-    × ((v : ℕ) → v < length bitsets₀
-    → collect (leads from to flows seen v) (getD bitsets v 0) e (length flows - e) ≡ collect (leads from to flows seen v) 0 0 (length flows))
+Inv-loop from to flows seen edges₀ e₀ edges e =
+    (length edges ≡ length edges₀)
+    × ((v : ℕ) → v < length edges₀
+    → collect (leads from to flows seen v) (getD edges v 0) e (length flows - e) ≡ collect (leads from to flows seen v) 0 0 (length flows))
 
 abbrev μ-loop : tie.MeasureT-loop
-μ-loop from to flows seen bitsets₀ e₀ bitsets e = length flows - e
+μ-loop from to flows seen edges₀ e₀ edges e = length flows - e
 
 empty-requires : tie.Need-empty-requires Inv-loop μ-loop
 empty-requires c κs = search needs

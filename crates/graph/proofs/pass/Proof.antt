@@ -41,11 +41,15 @@ loop-less c = omega arith
 
 loop-again : tie.Need-loop-again Inv-loop μ-loop
 loop-again c =
+    let after-cross = c .before .before .before in
+    let in-loop = after-cross .before .before in
+    let looping = in-loop .before in
+    let start = looping .before .before .before .before .before in
     let at-or = c .or in
-    let at-cross = c .before .before .before .cross in
-    let at-loop-test = c .before .before .before .before .before .loop-test in
-    let at-loop = c .before .before .before .before .before .before .loop in
-    let at-args = c .before .before .before .before .before .before .before .before .before .before .before .args in
+    let at-cross = after-cross .cross in
+    let at-loop-test = in-loop .loop-test in
+    let at-loop = looping .loop in
+    let at-args = start .args in
     let inv = at-loop .inv in (
       omega arith,
       λ v. pass-turn _ _ _ _ _ _ _ (at-loop-test .taken)

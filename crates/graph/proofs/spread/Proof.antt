@@ -44,9 +44,12 @@ loop-less c = omega arith
 
 loop-again : tie.Need-loop-again Inv-loop μ-loop
 loop-again c =
-    let at-pass = c .before .before .before .pass in
-    let at-loop = c .before .before .before .before .before .before .loop in
-    let passed = c .before .before .before .before .before .before .before .before .before .before .before .args in
+    let after-pass = c .before .before .before in
+    let looping = after-pass .before .before .before in
+    let start = looping .before .before .before .before .before in
+    let at-pass = after-pass .pass in
+    let at-loop = looping .loop in
+    let passed = start .args in
     let inside : at-loop .k < length (passed .bitsets .now) = omega arith in
     (omega arith, λ v. ap (passes _ _ _ _) (at-pass .ensures .0 v) ∙ passes-turn _ _ _ _ _ _ inside ∙ at-loop .inv .1 v)
 

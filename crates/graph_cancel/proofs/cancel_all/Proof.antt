@@ -45,11 +45,10 @@ returns c =
 
 cancel-from-requires : tie.Need-cancel-from-requires Inv-loop μ-loop
 cancel-from-requires c κs =
-    let at-if1 = c .before .before .before .before .if1 in
-    let at-cycle-vertex = c .before .before .before .before .before .before .before .cycle-vertex in
-    let at-loop = c .before .before .before .before .before .before .before .before .before .before .before .loop in (
+    let after-vertex = c .before .before .before .before .before .before .before in
+    let at-loop = after-vertex .before .before .before .before .loop in (
       (omega arith, omega arith),
-      ((omega arith, omega arith, omega arith), sized _ _ _ _ _ _ _ (at-loop .inv .1) (at-cycle-vertex .ensures .1 _)),
+      ((omega arith, omega arith, omega arith, omega arith), sized _ _ _ _ _ _ _ (at-loop .inv .1) (after-vertex .cycle-vertex .ensures .1 _)),
     )
 
 add-round : tie.Need-add-round Inv-loop μ-loop
@@ -60,17 +59,18 @@ loop-less c = omega arith
 
 loop-again : tie.Need-loop-again Inv-loop μ-loop
 loop-again c =
-    let at-cancel-from = c .before .before .before .before .before .before .before .before .cancel-from in
-    let at-if1 = c .before .before .before .before .before .before .before .before .before .before .before .before .before .if1 in
-    let at-cycle-vertex = c .before .before .before .before .before .before .before .before .before .before .before .before .before .before .before .before .cycle-vertex in
-    let at-loop = c .before .before .before .before .before .before .before .before .before .before .before .before .before .before .before .before .before .before .before .before .loop in
-    let at-args = c .before .before .before .before .before .before .before .before .before .before .before .before .before .before .before .before .before .before .before .before .before .before .before .before .before .before .before .args in
+    let after-from = c .before .before .before .before .before .before in
+    let not-over = after-from .before .before .before .before .before in
+    let after-vertex = not-over .before .before .before in
+    let looping = after-vertex .before .before .before .before in
+    let at-loop = looping .loop in
+    let at-args = looping .before .before .before .before .before .before .before .args in
     let inside : at-loop .round < length (at-args .flows .now) = omega arith in (
       omega arith,
       omega arith,
       omega arith,
       omega arith,
-      round-turn _ _ _ _ _ _ _ (at-cycle-vertex .ensures .0) _ _ (at-loop .inv .1) (at-cancel-from .ensures) inside (at-if1 .left) ∙ at-loop .inv .4,
+      round-turn _ _ _ _ _ _ _ (after-vertex .cycle-vertex .ensures .0) _ _ (at-loop .inv .1) (after-from .cancel-from .ensures) inside (not-over .if1 .left) ∙ at-loop .inv .4,
     )
 
 same-length-5 : tie.Need-same-length-5 Inv-loop μ-loop
@@ -87,8 +87,10 @@ same-length-8 c = omega arith
 
 returns-2 : tie.Need-returns-2 Inv-loop μ-loop
 returns-2 c =
-    let over : length (c .before .before .before .before .before .before .before .before .args .flows .now) ≤ c .before .loop .round = omega arith in
-    sym (rounds-over _ _ _ _ _ _ over) ∙ c .before .loop .inv .4
+    let looping = c .before in
+    let at-loop = looping .loop in
+    let over : length (looping .before .before .before .before .before .before .before .args .flows .now) ≤ at-loop .round = omega arith in
+    sym (rounds-over _ _ _ _ _ _ over) ∙ at-loop .inv .4
 
 pub cancel-all-spec : {M : Type 1} → statement M
 cancel-all-spec =

@@ -39,17 +39,17 @@ same-length-2 c = search needs
 same-length-3 : tie.Need-same-length-3
 same-length-3 c = search needs
 
-same-length-4 : tie.Need-same-length-4
-same-length-4 c = search needs
-
 returns : tie.Need-returns
 returns c =
-    let at-lower-cycle = c .before .before .lower-cycle in
-    let at-follow = c .before .before .before .before .before .before .before .before .before .before .before .follow in
-    let at-column = c .before .before .before .before .before .before .before .before .before .before .before .before .before .before .before .before .before .before .column in
-    let given = c .before .before .before .before .before .before .before .before .before .before .before .before .before .before .before .before .before .before .before .before .before .before .before .before .before .before .before .pre in
+    let after-lower = c .before .before in
+    let after-follow = after-lower .before .before .before .before .before .before .before in
+    let after-column = after-follow .before .before .before .before .before .before in
+    let known = after-column .before .before .before in
+    let start = known .before .before .before .before .before in
+    let at-follow = after-follow .follow in
+    let given = start .pre in
     cycle-made _ _ _ _ _ _ (at-follow .result .from) (at-follow .result .count) _ (at-follow .last .1 .1 .1 .1 .1 .0) _ (given .1 .0 .0)
-    (at-column .ensures ∙ given .1 .1) (at-follow .ensures .1) (at-lower-cycle .ensures)
+    (after-column .column .ensures ∙ given .1 .1) (at-follow .ensures .1) (after-lower .lower-cycle .ensures)
 
 pub cancel-from-spec : {M : Type 1} → statement M
 cancel-from-spec =
@@ -66,5 +66,4 @@ cancel-from-spec =
     same-length
     same-length-2
     same-length-3
-    same-length-4
     returns)

@@ -18,10 +18,12 @@ same-length c = search needs
 
 returns : tie.Need-returns
 returns c =
+    let after-reach = c .before .before .before .before .before .before in
+    let start = after-reach .before .before .before .before .before .before in
     let at-lowest = c .before .lowest in
     let at-on-cycles = c .before .before .on-cycles in
-    let at-reach = c .before .before .before .before .before .before .reach in
-    let at-pre = c .before .before .before .before .before .before .before .before .before .before .before .before .pre in
+    let at-reach = after-reach .reach in
+    let at-pre = start .pre in
     let bitsets = counted _ _ _ (at-reach .last .1 .1 .1 .0) _ _ (at-pre .0) (at-reach .ensures) in
     (vertex-found _ _ _ (at-reach .last .1 .1 .1 .0) _ _ _ (at-pre .1) bitsets (at-on-cycles .ensures) (at-lowest .ensures) (c .if1 .taken), bitsets)
 
@@ -30,10 +32,12 @@ same-length-2 c = search needs
 
 returns-2 : tie.Need-returns-2
 returns-2 c =
+    let after-reach = c .before .before .before .before .before .before in
+    let start = after-reach .before .before .before .before .before .before in
     let at-lowest = c .before .lowest in
     let at-on-cycles = c .before .before .on-cycles in
-    let at-reach = c .before .before .before .before .before .before .reach in
-    let at-pre = c .before .before .before .before .before .before .before .before .before .before .before .before .pre in
+    let at-reach = after-reach .reach in
+    let at-pre = start .pre in
     let bitsets = counted _ _ _ (at-reach .last .1 .1 .1 .0) _ _ (at-pre .0) (at-reach .ensures) in
     (vertex-none _ _ _ (at-reach .last .1 .1 .1 .0) _ _ _ (at-pre .1) bitsets (at-on-cycles .ensures) (at-lowest .ensures) (c .if1 .left), bitsets)
 

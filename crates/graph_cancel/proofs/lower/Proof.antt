@@ -42,9 +42,13 @@ loop-less c = omega arith
 
 loop-again : tie.Need-loop-again Inv-loop μ-loop
 loop-again c =
-    let at-loop-test = c .before .before .before .before .before .before .before .before .loop-test in
-    let at-loop = c .before .before .before .before .before .before .before .before .before .loop in
-    (omega arith, lowered-turn _ _ _ _ _ (at-loop-test .taken) (c .before .before .put-word .ensures ∙ rw (c .before .before .before .minus .ensures, c .before .before .before .before .before .word-at .ensures)) ∙ at-loop .inv .1)
+    let after-minus = c .before .before .before in
+    let after-word-at = after-minus .before .before in
+    let in-loop = after-word-at .before .before .before in
+    let looping = in-loop .before in
+    let at-loop-test = in-loop .loop-test in
+    let at-loop = looping .loop in
+    (omega arith, lowered-turn _ _ _ _ _ (at-loop-test .taken) (c .before .before .put-word .ensures ∙ rw (after-minus .minus .ensures, after-word-at .word-at .ensures)) ∙ at-loop .inv .1)
 
 same-length : tie.Need-same-length Inv-loop μ-loop
 same-length c = c .before .loop .inv .0

@@ -20,8 +20,11 @@ Inv-loop tails heads flows bitsets m₀ e₀ m e =
 abbrev μ-loop : tie.MeasureT-loop
 μ-loop tails heads flows bitsets m₀ e₀ m e = length flows - e
 
+none-requires : tie.Need-none-requires Inv-loop μ-loop
+none-requires c κs = search needs
+
 loop-holds : tie.Need-loop-holds Inv-loop μ-loop
-loop-holds c = λ v. found-none _ _ _ _ v
+loop-holds c = λ v. rw (c .none .ensures) (found-none _ _ _ _ v)
 
 word-at-requires : tie.Need-word-at-requires Inv-loop μ-loop
 word-at-requires c κs = search needs
@@ -65,17 +68,15 @@ loop-less c = omega arith
 
 loop-again : tie.Need-loop-again Inv-loop μ-loop
 loop-again c =
-    let at-with-vertex = c .with-vertex in
-    let at-and = c .before .and in
-    let at-has = c .before .before .has in
-    let at-bitset-at = c .before .before .before .before .bitset-at in
-    let at-word-at2 = c .before .before .before .before .before .word-at2 in
-    let at-word-at = c .before .before .before .before .before .before .word-at in
-    let at-loop-test = c .before .before .before .before .before .before .before .loop-test in
-    let at-loop = c .before .before .before .before .before .before .before .before .loop in
-    let at-args = c .before .before .before .before .before .before .before .before .before .before .before .before .before .args in
-    λ v. found-turn (at-args .tails .now) (at-args .heads .now) (at-args .flows .now) (at-args .bitsets .now) (at-loop .m) _ (at-loop .e) (at-loop-test .taken)
-    (at-with-vertex .ensures ∙ rw (at-and .ensures, at-has .ensures, at-bitset-at .ensures, at-word-at2 .ensures, at-word-at .ensures)) v
+    let after-and = c .before in
+    let after-bitset = after-and .before .before .before in
+    let after-head = after-bitset .before in
+    let in-loop = after-head .before .before in
+    let at-loop = in-loop .before .loop in
+    let at-args = in-loop .before .before .before .before .before .before .before .args in
+    λ v. found-turn (at-args .tails .now) (at-args .heads .now) (at-args .flows .now) (at-args .bitsets .now) (at-loop .m) _ (at-loop .e) (in-loop .loop-test .taken)
+    (c .with-vertex .ensures
+    ∙ rw (after-and .and .ensures, after-and .before .has .ensures, after-bitset .bitset-at .ensures, after-head .word-at2 .ensures, after-head .before .word-at .ensures)) v
     ∙ at-loop .inv v
 
 returns : tie.Need-returns Inv-loop μ-loop
@@ -87,6 +88,7 @@ on-cycles-spec =
     (tie.spec
     Inv-loop
     μ-loop
+    none-requires
     loop-holds
     word-at-requires
     cast-tail

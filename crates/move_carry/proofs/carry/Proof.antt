@@ -1,43 +1,41 @@
--- The numbers that are read judge the carry as the definition does. Where it is accepted, the terminal and the edge are on the board, and what is stored is
--- one more move.
-use mathlib.Core.Path.{_≡_, ap, ap₂, _∙_}
+-- The carry is judged by the board's own parts. Where it is accepted, the terminal and the edge are on the board, and what is stored is one more move.
+use mathlib.Core.Path.{_≡_, refl, ap, _∙_}
+use mathlib.Core.Bool.{Bool}
 use mathlib.Core.List.{List}
-use Prim.Native.Nat.{ℕ, _-_, _<_, _≤_}
+use Prim.Native.Nat.{ℕ, _<_, _≤_}
 use native.Mathlib.Omega.{arith}
 use denote.Ref.{now}
 use lib.ListN.{set}
 use Rattle.board.specs.Limits.{maxEdges, maxTerminals, maxMoves}
-use Rattle.board.specs.declared.Entry.{Entry}
-use Rattle.journal.specs.Words.{packed, entriesOf}
 use Rattle.board.specs.Whole.{Table}
-use Rattle.move_carry.specs.Carries.{carryRefusalIn}
-use Rattle.move_carry.proofs.Lent.{numbers-same, room-edge, room-terminal, room-move, lent-accepted, lent-refused}
+use Rattle.board.specs.declared.Entry.{Entry}
+use Rattle.journal.specs.Words.{packed, entriesOf, wholeOf}
+use Rattle.move_carry.specs.Carries.{carryRefusalIn, carryRefusal}
+use Rattle.move_carry.proofs.Makes.{makes-carried}
+use Rattle.move_carry.proofs.Lent.{carry-refusal-bare, room-edge, room-terminal, room-move, lent-accepted, lent-refused}
 use borrow.Author.Needs.{needs}
 use Rattle.move_carry.proofs.carry.Statement.{statement}
 use Rattle.move_carry.proofs.carry.Tie as tie
 use Rattle.move_carry.proofs.carry.Reads as reads
 use Rattle.move_carry.proofs.carry.Lts as lts
 use Rattle.journal.proofs.put_entry.Reads as put-entry-reads
-use Rattle.lists.proofs.and.Reads as and-reads
 use Rattle.lists.proofs.minus.Reads as minus-reads
 use Rattle.lists.proofs.word_at.Reads as word-at-reads
 use Rattle.move_carry.proofs.entry_of.Reads as entry-of-reads
-use Rattle.move_carry.proofs.number_at.Reads as number-at-reads
+use Rattle.move_carry.proofs.refusal_in.Reads as refusal-in-reads
 use Rattle.move_guard.proofs.playing.Reads as playing-reads
-use Rattle.sets.proofs.has.Reads as has-reads
+use Rattle.sets.proofs.none.Reads as none-reads
 
 abbrev cs : lts.Claims
 cs = (
   playing-reads.Asked,
   playing-reads.Learnt,
-  and-reads.Asked,
-  and-reads.Learnt,
+  none-reads.Asked,
+  none-reads.Learnt,
+  refusal-in-reads.Asked,
+  refusal-in-reads.Learnt,
   word-at-reads.Asked,
   word-at-reads.Learnt,
-  has-reads.Asked,
-  has-reads.Learnt,
-  number-at-reads.Asked,
-  number-at-reads.Learnt,
   minus-reads.Asked,
   minus-reads.Learnt,
   entry-of-reads.Asked,
@@ -48,15 +46,15 @@ cs = (
 
 -- where the carry is judged: the test before it, the table and the words
 abbrev Judged : Type 0
-Judged = lts.After-number-at cs reads.Pre reads.Post
+Judged = lts.After-refusal-in cs reads.Pre reads.Post
+
+abbrev framed : Judged → lts.After-none cs reads.Pre reads.Post
+framed c =
+    let lent = c .before .before .before .before .before .before in
+    lent .before .before .before .before
 
 abbrev tested : Judged → lts.After-playing cs reads.Pre reads.Post
-tested c =
-    let at-flow = c .before .before .before .before .before in
-    let at-head = at-flow .before .before .before .before .before in
-    let at-place = at-head .before .before .before .before in
-    let at-on = at-place .before .before .before .before in
-    at-on .before
+tested c = framed c .before
 
 abbrev start : Judged → lts.Start cs reads.Pre reads.Post
 start c = tested c .before .before
@@ -67,36 +65,49 @@ table c = start c .args .t1
 abbrev words : Judged → List (List ℕ)
 words c = now (start c .args .journal)
 
--- what is known there
-module _ (c : Judged) where
-  judged : c .number-at .result
-      ≡ carryRefusalIn (tested c .playing .result) (table c .network) (table c .flows) (table c .marks) (table c .places) (start c .args .i) (start c .args .e)
-  judged =
-      let at-demand = c .before in
-      let at-flow = at-demand .before .before .before .before in
-      let at-mark = at-flow .before .before .before .before in
-      let at-head = at-mark .before in
-      let at-place = at-head .before .before .before .before in
-      let at-on = at-place .before .before .before .before in
-      c .number-at .ensures
-      ∙ numbers-same _ _ _ _ _ _ _ _ _ _ _ _ _ (at-on .and .ensures) (at-place .word-at .ensures) (at-head .word-at2 .ensures) (at-mark .has .ensures)
-      (at-flow .word-at3 .ensures) (at-demand .word-at4 .ensures)
+judged : (c : Judged) → c .refusal-in .result ≡ carryRefusal (wholeOf (table c) (words c)) (start c .args .i) (start c .args .e)
+judged c =
+    let t = table c in
+    c .refusal-in .ensures ∙ carry-refusal-bare _ (t .network) (t .flows) (t .marks) (framed c .none .result) (t .places) _ _
+    ∙ ap (λ (p : Bool). carryRefusalIn p (t .network) (t .flows) (t .marks) (t .places) (start c .args .i) (start c .args .e)) (tested c .playing .ensures)
 
-  module _ (h : c .number-at .result ≡ 0) where
-    edge : start c .args .e < maxEdges
-    edge = room-edge (table c) (words c) (start c .args .i) _ _ _ (tested c .playing .ensures) judged h
+-- where it is accepted
+abbrev Stored : Type 0
+Stored = lts.After-minus cs reads.Pre reads.Post
 
-    terminal : start c .args .i < maxTerminals
-    terminal = room-terminal (table c) (words c) _ (start c .args .e) _ _ (tested c .playing .ensures) judged h
+abbrev at-demand : Stored → lts.After-word-at2 cs reads.Pre reads.Post
+at-demand c = c .before .before .before .before .before
 
-    room : table c .moves ≤ maxMoves
-    room = room-move (table c) (words c) (start c .args .i) (start c .args .e) _ _ (tested c .playing .ensures) judged h
+abbrev at-flow : Stored → lts.After-word-at cs reads.Pre reads.Post
+at-flow c = at-demand c .before .before .before .before
+
+abbrev accepted : Stored → lts.Then1 cs reads.Pre reads.Post
+accepted c = at-flow c .before .before .before .before
+
+module _ (c : Stored) where
+  abbrev judge : Judged
+  judge = accepted c .before
+
+  none : carryRefusal (wholeOf (table judge) (words judge)) (start judge .args .i) (start judge .args .e) ≡ 0
+  none = let q = judged judge in let z = accepted c .if1 .taken in omega (arith, q, z)
+
+  edge : start judge .args .e < maxEdges
+  edge = room-edge (table judge) (words judge) (start judge .args .i) (start judge .args .e) none
+
+  terminal : start judge .args .i < maxTerminals
+  terminal = room-terminal (table judge) (words judge) (start judge .args .i) (start judge .args .e) none
+
+  room : table judge .moves ≤ maxMoves
+  room = room-move (table judge) (words judge) (start judge .args .i) (start judge .args .e) none
 
 playing-requires : tie.Need-playing-requires
 playing-requires c κs = search needs
 
-and-requires : tie.Need-and-requires
-and-requires c κs = search needs
+none-requires : tie.Need-none-requires
+none-requires c κs = search needs
+
+refusal-in-requires : tie.Need-refusal-in-requires
+refusal-in-requires c κs = search needs
 
 word-at-requires : tie.Need-word-at-requires
 word-at-requires c κs = search needs
@@ -104,53 +115,29 @@ word-at-requires c κs = search needs
 word-at-requires-2 : tie.Need-word-at-requires-2
 word-at-requires-2 c κs = search needs
 
-has-requires : tie.Need-has-requires
-has-requires c κs = search needs
-
 word-at-requires-3 : tie.Need-word-at-requires-3
 word-at-requires-3 c κs = search needs
-
-word-at-requires-4 : tie.Need-word-at-requires-4
-word-at-requires-4 c κs = search needs
-
-number-at-requires : tie.Need-number-at-requires
-number-at-requires c κs = search needs
-
-word-at-requires-5 : tie.Need-word-at-requires-5
-word-at-requires-5 c κs = search needs
 
 minus-requires : tie.Need-minus-requires
 minus-requires c κs = search needs
 
 mul-board : tie.Need-mul-board
-mul-board c =
-    let accepted = c .before .before .before .before .before in
-    omega (arith, edge (accepted .before) (accepted .if1 .taken))
+mul-board c = omega (arith, edge c)
 
 element-write-board : tie.Need-element-write-board
-element-write-board c =
-    let accepted = c .before .before .before .before .before in
-    edge (accepted .before) (accepted .if1 .taken)
+element-write-board c = edge c
 
 mul-board-2 : tie.Need-mul-board-2
-mul-board-2 c =
-    let accepted = c .before .before .before .before .before in
-    omega (arith, terminal (accepted .before) (accepted .if1 .taken))
+mul-board-2 c = omega (arith, terminal c)
 
 element-write-board-2 : tie.Need-element-write-board-2
-element-write-board-2 c =
-    let accepted = c .before .before .before .before .before in
-    terminal (accepted .before) (accepted .if1 .taken)
+element-write-board-2 c = terminal c
 
 add-board : tie.Need-add-board
-add-board c =
-    let accepted = c .before .before .before .before .before in
-    omega (arith, room (accepted .before) (accepted .if1 .taken))
+add-board c = omega (arith, room c)
 
 cast-put-entry : tie.Need-cast-put-entry
-cast-put-entry c =
-    let accepted = c .before .before .before .before .before .before in
-    omega (arith, room (accepted .before) (accepted .if1 .taken))
+cast-put-entry c = omega (arith, room (c .before))
 
 entry-of-requires : tie.Need-entry-of-requires
 entry-of-requires c κs = search needs
@@ -162,35 +149,29 @@ returns : tie.Need-returns
 returns c =
     let at-entry = c .before in
     let at-rest = at-entry .before .before in
-    let at-tail = at-rest .before in
-    let accepted = at-tail .before .before .before .before in
-    let judge = accepted .before in
-    let at-demand = judge .before in
-    let at-flow = at-demand .before .before .before .before in
-    lent-accepted (table judge) (words judge) (start judge .args .i) (start judge .args .e) _ _ (tested judge .playing .ensures) (judged judge) _ _ _ (accepted .if1 .taken)
-    (ap (set (table judge .flows) (start judge .args .e)) (at-rest .minus .ensures ∙ ap₂ (λ (a b : ℕ). a - b) (at-flow .word-at3 .ensures) (at-demand .word-at4 .ensures)))
-    (ap (set (table judge .places) (start judge .args .i)) (at-tail .word-at5 .ensures))
-    (c .put-entry .ensures .0 ∙ ap (λ (x : Entry). set (words judge) (table judge .moves) (packed x)) (at-entry .entry-of .ensures))
-    (c .put-entry .ensures .1 ∙ ap (λ (x : Entry). set (entriesOf (words judge)) (table judge .moves) x) (at-entry .entry-of .ensures))
+    let judge = accepted at-rest .before in
+    let t = table judge in
+    let change = makes-carried (t .network) (t .flows) (t .marks) (t .places) (start judge .args .i) (start judge .args .e) _ _ _ _ _ _ (at-flow at-rest .word-at .ensures)
+    (at-demand at-rest .word-at2 .ensures) (at-rest .before .word-at3 .ensures) (at-rest .minus .ensures) refl refl in
+    lent-accepted t (words judge) (start judge .args .i) (start judge .args .e) _ (judged judge) _ _ (accepted at-rest .if1 .taken) change
+    (c .put-entry .ensures .0 ∙ ap (λ (x : Entry). set (words judge) (t .moves) (packed x)) (at-entry .entry-of .ensures))
+    (c .put-entry .ensures .1 ∙ ap (λ (x : Entry). set (entriesOf (words judge)) (t .moves) x) (at-entry .entry-of .ensures))
 
 returns-2 : tie.Need-returns-2
 returns-2 c =
     let judge = c .before in
-    lent-refused (table judge) (words judge) (start judge .args .i) (start judge .args .e) _ _ (tested judge .playing .ensures) (judged judge) (c .if1 .left)
+    lent-refused (table judge) (words judge) (start judge .args .i) (start judge .args .e) _ (judged judge) (c .if1 .left)
 
 pub carry-spec : {M : Type 1} → statement M
 carry-spec =
     tie.close
     (tie.spec
     playing-requires
-    and-requires
+    none-requires
+    refusal-in-requires
     word-at-requires
     word-at-requires-2
-    has-requires
     word-at-requires-3
-    word-at-requires-4
-    number-at-requires
-    word-at-requires-5
     minus-requires
     mul-board
     element-write-board

@@ -1,6 +1,6 @@
--- A byte from 128 on is a step up over the edge 128 below it; one below 128 is a step down over that edge.
+-- A code from `codeUp` on is a step up over the edge so far below it; a lower one is a step down over that edge.
 use mathlib.Core.Path.{refl}
-use Rattle.move_cycle.proofs.Bytes.{step-up, step-down}
+use Rattle.move_cycle.proofs.Codes.{step-up, step-down}
 use borrow.Author.Needs.{needs}
 use Rattle.move_cycle.proofs.edge_of.Statement.{statement}
 use Rattle.move_cycle.proofs.edge_of.Tie as tie

@@ -1,5 +1,5 @@
--- A step up, a byte from 128 on, ends at the tail of its edge; a step down ends at the head.
-use Rattle.move_cycle.proofs.Bytes.{step-up, step-down}
+-- A step up, a code from `codeUp` on, ends at the tail of its edge; a step down ends at the head.
+use Rattle.move_cycle.proofs.Codes.{step-up, step-down}
 use borrow.Author.Needs.{needs}
 use Rattle.move_cycle.proofs.end_of.Statement.{statement}
 use Rattle.move_cycle.proofs.end_of.Tie as tie

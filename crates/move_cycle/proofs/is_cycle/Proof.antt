@@ -1,6 +1,6 @@
 -- No steps are no cycle; others are one where they lead from the start of the first back to it, as defined.
 use mathlib.Core.Path.{_∙_}
-use Rattle.move_cycle.proofs.Bytes.{cycle-none, cycle-some}
+use Rattle.move_cycle.proofs.Codes.{cycle-none, cycle-some}
 use borrow.Author.Needs.{needs}
 use Rattle.move_cycle.proofs.is_cycle.Statement.{statement}
 use Rattle.move_cycle.proofs.is_cycle.Tie as tie

@@ -2,7 +2,7 @@
 use mathlib.Core.Path.{_≡_, refl}
 use Prim.Native.Nat.{_-_}
 use lib.ListN.{length, drop}
-use Rattle.move_cycle.specs.Steps.{stepsOf}
+use Rattle.move_cycle.specs.Steps.{codeSteps}
 use Rattle.move_cycle.specs.Amounts.{amountIn}
 use Rattle.move_cycle.proofs.Raising.{amount-turn, amount-end}
 use borrow.Author.Needs.{needs}
@@ -12,13 +12,16 @@ use Rattle.move_cycle.proofs.least_allowed.Tie as tie
 
 abbrev Inv-loop : tie.InvT-loop
 Inv-loop heads flows places demands terminals steps a₀ i₀ a i =
-    amountIn heads flows places demands terminals a (stepsOf (drop i steps)) ≡ amountIn heads flows places demands terminals 0 (stepsOf steps)
+    amountIn heads flows places demands terminals a (codeSteps (drop i steps)) ≡ amountIn heads flows places demands terminals 0 (codeSteps steps)
 
 abbrev μ-loop : tie.MeasureT-loop
 μ-loop heads flows places demands terminals steps a₀ i₀ a i = length steps - i
 
 loop-holds : tie.Need-loop-holds Inv-loop μ-loop
 loop-holds c = refl
+
+mul-allowed : tie.Need-mul-allowed Inv-loop μ-loop
+mul-allowed c = omega arith
 
 shared-slice-read-allowed : tie.Need-shared-slice-read-allowed Inv-loop μ-loop
 shared-slice-read-allowed c = omega arith
@@ -48,6 +51,7 @@ least-allowed-spec =
     Inv-loop
     μ-loop
     loop-holds
+    mul-allowed
     shared-slice-read-allowed
     allowed-requires
     add-i

@@ -1,5 +1,5 @@
--- A byte from 128 on is a step up, which starts at its edge's head; one below is a step down, from the tail.
-use Rattle.move_cycle.proofs.Bytes.{step-up, step-down}
+-- A code from `codeUp` on is a step up, which starts at its edge's head; one below is a step down, from the tail.
+use Rattle.move_cycle.proofs.Codes.{step-up, step-down}
 use borrow.Author.Needs.{needs}
 use Rattle.move_cycle.proofs.start_of.Statement.{statement}
 use Rattle.move_cycle.proofs.start_of.Tie as tie

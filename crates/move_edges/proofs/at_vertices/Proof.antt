@@ -8,13 +8,16 @@ use Rattle.move_edges.proofs.at_vertices.Statement.{statement}
 use Rattle.move_edges.proofs.at_vertices.Tie as tie
 
 abbrev Inv-loop : tie.InvT-loop
-Inv-loop ends edges₀ e₀ edges e = AllPassed ends maxVertices e edges
+Inv-loop ends none edges₀ e₀ edges e = AllPassed ends maxVertices e edges
 
 abbrev μ-loop : tie.MeasureT-loop
-μ-loop ends edges₀ e₀ edges e = maxEdges - e
+μ-loop ends none edges₀ e₀ edges e = maxEdges - e
+
+none-requires : tie.Need-none-requires Inv-loop μ-loop
+none-requires c κs = search needs
 
 loop-holds : tie.Need-loop-holds Inv-loop μ-loop
-loop-holds c = all-none _ maxVertices
+loop-holds c = rw (c .none .ensures) (all-none _ maxVertices)
 
 slice-aggregate-join : tie.Need-slice-aggregate-join Inv-loop μ-loop
 slice-aggregate-join c = search needs
@@ -46,6 +49,7 @@ at-vertices-spec =
     (tie.spec
     Inv-loop
     μ-loop
+    none-requires
     loop-holds
     slice-aggregate-join
     mul-join

@@ -15,8 +15,11 @@ Inv-loop flows m₀ e₀ m e = Passed (λ k. ltb 0 (getD flows k 0)) e m
 abbrev μ-loop : tie.MeasureT-loop
 μ-loop flows m₀ e₀ m e = maxEdges - e
 
+none-requires : tie.Need-none-requires Inv-loop μ-loop
+none-requires c κs = search needs
+
 loop-holds : tie.Need-loop-holds Inv-loop μ-loop
-loop-holds c = passed-none _
+loop-holds c = rw (c .none .ensures) (passed-none _)
 
 mul-with : tie.Need-mul-with Inv-loop μ-loop
 mul-with c = search needs
@@ -45,6 +48,7 @@ positive-spec =
     (tie.spec
     Inv-loop
     μ-loop
+    none-requires
     loop-holds
     mul-with
     element-copy-out-with

@@ -1,5 +1,5 @@
 -- What the set of v and the positive edges have in common; past the end that set is empty, and so is the answer.
-use mathlib.Core.Path.{sym}
+use mathlib.Core.Path.{sym, _∙_}
 use lib.Bits.{and-zero-l}
 use lib.ListN.{List·getD-eq-default}
 use borrow.Author.Needs.{needs}
@@ -15,12 +15,17 @@ shared-slice-read-common c = search needs
 common-requires : tie.Need-common-requires
 common-requires c κs = search needs
 
+none-requires : tie.Need-none-requires
+none-requires c κs = search needs
+
 returns : tie.Need-returns
 returns c = search needs
 
 returns-2 : tie.Need-returns-2
-returns-2 c = let s = c .before .before in rw (List·getD-eq-default (s .args .edges .now) 0 (c .if1 .left)) (sym (and-zero-l (s .args .positive)))
+returns-2 c =
+    let s = c .before .before .before in
+    c .none .ensures ∙ rw (List·getD-eq-default (s .args .edges .now) 0 (c .before .if1 .left)) (sym (and-zero-l (s .args .positive)))
 
 pub touching-spec : {M : Type 1} → statement M
 touching-spec =
-    tie.close (tie.spec mul-common shared-slice-read-common common-requires returns returns-2)
+    tie.close (tie.spec mul-common shared-slice-read-common common-requires none-requires returns returns-2)

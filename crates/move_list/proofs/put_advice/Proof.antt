@@ -30,11 +30,12 @@ add-put-steps : tie.Need-add-put-steps
 add-put-steps c = search needs
 
 put-steps-requires : tie.Need-put-steps-requires
-put-steps-requires c κs = omega (
-  arith,
-  c .before .before .before .before .before .before .before .before .before .before .before .before .before .before .before .before
-      .before .before .before .pre,
-)
+put-steps-requires c κs =
+    let at-4 = c .before .before .before .before in
+    let at-3 = at-4 .before .before .before .before in
+    let at-2 = at-3 .before .before .before .before in
+    let at-1 = at-2 .before .before .before .before in
+    omega (arith, at-1 .before .before .before .pre)
 
 same-length : tie.Need-same-length
 same-length c = search needs

@@ -1,13 +1,15 @@
 -- The calls that are left, from the board and the words as they are now, end in the same board and words as all of them; their answers and hints fill the buffers in the
 -- same way.
-use mathlib.Core.Path.{_≡_, refl, sym, ap, _∙_}
+use mathlib.Core.Path.{refl, ap, _∙_}
+use Prim.Native.Nat.{ℕ, _+_, _-_}
+use lib.ListN.{length, getD}
 use mathlib.Core.Logic.{⊎-elim}
 use native.Mathlib.Omega.{arith}
 use borrow.Author.Needs.{needs}
-use Rattle.board.specs.Whole.{Played}
-use Rattle.journal.specs.Words.{wholeOf, givenOf, wordsAfter}
+use Rattle.journal.specs.Words.{wholeOf, givenOf}
+use Rattle.move_list.specs.Calls.{Game, gameOf}
 use Rattle.move_list.proofs.Coded.{all-left, played-end, answers-end, hints-end}
-use Rattle.move_list.proofs.Going.{Round, round-moved, round-hinted, words-end}
+use Rattle.move_list.proofs.Going.{few-coded, hint-coded, none-coded, past, Round, round-moved, round-hinted, round-skipped, words-end}
 use Rattle.move_list.proofs.run.Statement.{statement}
 use Rattle.move_list.proofs.run.Tie as tie
 
@@ -32,29 +34,29 @@ loop-holds c = record {
 sub-i : tie.Need-sub-i Inv-loop μ-loop
 sub-i c = omega arith
 
-mul-kind : tie.Need-mul-kind Inv-loop μ-loop
-mul-kind c = search needs
+mul-t17 : tie.Need-mul-t17 Inv-loop μ-loop
+mul-t17 c = search needs
 
-shared-slice-read-kind : tie.Need-shared-slice-read-kind Inv-loop μ-loop
-shared-slice-read-kind c = omega arith
+shared-slice-read-t19 : tie.Need-shared-slice-read-t19 Inv-loop μ-loop
+shared-slice-read-t19 c = omega arith
 
-add-make : tie.Need-add-make Inv-loop μ-loop
-add-make c = omega arith
+add-t20 : tie.Need-add-t20 Inv-loop μ-loop
+add-t20 c = omega arith
 
-mul-make : tie.Need-mul-make Inv-loop μ-loop
-mul-make c = search needs
+mul-t21 : tie.Need-mul-t21 Inv-loop μ-loop
+mul-t21 c = search needs
 
-shared-slice-read-make : tie.Need-shared-slice-read-make Inv-loop μ-loop
-shared-slice-read-make c = omega arith
+shared-slice-read-t23 : tie.Need-shared-slice-read-t23 Inv-loop μ-loop
+shared-slice-read-t23 c = omega arith
 
-add-make-2 : tie.Need-add-make-2 Inv-loop μ-loop
-add-make-2 c = omega arith
+add-t24 : tie.Need-add-t24 Inv-loop μ-loop
+add-t24 c = omega arith
 
-mul-make-2 : tie.Need-mul-make-2 Inv-loop μ-loop
-mul-make-2 c = search needs
+mul-t25 : tie.Need-mul-t25 Inv-loop μ-loop
+mul-t25 c = search needs
 
-shared-slice-read-make-2 : tie.Need-shared-slice-read-make-2 Inv-loop μ-loop
-shared-slice-read-make-2 c = omega arith
+shared-slice-read-t27 : tie.Need-shared-slice-read-t27 Inv-loop μ-loop
+shared-slice-read-t27 c = omega arith
 
 make-requires : tie.Need-make-requires Inv-loop μ-loop
 make-requires c κs = search needs
@@ -71,33 +73,42 @@ put-word-requires-2 c κs = search needs
 note-requires : tie.Need-note-requires Inv-loop μ-loop
 note-requires c κs = search needs
 
+answer-count-requires : tie.Need-answer-count-requires Inv-loop μ-loop
+answer-count-requires c κs = search needs
+
 add-k : tie.Need-add-k Inv-loop μ-loop
 add-k c =
-    let at-test = c .before .before in
+    let at-test = c .before .before .before .before .before .before in
+    let loop = at-test .before .loop in
     let start = at-test .before .before .before .before .before .before in
-    omega (arith, at-test .before .loop .inv .inside, at-test .loop-test .taken, start .good)
+    let steps = start .args .steps .now in
+    let kind = getD (start .args .codes .now) (length (start .args .codes .now) - loop .left) 0 in
+    omega (arith, loop .inv .inside, at-test .loop-test .taken, start .good, few-coded steps kind 0 0, c .answer-count .ensures steps 0 0)
 
 loop-less : tie.Need-loop-less Inv-loop μ-loop
 loop-less c = omega arith
 
 loop-again : tie.Need-loop-again Inv-loop μ-loop
 loop-again c =
-    let at-test = c .before .before in
+    let at-test = c .before .before .before .before .before .before in
     let loop = at-test .before .loop in
+    let start = at-test .before .before .before .before .before .before in
     let some = at-test .loop-test .taken in
+    let steps = start .args .steps .now in
+    let counted = ap (λ (n : ℕ). loop .k + n) (c .answer-count .ensures steps _ _) in
     ⊎-elim
     (λ w.
-    let words = w .4 .last .1 .0 in
-    let given = givenOf (w .4 .result) words in
-    let makes = w .4 .ensures .0 in
-    let moved : c .if1 .journal ≡ wordsAfter (loop .b .moves) (given .board) (loop .journal) =
-    w .10 ∙ w .4 .ensures .1 ∙ ap (λ (p : Played). wordsAfter (loop .b .moves) (p .board) (loop .journal)) (sym makes) in
-    round-moved _ _ _ _ _ _ _ _ _ _ _ _ _ some (loop .inv) _ _ _ _ _ given (w .0 .taken) makes (w .11 ∙ w .6 .ensures) (w .12) (w .14)
-    (λ i. wholeOf (w .13 i) (w .10 i)) moved)
+    let words = w .2 .last .1 .0 in
+    round-moved _ _ _ _ _ _ _ _ _ _ _ _ _ some (loop .inv) _ _ _ _ _ _ counted (givenOf (w .2 .result) words) words (w .2 .ensures) (w .9 ∙ w .4 .ensures) (w .10) (w .12)
+    (λ i. wholeOf (w .11 i) (w .8 i)) (w .8))
+    (⊎-elim
     (λ w.
-    round-hinted _ _ _ _ _ _ _ _ _ _ _ _ _ some (loop .inv) _ _ _ _ _ (w .2 .result) (w .0 .left) (w .2 .ensures) (w .13 ∙ w .4 .ensures) (w .14 ∙ w .9 .ensures .1)
-    (w .16 ∙ w .9 .ensures .0) (λ i. wholeOf (w .15 i) (w .12 i)) (w .12))
-    (c .if1 .came)
+    round-hinted _ _ _ _ _ _ _ _ _ _ _ _ _ some (loop .inv) _ _ _ _ _ _ counted (w .4 .result) (hint-coded steps _ _ _ (omega (arith, w .2 .taken))) (w .4 .ensures)
+    (w .15 ∙ w .6 .ensures) (w .16 ∙ w .11 .ensures .1) (w .18 ∙ w .11 .ensures .0) (λ i. wholeOf (w .17 i) (w .14 i)) (w .14))
+    (λ w.
+    round-skipped _ _ _ _ _ _ _ _ _ _ _ _ _ some (loop .inv) _ _ _ _ _ _ counted (none-coded steps _ _ _ (past (w .0 .left) (w .2 .left))) (w .4) (w .5)
+    (λ i. wholeOf (w .6 i) (w .3 i)) (w .3) (w .7)))
+    (c .before .if1 .came)
 
 same-length : tie.Need-same-length Inv-loop μ-loop
 same-length c = c .before .loop .inv .buf-long
@@ -112,13 +123,13 @@ returns c =
     let steps = start .args .steps .now in
     let codes = start .args .codes .now in
     let none = c .loop-test .left in
-    let whole = wholeOf (loop .b) (loop .journal) in (
-      played-end steps codes (loop .left) whole (omega (arith, none)) ∙ loop .inv .plays,
+    let game = gameOf (wholeOf (loop .b) (loop .journal)) in (
+      ap (λ (g : Game). g .board) (played-end steps codes (loop .left) game (omega (arith, none)) ∙ loop .inv .plays),
       (
-        words-end steps codes (loop .left) whole (loop .journal) (omega (arith, none)) ∙ loop .inv .packs,
+        words-end steps codes (loop .left) game (loop .journal) (omega (arith, none)) ∙ loop .inv .packs,
         (
-          answers-end steps codes (loop .left) whole (loop .buf) (loop .k) (omega (arith, none)) ∙ loop .inv .says,
-          hints-end steps codes (loop .left) whole (loop .hints) (loop .j) (omega (arith, none)) ∙ loop .inv .hints-say,
+          answers-end steps codes (loop .left) game (loop .buf) (loop .k) (omega (arith, none)) ∙ loop .inv .says,
+          hints-end steps codes (loop .left) game (loop .hints) (loop .j) (omega (arith, none)) ∙ loop .inv .hints-say,
         ),
       ),
     )
@@ -131,19 +142,20 @@ run-spec =
     μ-loop
     loop-holds
     sub-i
-    mul-kind
-    shared-slice-read-kind
-    add-make
-    mul-make
-    shared-slice-read-make
-    add-make-2
-    mul-make-2
-    shared-slice-read-make-2
+    mul-t17
+    shared-slice-read-t19
+    add-t20
+    mul-t21
+    shared-slice-read-t23
+    add-t24
+    mul-t25
+    shared-slice-read-t27
     make-requires
     put-word-requires
     hint-requires
     put-word-requires-2
     note-requires
+    answer-count-requires
     add-k
     loop-less
     loop-again

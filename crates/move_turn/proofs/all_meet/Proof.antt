@@ -3,7 +3,7 @@ use mathlib.Core.Path.{_≡_, refl, _∙_}
 use Prim.Native.Nat.{_-_}
 use lib.ListN.{length, drop}
 use borrow.Author.Tests.{not-true, not-false}
-use Rattle.move_cycle.specs.Steps.{stepsOf, every}
+use Rattle.move_cycle.specs.Steps.{codeSteps, every}
 use Rattle.move_edges.specs.Marking.{singularBy}
 use Rattle.move_turn.specs.Turns.{meetsIn}
 use Rattle.move_turn.proofs.Passing.{every-hit, every-miss, every-end}
@@ -13,15 +13,18 @@ use Rattle.move_turn.proofs.all_meet.Statement.{statement}
 use Rattle.move_turn.proofs.all_meet.Tie as tie
 
 abbrev Inv-loop : tie.InvT-loop
-Inv-loop rule edges heads flows leaving positive vertices steps i₀ i =
-    every (meetsIn rule edges flows (singularBy heads leaving positive vertices)) (stepsOf (drop i steps))
-    ≡ every (meetsIn rule edges flows (singularBy heads leaving positive vertices)) (stepsOf steps)
+Inv-loop rule frame heads leaving flows steps i₀ i =
+    every (meetsIn rule (frame .edges) flows (singularBy heads leaving (frame .positive) (frame .vertices))) (codeSteps (drop i steps))
+    ≡ every (meetsIn rule (frame .edges) flows (singularBy heads leaving (frame .positive) (frame .vertices))) (codeSteps steps)
 
 abbrev μ-loop : tie.MeasureT-loop
-μ-loop rule edges heads flows leaving positive vertices steps i₀ i = length steps - i
+μ-loop rule frame heads leaving flows steps i₀ i = length steps - i
 
 loop-holds : tie.Need-loop-holds Inv-loop μ-loop
 loop-holds c = refl
+
+mul-meets : tie.Need-mul-meets Inv-loop μ-loop
+mul-meets c = omega arith
 
 shared-slice-read-meets : tie.Need-shared-slice-read-meets Inv-loop μ-loop
 shared-slice-read-meets c = c .before .loop-test .taken
@@ -57,6 +60,7 @@ all-meet-spec =
     Inv-loop
     μ-loop
     loop-holds
+    mul-meets
     shared-slice-read-meets
     meets-requires
     returns

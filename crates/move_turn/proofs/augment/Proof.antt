@@ -21,7 +21,8 @@ fresh-by-requires c κs = search needs
 shift-requires : tie.Need-shift-requires
 shift-requires c κs =
     let least = c .before .before .before .before in
-    let pre = least .before .before .before .before .before .before .before .before .pre in
+    let known = least .before .before .before .before in
+    let pre = known .before .before .before .before .pre in
     (rw (least .least-allowed .ensures) (least-small _ _ _ _ _ maxTotal (pre .0) (pre .1 .0) _), pre .0)
 
 joined-requires : tie.Need-joined-requires

@@ -7,8 +7,8 @@ use borrow.Author.Needs.{needs}
 use Rattle.move_turn.proofs.change.Statement.{statement}
 use Rattle.move_turn.proofs.change.Tie as tie
 
-steps-refusal-requires : tie.Need-steps-refusal-requires
-steps-refusal-requires c κs = search needs
+refusal-in-requires : tie.Need-refusal-in-requires
+refusal-in-requires c κs = search needs
 
 blank-requires : tie.Need-blank-requires
 blank-requires c κs = search needs
@@ -17,7 +17,7 @@ returns : tie.Need-returns
 returns c =
     let refused = c .before .before in
     let start = refused .before .before .before .before .before .before .before in
-    turn-not-made _ _ _ _ _ _ (start .pre) _ _ _ _ (refused .steps-refusal .ensures) _ (c .before .if1 .taken) (c .blank .ensures)
+    turn-not-made _ _ _ _ _ _ (start .pre) _ _ _ _ (refused .refusal-in .ensures) _ (c .before .if1 .taken) (c .blank .ensures)
 
 augment-requires : tie.Need-augment-requires
 augment-requires c κs =
@@ -25,7 +25,7 @@ augment-requires c κs =
     let passed = accepted .before in
     let start = passed .before .before .before .before .before .before .before in
     let can = start .pre in
-    (can .small, (can .asked, turn-sets _ _ _ _ _ _ can _ _ (sym (passed .steps-refusal .ensures) ∙ accepted .if1 .left)))
+    (can .small, (can .asked, turn-sets _ _ _ _ _ _ can _ _ (sym (passed .refusal-in .ensures) ∙ accepted .if1 .left)))
 
 returns-2 : tie.Need-returns-2
 returns-2 c =
@@ -34,8 +34,8 @@ returns-2 c =
     let start = passed .before .before .before .before .before .before .before in
     -- what owning the frame tells of its set
     let fits : start .args .frame .positive < 2 ^ setWidth = search (needs, start .good .1 .0 .1 .1 .1 .1 .1 .1 .1 .0) in
-    turn-is-made _ _ _ _ _ _ (start .pre) _ _ _ _ (passed .steps-refusal .ensures) _ fits (accepted .if1 .left) (c .augment .ensures)
+    turn-is-made _ _ _ _ _ _ (start .pre) _ _ _ _ (passed .refusal-in .ensures) _ fits (accepted .if1 .left) (c .augment .ensures)
 
 pub change-spec : {M : Type 1} → statement M
 change-spec =
-    tie.close (tie.spec steps-refusal-requires blank-requires returns augment-requires returns-2)
+    tie.close (tie.spec refusal-in-requires blank-requires returns augment-requires returns-2)

@@ -1,4 +1,4 @@
--- The edge of the byte is that of its step, so both sides compare one number with the count of edges.
+-- The edge of the code is that of its step, so both sides compare one number with the count of edges.
 use borrow.Author.Needs.{needs}
 use Rattle.move_turn.proofs.on_board.Statement.{statement}
 use Rattle.move_turn.proofs.on_board.Tie as tie

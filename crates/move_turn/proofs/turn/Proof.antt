@@ -1,172 +1,66 @@
--- The turn on the lent lists is the one by the parts of the board that the table and the words stand for; an accepted one is packed into the next place.
-use mathlib.Core.Path.{_≡_, sym, ap, _∙_}
-use mathlib.Core.Bool.{true}
-use mathlib.Core.List.{List}
-use Prim.Native.Nat.{ℕ, _+_}
-use native.Mathlib.Omega.{arith}
+-- The bytes are decoded where there are no more of them than a board has edges; more of them are refused by their greatest edge.
 use denote.Ref.{now}
-use borrow.Author.Tests.{not-true, not-false}
-use Rattle.board.specs.Limits.{maxEdges, maxTerminals}
-use Rattle.board.specs.Whole.{Board}
+use mathlib.Core.Path.{sym, ap, _∙_}
+use mathlib.Core.List.{List}
+use native.Mathlib.Omega.{arith}
+use lib.Seq.{length-take-le}
 use Rattle.graph_flows.specs.Trails.{Step}
-use Rattle.board.specs.Whole.{Table}
-use Rattle.journal.specs.Words.{wholeOf, entriesOf, standing}
-use Rattle.journal.proofs.Laws.{add-standing}
-use Rattle.move_guard.specs.Guard.{playing}
-use Rattle.move_guard.proofs.Facts.{playing-moves}
-use Rattle.move_guard.proofs.Lent.{whole-long}
+use Rattle.journal.specs.Words.{wholeOf, wordsAfter}
 use Rattle.move_cycle.specs.Steps.{stepsOf}
-use Rattle.move_turn.specs.Lent.{changeOf}
-use Rattle.move_turn.proofs.Changes.{playing-sound, turnMade}
-use Rattle.move_turn.proofs.Lent.{sound-turnable, turn-of-bare, closed-made, open-made, lent-refused, lent-stored}
-use borrow.Author.Needs.{needs, length-unmapped}
+use Rattle.move_turn.specs.Turns.{turnCall}
+use Rattle.move_turn.proofs.Decoding.{bytes-length}
+use Rattle.move_turn.proofs.Unkept.{unkept-lent}
+use borrow.Author.Needs.{needs}
 use Rattle.move_turn.proofs.turn.Statement.{statement}
 use Rattle.move_turn.proofs.turn.Tie as tie
-use Rattle.move_turn.proofs.turn.Reads as reads
-use Rattle.move_turn.proofs.turn.Lts as lts
-use Rattle.journal.proofs.put_entry.Reads as put-entry-reads
-use Rattle.move_carry.proofs.some_open_in.Reads as some-open-in-reads
-use Rattle.move_edges.proofs.at_vertices.Reads as at-vertices-reads
-use Rattle.move_edges.proofs.positive.Reads as positive-reads
-use Rattle.move_guard.proofs.playing.Reads as playing-reads
-use Rattle.move_turn.proofs.change.Reads as change-reads
 
-abbrev cs : lts.Claims
-cs = (
-  playing-reads.Asked,
-  playing-reads.Learnt,
-  some-open-in-reads.Asked,
-  some-open-in-reads.Learnt,
-  at-vertices-reads.Asked,
-  at-vertices-reads.Learnt,
-  positive-reads.Asked,
-  positive-reads.Learnt,
-  change-reads.Asked,
-  change-reads.Learnt,
-  put-entry-reads.Asked,
-  put-entry-reads.Learnt,
-)
+greatest-edge-requires : tie.Need-greatest-edge-requires
+greatest-edge-requires c κs = search needs
 
--- the places in the code where the board is known to be in play, and where the lists are lent
-abbrev Begun : Type 0
-Begun = lts.Else1 cs reads.Pre reads.Post
-
-abbrev Lending : Type 0
-Lending = lts.After-flows4 cs reads.Pre reads.Post
-
-abbrev table : Begun → Table
-table c = c .before .before .before .before .args .board
-
-abbrev old : Begun → List (List ℕ)
-old c = now (c .before .before .before .before .args .journal)
-
-abbrev given : Begun → Board
-given c = wholeOf (table c) (old c)
-
-abbrev path : Begun → List Step
-path c = stepsOf (now (c .before .before .before .before .args .steps))
-
-plays : (c : Begun) → playing (given c) ≡ true
-plays c = sym (c .before .playing .ensures) ∙ not-false _ (c .if1 .left)
-
-abbrev opened : Lending → lts.After-some-open-in cs reads.Pre reads.Post
-opened c = c .before .before .before .before .before .before .before .before .before .before .before .before
-
-abbrev begun : Lending → Begun
-begun c = opened c .before .before .before .before .before .before
-
--- what the turn changes on the board
-made-here : (c : lts.After-change cs reads.Pre reads.Post)
-    → let b = given (begun (c .before)) in
-    changeOf (c .change .result) (c .change .last .1 .1 .1 .1 .1 .1 .1 .1 .0) (b .places) ≡ turnMade b (path (begun (c .before)))
-made-here c =
-    let b = given (begun (c .before)) in
-    open-made b _ _ _ (plays (begun (c .before))) (opened (c .before) .some-open-in .ensures)
-    (c .change .ensures ∙ turn-of-bare (b .network) true _ (b .flows) (b .marks) (b .places) _)
-
-playing-requires : tie.Need-playing-requires
-playing-requires c κs = search needs
+turn-unkept-requires : tie.Need-turn-unkept-requires
+turn-unkept-requires c κs = search needs
 
 returns : tie.Need-returns
 returns c =
-    let start = c .before .before .before .before in
+    let found = c .before .before in
+    let long = found .before in
+    let start = long .before .before in
     let b = wholeOf (start .args .board) (now (start .args .journal)) in
-    let out = sym (c .before .playing .ensures) ∙ not-true _ (c .if1 .taken) in
-    lent-refused b _ _ (closed-made b _ out) _ (λ z. omega (arith, z))
+    let bytes = now (start .args .steps) in
+    unkept-lent b (stepsOf bytes) _ _ _ (c .turn-unkept .ensures) (found .greatest-edge .ensures) (λ few. absurd (omega (arith, few, bytes-length bytes, long .if1 .taken)))
 
-slice-aggregate-some-open-in : tie.Need-slice-aggregate-some-open-in
-slice-aggregate-some-open-in c = search needs
+codes-of-requires : tie.Need-codes-of-requires
+codes-of-requires c κs = search needs
 
-slice-aggregate-some-open-in-2 : tie.Need-slice-aggregate-some-open-in-2
-slice-aggregate-some-open-in-2 c = search needs
+array-share-prefix-codes : tie.Need-array-share-prefix-codes
+array-share-prefix-codes c = search needs
 
-some-open-in-requires : tie.Need-some-open-in-requires
-some-open-in-requires c κs = search needs
+slice-aggregate-turn-steps : tie.Need-slice-aggregate-turn-steps
+slice-aggregate-turn-steps c = sym (length-take-le _ _ (search needs))
 
-at-vertices-requires : tie.Need-at-vertices-requires
-at-vertices-requires c κs = search needs
-
-positive-requires : tie.Need-positive-requires
-positive-requires c κs = search needs
-
-slice-aggregate-change : tie.Need-slice-aggregate-change
-slice-aggregate-change c = search needs
-
-change-requires : tie.Need-change-requires
-change-requires c κs =
-    let b = given (begun c) in
-    let positive = c .before .before .before .before .before .before in
-    -- what owning the table tells of its fields, nested to the right
-    let fields = begun c .before .before .before .before .good .0 .1 .1 .1 in
-    let lists = fields .0 .1 .1 .1 .1 .1 .1 in
-    let long = length-unmapped ℕ (b .flows) maxEdges (fields .1 .1 .0 .1 .0 .1) in
-    let wide = length-unmapped ℕ (b .network .heads) maxEdges (lists .1 .0 .1 .0 .1) in
-    let asked = length-unmapped ℕ (b .network .demands) maxTerminals (lists .1 .1 .1 .1 .0 .1 .0 .1) in
-    sound-turnable (b .network) (b .flows) _ _ _ (playing-sound b (plays (begun c))) wide long asked (positive .before .before .at-vertices .ensures) (positive .positive .ensures)
+turn-steps-requires : tie.Need-turn-steps-requires
+turn-steps-requires c κs = search needs
 
 returns-2 : tie.Need-returns-2
 returns-2 c =
-    let made = c .before .before in
-    lent-refused (given (begun (made .before))) _ _ (made-here made) _ (c .if2 .taken)
-
-cast-put-entry : tie.Need-cast-put-entry
-cast-put-entry c = search needs
-
-put-entry-requires : tie.Need-put-entry-requires
-put-entry-requires c κs = search needs
-
-add-next : tie.Need-add-next
-add-next c =
-    let found = c .before .before .before .before .before in
-    let few = playing-moves _ (plays (begun (found .before .before .before))) in
-    omega (arith, few)
-
-returns-3 : tie.Need-returns-3
-returns-3 c =
-    let put = c .before in
-    let found = put .before .before .before .before in
-    let made = found .before .before in
-    let begin = begun (made .before) in
-    let b = given begin in
-    let m = b .moves in
-    let journal = ap (standing (m + 1)) (put .put-entry .ensures .1) ∙ sym (add-standing m (m + 1) (entriesOf (old begin)) (made .change .result .entry) (omega arith)) in
-    lent-stored b _ _ (made-here made) (old begin) _ _ (found .if2 .left) (whole-long (table begin) (old begin)) journal (put .put-entry .ensures .0)
+    let decoded = c .before .before .before in
+    let start = decoded .before .before .before in
+    let words = now (start .args .journal) in
+    let b = wholeOf (start .args .board) words in
+    let same = decoded .codes-of .ensures in (
+      c .turn-steps .ensures .0 ∙ ap (turnCall b) same,
+      c .turn-steps .ensures .1 ∙ ap (λ (w : List Step). wordsAfter (b .moves) (turnCall b w .board) words) same,
+    )
 
 pub turn-spec : {M : Type 1} → statement M
 turn-spec =
     tie.close
     (tie.spec
-    playing-requires
+    greatest-edge-requires
+    turn-unkept-requires
     returns
-    slice-aggregate-some-open-in
-    slice-aggregate-some-open-in-2
-    some-open-in-requires
-    at-vertices-requires
-    positive-requires
-    slice-aggregate-change
-    change-requires
-    returns-2
-    cast-put-entry
-    put-entry-requires
-    add-next
-    returns-3)
+    codes-of-requires
+    array-share-prefix-codes
+    slice-aggregate-turn-steps
+    turn-steps-requires
+    returns-2)

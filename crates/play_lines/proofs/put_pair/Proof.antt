@@ -1,6 +1,6 @@
 -- The parts of the step are stored one behind the other.
 use native.Mathlib.Omega.{arith}
-use Rattle.move_cycle.specs.Steps.{stepOf}
+use Rattle.move_cycle.specs.Steps.{codeStep}
 use Rattle.play_lines.proofs.MovesWritten.{step-put}
 use borrow.Author.Needs.{needs}
 use Rattle.play_lines.proofs.put_pair.Statement.{statement}
@@ -44,7 +44,7 @@ returns c =
     let at-way = at-comma .before .before in
     let start = at-way .before .before .before in
     let p =
-    step-put (stepOf (start .args .step)) (start .args .buf .now) _ _ _ _ (start .args .at) _ _ _ (at-way .before .edge-of .ensures) (at-way .way-letter .ensures)
+    step-put (codeStep (start .args .step)) (start .args .buf .now) _ _ _ _ (start .args .at) _ _ _ (at-way .before .edge-of .ensures) (at-way .way-letter .ensures)
     (at-comma .put-byte .ensures) (at-digits .write-number .ensures .0) (at-digits .write-number .ensures .1 .0) (at-way-comma .put-byte2 .ensures)
     (c .before .before .put-byte3 .ensures) in
     (p .0, (omega arith, p .1))

@@ -5,16 +5,17 @@ use native.Mathlib.Omega.{arith}
 use lib.ListN.{length, drop}
 use lib.Seq.{sets, length-sets}
 use Rattle.text_writer.proofs.Writing.{TextLeft}
-use Rattle.move_cycle.specs.Steps.{stepsOf}
+use Rattle.move_cycle.specs.Steps.{codeSteps}
 use Rattle.play_lines.specs.MoveLines.{stepsText}
+use Rattle.play_lines.specs.Inner.{stepBytes}
 use Rattle.play_lines.proofs.MovesWritten.{steps-turned, steps-done}
 use Rattle.play_lines.proofs.put_pairs.Statement.{statement}
 use Rattle.play_lines.proofs.put_pairs.Tie as tie
 
 abbrev Inv-loop : tie.InvT-loop
 Inv-loop buf₀ at steps count to₀ left₀ buf to left =
-    (left ≤ length steps) × (to ≤ at + 13 * (length steps - left))
-    × TextLeft buf (sets buf₀ at (stepsText (stepsOf steps))) to (at + length (stepsText (stepsOf steps))) (stepsText (stepsOf (drop (length steps - left) steps)))
+    (left ≤ length steps) × (to ≤ at + stepBytes * (length steps - left))
+    × TextLeft buf (sets buf₀ at (stepsText (codeSteps steps))) to (at + length (stepsText (codeSteps steps))) (stepsText (codeSteps (drop (length steps - left) steps)))
 
 abbrev μ-loop : tie.MeasureT-loop
 μ-loop buf₀ at steps count to₀ left₀ buf to left = left
@@ -26,6 +27,9 @@ loop-holds c =
 
 sub-i : tie.Need-sub-i Inv-loop μ-loop
 sub-i c = omega arith
+
+mul-put-pair : tie.Need-mul-put-pair Inv-loop μ-loop
+mul-put-pair c = omega arith
 
 shared-slice-read-put-pair : tie.Need-shared-slice-read-put-pair Inv-loop μ-loop
 shared-slice-read-put-pair c = omega arith
@@ -67,6 +71,7 @@ put-pairs-spec =
     μ-loop
     loop-holds
     sub-i
+    mul-put-pair
     shared-slice-read-put-pair
     put-pair-requires
     sub-left

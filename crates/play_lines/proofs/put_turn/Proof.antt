@@ -1,6 +1,6 @@
 -- The letter, the steps and the line feed are stored one behind the other.
 use native.Mathlib.Omega.{arith}
-use Rattle.move_cycle.specs.Steps.{stepsOf}
+use Rattle.move_cycle.specs.Steps.{codeSteps}
 use Rattle.play_lines.proofs.MovesWritten.{turn-put}
 use borrow.Author.Needs.{needs}
 use Rattle.play_lines.proofs.put_turn.Statement.{statement}
@@ -30,7 +30,7 @@ returns c =
     let at-letter = at-steps .before .before .before .before in
     let start = at-letter .before .before .before .before in
     let p =
-    turn-put (stepsOf (start .args .steps .now)) (start .args .buf .now) _ _ _ (start .args .at) _ (at-letter .put-byte .ensures) (at-steps .put-pairs .ensures .0)
+    turn-put (codeSteps (start .args .steps .now)) (start .args .buf .now) _ _ _ (start .args .at) _ (at-letter .put-byte .ensures) (at-steps .put-pairs .ensures .0)
     (at-steps .put-pairs .ensures .1 .1) (c .before .before .put-byte2 .ensures) in
     (p .0, (omega arith, p .1))
 

@@ -10,21 +10,20 @@ count-taken-requires c κs = search needs
 greater-requires : tie.Need-greater-requires
 greater-requires c κs = search needs
 
-step-byte-requires : tie.Need-step-byte-requires
-step-byte-requires c κs = search needs
+kept-code-requires : tie.Need-kept-code-requires
+kept-code-requires c κs = search needs
 
-slice-aggregate-put-byte : tie.Need-slice-aggregate-put-byte
-slice-aggregate-put-byte c = search needs
+cast-put-step : tie.Need-cast-put-step
+cast-put-step c = search needs
 
-cast-put-byte : tie.Need-cast-put-byte
-cast-put-byte c = search needs
-
-put-byte-requires : tie.Need-put-byte-requires
-put-byte-requires c κs = search needs
+put-step-requires : tie.Need-put-step-requires
+put-step-requires c κs = search needs
 
 returns : tie.Need-returns
 unfolding withStep
-returns c = rw (c .before .put-byte .ensures, c .before .before .before .before .before .step-byte .ensures, c .before .before .before .before .before .before .greater .ensures, c .before .before .before .before .before .before .before .count-taken .ensures)
+returns c =
+    let kept = c .before .before .before in
+    rw (c .put-step .ensures, kept .kept-code .ensures, kept .before .greater .ensures, kept .before .before .count-taken .ensures)
 
 pub with-step-spec : {M : Type 1} → statement M
 with-step-spec =
@@ -32,8 +31,7 @@ with-step-spec =
     (tie.spec
     count-taken-requires
     greater-requires
-    step-byte-requires
-    slice-aggregate-put-byte
-    cast-put-byte
-    put-byte-requires
+    kept-code-requires
+    cast-put-step
+    put-step-requires
     returns)

@@ -19,8 +19,8 @@ cast-few c = search needs
 and-requires : tie.Need-and-requires
 and-requires c κs = search needs
 
-unkept-requires : tie.Need-unkept-requires
-unkept-requires c κs = search needs
+turn-unkept-requires : tie.Need-turn-unkept-requires
+turn-unkept-requires c κs = search needs
 
 returns : tie.Need-returns
 returns c =
@@ -28,7 +28,7 @@ returns c =
     let tested = branch .before in
     let start = tested .before .before .before .before .before in
     let b = wholeOf (start .args .board) (now (start .args .journal)) in
-    turn-unkept b (start .args .form) _ (tested .and .ensures) _ (not-true _ (branch .if1 .taken)) (c .unkept .ensures)
+    turn-unkept b (start .args .form) _ (tested .and .ensures) _ (not-true _ (branch .if1 .taken)) (c .turn-unkept .ensures)
 
 cast-steps : tie.Need-cast-steps
 cast-steps c = search needs
@@ -44,8 +44,8 @@ array-share-prefix-steps c =
     let few = leb-true (start .args .form .count) maxEdges (both-left _ _ (sym (tested .and .ensures) ∙ not-false _ (branch .if1 .left))) in
     omega arith
 
-slice-aggregate-turn : tie.Need-slice-aggregate-turn
-slice-aggregate-turn c =
+slice-aggregate-turn-steps : tie.Need-slice-aggregate-turn-steps
+slice-aggregate-turn-steps c =
     let branch = c .before .before .before .before in
     let tested = branch .before in
     let start = tested .before .before .before .before .before in
@@ -55,8 +55,8 @@ slice-aggregate-turn c =
     let few = leb-true (start .args .form .count) maxEdges (both-left _ _ (sym (tested .and .ensures) ∙ not-false _ (branch .if1 .left))) in
     sym (length-take-le _ _ (omega arith))
 
-turn-requires : tie.Need-turn-requires
-turn-requires c κs = search needs
+turn-steps-requires : tie.Need-turn-steps-requires
+turn-steps-requires c κs = search needs
 
 returns-2 : tie.Need-returns-2
 returns-2 c =
@@ -64,8 +64,8 @@ returns-2 c =
     let tested = branch .before in
     let start = tested .before .before .before .before .before in
     let b = wholeOf (start .args .board) (now (start .args .journal)) in
-    let after = givenOf (c .turn .result) (c .turn .last .1 .0) in
-    turn-kept b (start .args .form) _ (tested .and .ensures) after (not-false _ (branch .if1 .left)) (c .turn .ensures .0)
+    let after = givenOf (c .turn-steps .result) (c .turn-steps .last .1 .0) in
+    turn-kept b (start .args .form) _ (tested .and .ensures) after (not-false _ (branch .if1 .left)) (c .turn-steps .ensures .0)
 
 pub turn-replied-spec : {M : Type 1} → statement M
 turn-replied-spec =
@@ -73,10 +73,10 @@ turn-replied-spec =
     (tie.spec
     cast-few
     and-requires
-    unkept-requires
+    turn-unkept-requires
     returns
     cast-steps
     array-share-prefix-steps
-    slice-aggregate-turn
-    turn-requires
+    slice-aggregate-turn-steps
+    turn-steps-requires
     returns-2)

@@ -2,7 +2,7 @@
 -- that the finish is the board's own (proofs/Words.antt).
 use mathlib.Core.Path.{_∙_}
 use lib.Seq.{sets}
-use Rattle.move_list.specs.Calls.{answers, hintsOf, noted}
+use Rattle.move_list.specs.Calls.{gameOf, answers, hintsOf, noted}
 use Rattle.move_list.specs.Codes.{callsOf}
 use Rattle.playthrough.proofs.Held.{held}
 use Rattle.playthrough.proofs.Words.{gathered, from-load, words-after}
@@ -44,9 +44,9 @@ returns c =
     let whole = gathered text calls opened empty (loads .0) (loads .1) table played (runs .0) (runs .1 .0) ended last (ends .0) (ends .1) in
     let words = words-after text calls opened empty (loads .0) (loads .1) table played (runs .0) (runs .1 .0) ended last (ends .0) (ends .1) in
     let given = runs .1 .1 .0
-    ∙ from-load text calls opened empty (loads .0) (loads .1) table played (runs .0) (runs .1 .0) (λ b. sets (args .given .now) 0 (answers b calls)) in
+    ∙ from-load text calls opened empty (loads .0) (loads .1) table played (runs .0) (runs .1 .0) (λ b. sets (args .given .now) 0 (answers (gameOf b) calls)) in
     let hints = runs .1 .1 .1
-    ∙ from-load text calls opened empty (loads .0) (loads .1) table played (runs .0) (runs .1 .0) (λ b. noted (args .hints .now) 0 (hintsOf b calls)) in
+    ∙ from-load text calls opened empty (loads .0) (loads .1) table played (runs .0) (runs .1 .0) (λ b. noted (args .hints .now) 0 (hintsOf (gameOf b) calls)) in
     (whole, (given, (hints, (words, held text calls _ _ _ _ _ whole given hints))))
 
 pub play-through-spec : {M : Type 1} → statement M

@@ -9,6 +9,7 @@ use native.Mathlib.Omega.{arith}
 use borrow.Author.Needs.{needs}
 use lib.ListN.{length, getD}
 use lib.Seq.{sets, length-sets}
+use Rattle.text.specs.Sizes.{lineBytes}
 use Rattle.text.specs.Text.{linesText}
 use Rattle.text_writer.proofs.Writing.{TextLeft, lines-turned, lines-done}
 use Rattle.report.proofs.Rows.{setLoadRow, set-lines}
@@ -17,7 +18,7 @@ use Rattle.report.proofs.put_loads.Tie as tie
 
 abbrev Inv-loop : tie.InvT-loop
 Inv-loop buf₀ at acyclic counts rows edges terminals demands routes to₀ e₀ buf to e =
-    (e ≤ edges) × (to ≤ at + 35 * e)
+    (e ≤ edges) × (to ≤ at + lineBytes 3 * e)
     × TextLeft buf (sets buf₀ at (linesText 76 (setLoadRow acyclic demands routes terminals) 0 edges)) to (at + length (linesText 76 (setLoadRow acyclic demands routes terminals) 0 edges))
     (linesText 76 (setLoadRow acyclic demands routes terminals) e (edges - e))
 

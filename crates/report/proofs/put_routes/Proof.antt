@@ -6,6 +6,7 @@ use native.Mathlib.Omega.{arith}
 use borrow.Author.Needs.{needs}
 use lib.ListN.{length}
 use lib.Seq.{sets, length-sets}
+use Rattle.text.specs.Sizes.{lineBytes, lineNumbers}
 use Rattle.text.specs.Text.{linesText}
 use Rattle.text_writer.proofs.Writing.{TextLeft, lines-turned, lines-done}
 use Rattle.report.specs.Rows.{tableRouteRow}
@@ -14,7 +15,7 @@ use Rattle.report.proofs.put_routes.Tie as tie
 
 abbrev Inv-loop : tie.InvT-loop
 Inv-loop buf₀ at counts rows terminals to₀ i₀ buf to i =
-    (i ≤ terminals) × (to ≤ at + 376 * i)
+    (i ≤ terminals) × (to ≤ at + lineBytes lineNumbers * i)
     × TextLeft buf (sets buf₀ at (linesText 77 (tableRouteRow counts rows) 0 terminals)) to (at + length (linesText 77 (tableRouteRow counts rows) 0 terminals))
     (linesText 77 (tableRouteRow counts rows) i (terminals - i))
 

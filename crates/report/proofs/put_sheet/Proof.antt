@@ -12,13 +12,14 @@ use lib.ListN.{length, length-map}
 use lib.Seq.{sets}
 use borrow.Author.Tests.{not-true, not-false, leb-true}
 use borrow.Author.Needs.{needs}
+use Rattle.text.specs.Sizes.{reportBytes}
 use Rattle.report.proofs.put_sheet.Statement.{statement}
 use Rattle.report.proofs.put_sheet.Tie as tie
 use Rattle.report.proofs.put_sheet.Reads as reads
 use Rattle.report.proofs.put_sheet.Lts as lts
 use Rattle.lists.proofs.and.Reads as and-reads
 use Rattle.report.proofs.has_room.Reads as has-room-reads
-use Rattle.report.proofs.loaded.Reads as loaded-reads
+use Rattle.move_guard.proofs.loaded.Reads as loaded-reads
 use Rattle.report.proofs.put_tables.Reads as put-tables-reads
 use Rattle.report.proofs.unreported_in.Reads as unreported-in-reads
 use Rattle.report_routes.proofs.fill.Reads as fill-reads
@@ -155,7 +156,7 @@ returns-4 c =
     let reported = sym (numbered n) ∙ passed .if2 .left in
     let text = report-text board reported _ _ (filled .1) (filled .0) in
     let sizes = ap length text in
-    let size : length (reportText board) ≤ 8280 = omega (arith, put .0, put .1 .0, sizes) in
+    let size : length (reportText board) ≤ reportBytes = omega (arith, put .0, put .1 .0, sizes) in
     let room : args .whole ≡ true → length (reportText board) ≤ length (args .buf .now) =
     λ yes. ⊎-elim
     (λ w.

@@ -16,8 +16,11 @@ Inv-loop edges set₀ i₀ set i = EdgesPassed edges i set
 abbrev μ-loop : tie.MeasureT-loop
 μ-loop edges set₀ i₀ set i = length edges - i
 
+none-requires : tie.Need-none-requires Inv-loop μ-loop
+none-requires c κs = search needs
+
 loop-holds : tie.Need-loop-holds Inv-loop μ-loop
-loop-holds c = set-start _
+loop-holds c = rw (c .none .ensures) (set-start _)
 
 mul-e : tie.Need-mul-e Inv-loop μ-loop
 mul-e c = search needs
@@ -58,6 +61,7 @@ edge-set-spec =
     (tie.spec
     Inv-loop
     μ-loop
+    none-requires
     loop-holds
     mul-e
     shared-slice-read-e

@@ -1,9 +1,9 @@
 -- Each terminal that was passed has the set of its route in its place, and the places from there on hold the empty set.
 use denote.Ref.{now}
-use mathlib.Core.Path.{_≡_, refl, _∙_}
-use Prim.Native.Nat.{_-_, _≤_}
+use mathlib.Core.Path.{_≡_, refl, ap, _∙_}
+use Prim.Native.Nat.{ℕ, _-_, _≤_}
 use native.Mathlib.Omega.{arith}
-use lib.ListN.{length, length-set}
+use lib.ListN.{length, getD, replicate, length-set}
 use borrow.Author.Needs.{needs}
 use Rattle.lists.proofs.Laws.{zeros-at}
 use Rattle.board.specs.Limits.{maxTerminals}
@@ -13,13 +13,16 @@ use Rattle.report_routes.proofs.edge_sets.Statement.{statement}
 use Rattle.report_routes.proofs.edge_sets.Tie as tie
 
 abbrev Inv-loop : tie.InvT-loop
-Inv-loop counts rows terminals routes₀ i₀ routes i = (length routes ≡ maxTerminals) × (i ≤ terminals) × RouteSets routes counts rows i
+Inv-loop counts rows terminals none routes₀ i₀ routes i = (length routes ≡ maxTerminals) × (i ≤ terminals) × RouteSets routes counts rows i
 
 abbrev μ-loop : tie.MeasureT-loop
-μ-loop counts rows terminals routes₀ i₀ routes i = terminals - i
+μ-loop counts rows terminals none routes₀ i₀ routes i = terminals - i
+
+none-requires : tie.Need-none-requires Inv-loop μ-loop
+none-requires c κs = search needs
 
 loop-holds : tie.Need-loop-holds Inv-loop μ-loop
-loop-holds c = (refl, omega arith, record { are = λ i h. absurd (omega arith); past = λ i h. zeros-at maxTerminals i })
+loop-holds c = (refl, omega arith, record { are = λ i h. absurd (omega arith); past = λ i h. ap (λ (m : ℕ). getD (replicate maxTerminals m) i 0) (c .none .ensures) ∙ zeros-at maxTerminals i })
 
 mul-row : tie.Need-mul-row Inv-loop μ-loop
 mul-row c = search needs
@@ -53,7 +56,7 @@ loop-again c =
     let read = c .before in
     let tested = read .before .before .before in
     let at-loop = tested .before .loop in
-    let start = tested .before .before in (
+    let start = tested .before .before .before in (
       length-set (at-loop .routes) _ _ ∙ at-loop .inv .0,
       omega arith,
       sets-turn (at-loop .routes) (now (start .args .counts)) (now (start .args .rows)) (at-loop .i) _ (omega arith) (at-loop .inv .2) (rw (read .word-at .ensures) at (c .row-set .ensures)),
@@ -68,6 +71,7 @@ edge-sets-spec =
     (tie.spec
     Inv-loop
     μ-loop
+    none-requires
     loop-holds
     mul-row
     element-copy-out-row

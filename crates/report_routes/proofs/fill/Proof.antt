@@ -54,6 +54,9 @@ mul-n c = search needs
 array-read-n : tie.Need-array-read-n Inv-loop μ-loop
 array-read-n c = search needs
 
+cast-if3 : tie.Need-cast-if3 Inv-loop μ-loop
+cast-if3 c = search needs
+
 cast-rows : tie.Need-cast-rows Inv-loop μ-loop
 cast-rows c = search needs
 
@@ -199,6 +202,7 @@ fill-spec =
     cast-i
     mul-n
     array-read-n
+    cast-if3
     cast-rows
     mul-rows
     mul-rows-2

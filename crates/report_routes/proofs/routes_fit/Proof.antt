@@ -29,6 +29,9 @@ cast-word-at c = search needs
 word-at-requires : tie.Need-word-at-requires Inv-loop μ-loop
 word-at-requires c κs = search needs
 
+cast-if1 : tie.Need-cast-if1 Inv-loop μ-loop
+cast-if1 c = search needs
+
 returns : tie.Need-returns Inv-loop μ-loop
 returns c =
     let at-word-at = c .before .word-at in
@@ -61,6 +64,7 @@ routes-fit-spec =
     loop-holds
     cast-word-at
     word-at-requires
+    cast-if1
     returns
     add-i
     loop-less

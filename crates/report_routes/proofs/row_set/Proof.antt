@@ -8,9 +8,6 @@ use Rattle.board.specs.Limits.{maxVertices}
 use Rattle.report_routes.proofs.row_set.Statement.{statement}
 use Rattle.report_routes.proofs.row_set.Tie as tie
 
-cast-if1 : tie.Need-cast-if1
-cast-if1 c = search needs
-
 array-share-prefix-edges : tie.Need-array-share-prefix-edges
 array-share-prefix-edges c = search needs
 
@@ -42,7 +39,6 @@ pub row-set-spec : {M : Type 1} → statement M
 row-set-spec =
     tie.close
     (tie.spec
-    cast-if1
     array-share-prefix-edges
     slice-aggregate-edge-set
     edge-set-requires

@@ -12,13 +12,13 @@ lowest-fit-requires : tie.Need-lowest-fit-requires
 lowest-fit-requires c κs = search needs
 
 returns : tie.Need-returns
-returns c = chosen-marked _ _ _ _ _ _ (c .before .before .common .ensures) (c .before .lowest-fit .ensures) (c .if1 .taken)
+returns c = chosen-marked _ _ _ _ _ _ _ (c .before .before .common .ensures) (c .before .lowest-fit .ensures) (c .if1 .taken)
 
 lowest-fit-requires-2 : tie.Need-lowest-fit-requires-2
 lowest-fit-requires-2 c κs = search needs
 
 returns-2 : tie.Need-returns-2
-returns-2 c = c .lowest-fit2 .ensures ∙ chosen-other _ _ _ _ _ _ (c .before .before .before .common .ensures) (c .before .before .lowest-fit .ensures) (c .before .if1 .left)
+returns-2 c = c .lowest-fit2 .ensures ∙ chosen-other _ _ _ _ _ _ _ (c .before .before .before .common .ensures) (c .before .before .lowest-fit .ensures) (c .before .if1 .left)
 
 pub chosen-spec : {M : Type 1} → statement M
 chosen-spec =

@@ -1,6 +1,7 @@
--- By the mark: the flow must equal the demand on a marked edge, and reach it on any other, as in `flowFits`.
-use mathlib.Core.Path.{sym, _∙_}
-use Rattle.lists.proofs.Laws.{pick-yes, pick-no}
+-- The mark and the flow that are read are those of the definition.
+use mathlib.Core.Path.{ap₂, _∙_}
+use mathlib.Core.Bool.{Bool}
+use Prim.Native.Nat.{ℕ}
 use Rattle.move_carry.specs.Opens.{flowFits}
 use borrow.Author.Needs.{needs}
 use Rattle.solve_carry.proofs.fits.Statement.{statement}
@@ -12,13 +13,14 @@ word-at-requires c κs = search needs
 has-requires : tie.Need-has-requires
 has-requires c κs = search needs
 
-returns : tie.Need-returns
-unfolding flowFits
-returns c = rw (c .before .before .word-at .ensures) (sym (pick-yes _ _ _ (sym (c .before .has .ensures) ∙ c .if1 .taken)))
+flow-fits-requires : tie.Need-flow-fits-requires
+flow-fits-requires c κs = search needs
 
-returns-2 : tie.Need-returns-2
-unfolding flowFits
-returns-2 c = rw (c .before .before .word-at .ensures) (sym (pick-no _ _ _ (sym (c .before .has .ensures) ∙ c .if1 .left)))
+returns : tie.Need-returns
+returns c =
+    let marked = c .before in
+    let read = marked .before in
+    c .flow-fits .ensures ∙ ap₂ (λ (m : Bool) (f : ℕ). flowFits m f (read .before .before .args .demand)) (marked .has .ensures) (read .word-at .ensures)
 
 pub fits-spec : {M : Type 1} → statement M
-fits-spec = tie.close (tie.spec word-at-requires has-requires returns returns-2)
+fits-spec = tie.close (tie.spec word-at-requires has-requires flow-fits-requires returns)

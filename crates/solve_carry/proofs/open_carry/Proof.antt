@@ -1,24 +1,70 @@
 -- What is left of the search is the whole search, as long as no terminal had an open carry.
 use mathlib.Core.Path.{_≡_, sym, _∙_}
-use Prim.Native.Nat.{_-_}
+use mathlib.Core.List.{List, []}
+use Prim.Native.Nat.{ℕ, _-_, _<_, _^_}
 use native.Mathlib.Nat.{sub-zero}
 use native.Mathlib.Omega.{arith}
+use denote.Ref.{now}
 use borrow.Author.Needs.{needs}
 use Rattle.lists.specs.Lists.{lowest}
 use Rattle.lists.proofs.Laws.{lowest-hit, lowest-miss, lowest-end}
-use Rattle.solve_carry.specs.Search.{hasOpenAt}
-use Rattle.solve_carry.proofs.Finds.{finds-edge, found-carry, found-no-carry}
+use Rattle.sets.specs.Inner.{setWidth}
+use Rattle.board.specs.declared.Network.{Network}
+use Rattle.move_carry.specs.Opens.{hasOpenIn, openTerminalIn}
+use Rattle.move_carry.specs.Frames.{netOf}
+use Rattle.solve_carry.proofs.Finds.{Finds, finds-edge, found-carry, found-no-carry}
 use Rattle.solve_carry.proofs.open_carry.Statement.{statement}
 use Rattle.solve_carry.proofs.open_carry.Tie as tie
+use Rattle.solve_carry.proofs.open_carry.Reads as reads
+use Rattle.solve_carry.proofs.open_carry.Lts as lts
+use Rattle.lists.proofs.word_at.Reads as word-at-reads
+use Rattle.move_edges.proofs.touching.Reads as touching-reads
+use Rattle.solve_carry.proofs.chosen.Reads as chosen-reads
 
 abbrev Inv-loop : tie.InvT-loop
-Inv-loop heads entering demands terminals edges flows positive marks places i₀ i =
-    lowest (hasOpenAt heads demands edges flows marks places) i (terminals - i) ≡ lowest (hasOpenAt heads demands edges flows marks places) 0 terminals
+Inv-loop frame heads demands entering flows places terminals edges i₀ i =
+    lowest (hasOpenIn (netOf frame [] heads demands) flows (frame .marks) places) i (terminals - i) ≡ openTerminalIn (netOf frame [] heads demands) flows (frame .marks) places
 
 abbrev μ-loop : tie.MeasureT-loop
-μ-loop heads entering demands terminals edges flows positive marks places i₀ i = terminals - i
+μ-loop frame heads demands entering flows places terminals edges i₀ i = terminals - i
+
+abbrev cs : lts.Claims
+cs = (word-at-reads.Asked, word-at-reads.Learnt, touching-reads.Asked, touching-reads.Learnt, chosen-reads.Asked, chosen-reads.Learnt)
+
+abbrev Start : Type 0
+Start = lts.Start cs reads.Pre reads.Post Inv-loop μ-loop
+
+abbrev net : Start → Network
+net s = netOf (s .args .frame) [] (now (s .args .heads)) (now (s .args .demands))
+
+-- what owning the frame tells of its set
+small : (s : Start) → s .args .frame .positive < 2 ^ setWidth
+small s = search (needs, s .good .0 .1 .1 .1 .1 .1 .1 .1 .0)
+
+-- what the search has found for terminal i
+abbrev Looked : Type 0
+Looked = lts.After-chosen cs reads.Pre reads.Post Inv-loop μ-loop
+
+abbrev tested : Looked → lts.In-loop cs reads.Pre reads.Post Inv-loop μ-loop
+tested c = c .before .before .before .before
+
+abbrev looping : Looked → lts.At-loop cs reads.Pre reads.Post Inv-loop μ-loop
+looping c = tested c .before
+
+abbrev start : lts.At-loop cs reads.Pre reads.Post Inv-loop μ-loop → Start
+start c = c .before .before .before .before .before .before
+
+found : (c : Looked)
+    → Finds (net (start (looping c))) (now (start (looping c) .args .entering)) (now (start (looping c) .args .flows)) (start (looping c) .args .frame .positive)
+    (start (looping c) .args .frame .marks) (now (start (looping c) .args .places)) (start (looping c) .pre) (small (start (looping c))) (looping c .loop .i) (tested c .loop-test .taken) (c .chosen .result)
+found c =
+    let at-set = c .before in
+    let at-demand = at-set .before in
+    finds-edge _ _ _ _ _ _ (start (looping c) .pre) (small (start (looping c))) _ (tested c .loop-test .taken) _ _ _ _ (at-demand .before .word-at .ensures) (at-demand .word-at2 .ensures)
+    (at-set .touching .ensures) (c .chosen .ensures)
 
 loop-holds : tie.Need-loop-holds Inv-loop μ-loop
+unfolding openTerminalIn
 loop-holds c = rw sub-zero
 
 cast-word-at : tie.Need-cast-word-at Inv-loop μ-loop
@@ -41,14 +87,11 @@ chosen-requires c κs = search needs
 
 returns : tie.Need-returns Inv-loop μ-loop
 returns c =
-    let s = c .before .before .before .before .before .before .before .before .before .before .before .before in
-    let below = c .before .before .before .before .before .loop-test .taken in
-    let found = finds-edge _ _ _ _ _ _ _ _ _ (s .pre) (search needs) _ below _ _ _ _ (c .before .before .before .before .word-at .ensures) (c .before .before .before .word-at2 .ensures)
-    (c .before .before .touching .ensures) (c .before .chosen .ensures) in
-    let here = found .0 (c .if1 .taken) in
-    let args = s .args in
-    found-carry (args .heads .now) (args .demands .now) (args .edges) (args .flows .now) (args .marks) (args .places .now) (args .terminals) _ _
-    (sym (lowest-hit _ _ _ below (here .0)) ∙ c .before .before .before .before .before .before .loop .inv) below (here .1)
+    let looked = c .before in
+    let here = found looked .0 (c .if1 .taken) in
+    let below = tested looked .loop-test .taken in
+    let s = start (looping looked) in
+    found-carry (net s) (now (s .args .flows)) (s .args .frame .marks) (now (s .args .places)) _ _ (sym (lowest-hit _ _ _ below (here .0)) ∙ looping looked .loop .inv) below (here .1)
 
 add-i : tie.Need-add-i Inv-loop μ-loop
 add-i c = omega arith
@@ -58,17 +101,13 @@ loop-less c = omega arith
 
 loop-again : tie.Need-loop-again Inv-loop μ-loop
 loop-again c =
-    let s = c .before .before .before .before .before .before .before .before .before .before .before .before in
-    let below = c .before .before .before .before .before .loop-test .taken in
-    let found = finds-edge _ _ _ _ _ _ _ _ _ (s .pre) (search needs) _ below _ _ _ _ (c .before .before .before .before .word-at .ensures) (c .before .before .before .word-at2 .ensures)
-    (c .before .before .touching .ensures) (c .before .chosen .ensures) in
-    lowest-miss _ _ _ below (found .1 (c .if1 .left)) ∙ c .before .before .before .before .before .before .loop .inv
+    let looked = c .before in
+    lowest-miss _ _ _ (tested looked .loop-test .taken) (found looked .1 (c .if1 .left)) ∙ looping looked .loop .inv
 
 returns-2 : tie.Need-returns-2 Inv-loop μ-loop
 returns-2 c =
-    let args = c .before .before .before .before .before .before .before .args in
-    found-no-carry (args .heads .now) (args .demands .now) (args .edges) (args .flows .now) (args .marks) (args .places .now) (args .terminals) _
-    (sym (lowest-end _ _ _ (c .loop-test .left)) ∙ c .before .loop .inv) (c .loop-test .left)
+    let s = start (c .before) in
+    found-no-carry (net s) (now (s .args .flows)) (s .args .frame .marks) (now (s .args .places)) _ (sym (lowest-end _ _ _ (c .loop-test .left)) ∙ c .before .loop .inv) (c .loop-test .left)
 
 pub open-carry-spec : {M : Type 1} → statement M
 open-carry-spec =

@@ -1,7 +1,7 @@
 -- What is seen of the flows is right but for the edges that are left to look at.
-use Rattle.sets.proofs.Scan.{lowest-below, dropped-less}
-use Rattle.move_edges.proofs.Gathering.{lowest-in}
-use native.Mathlib.Omega.{arith}
+use mathlib.Core.Path.{sym, _∙_}
+use borrow.Author.Tests.{eqb-true, not-true, not-false}
+use Rattle.sets.proofs.Scan.{has-inside, lowest-in, dropped-less}
 use Rattle.solve_finish.proofs.Looking.{LookedBut, look-all, look-one, look-none}
 use borrow.Author.Needs.{needs}
 use Rattle.solve_finish.proofs.look_again.Statement.{statement}
@@ -15,6 +15,9 @@ abbrev μ-loop : tie.MeasureT-loop
 
 loop-holds : tie.Need-loop-holds Inv-loop μ-loop
 loop-holds c = look-all _ _ _ (search needs) (c .pre)
+
+is-empty-requires : tie.Need-is-empty-requires Inv-loop μ-loop
+is-empty-requires c κs = search needs
 
 lowest-requires : tie.Need-lowest-requires Inv-loop μ-loop
 lowest-requires c κs = search needs
@@ -35,7 +38,8 @@ with-requires : tie.Need-with-requires Inv-loop μ-loop
 with-requires c κs =
     let at-lowest = c .before .before .before in
     let at-test = at-lowest .before in
-    rw (at-lowest .lowest .ensures) (lowest-below _ (at-test .before .loop .inv .fits) (omega (arith, at-test .loop-test .taken)))
+    let fits = at-test .before .before .loop .inv .fits in
+    has-inside _ _ fits (lowest-in _ _ (at-lowest .lowest .ensures) fits (sym (at-test .before .is-empty .ensures) ∙ not-true _ (at-test .if1 .taken)))
 
 and-requires : tie.Need-and-requires Inv-loop μ-loop
 and-requires c κs = search needs
@@ -47,7 +51,9 @@ loop-less : tie.Need-loop-less Inv-loop μ-loop
 loop-less c =
     let at-lowest = c .before .before .before .before .before .before in
     let at-test = at-lowest .before in
-    rw (c .drop2 .ensures) (dropped-less _ _ (lowest-in _ _ (at-lowest .lowest .ensures) (at-test .before .loop .inv .fits) (at-test .loop-test .taken)))
+    rw (c .drop2 .ensures)
+    (dropped-less _ _
+    (lowest-in _ _ (at-lowest .lowest .ensures) (at-test .before .before .loop .inv .fits) (sym (at-test .before .is-empty .ensures) ∙ not-true _ (at-test .if1 .taken))))
 
 loop-again : tie.Need-loop-again Inv-loop μ-loop
 loop-again c =
@@ -57,14 +63,15 @@ loop-again c =
     let at-word = at-drop .before in
     let at-lowest = at-word .before .before in
     let at-test = at-lowest .before in
-    let inv = at-test .before .loop .inv in
-    let has = lowest-in _ _ (at-lowest .lowest .ensures) (inv .fits) (at-test .loop-test .taken) in
+    let inv = at-test .before .before .loop .inv in
+    let has = lowest-in _ _ (at-lowest .lowest .ensures) (inv .fits) (sym (at-test .before .is-empty .ensures) ∙ not-true _ (at-test .if1 .taken)) in
     rw (c .drop2 .ensures, at-and .and .ensures, at-with .with .ensures, at-drop .drop .ensures)
     (look-one _ _ _ _ _ _ has (at-word .word-at .ensures) inv)
 
 returns : tie.Need-returns Inv-loop μ-loop
 returns c =
-    let seen = look-none _ _ _ _ (c .loop-test .left) (c .before .loop .inv) in
+    let over = eqb-true _ _ (sym (c .before .is-empty .ensures) ∙ not-false _ (c .if1 .left)) in
+    let seen = look-none _ _ _ _ over (c .before .before .loop .inv) in
     record { is-positive = seen .0; smalls = seen .1 }
 
 pub look-again-spec : {M : Type 1} → statement M
@@ -74,6 +81,7 @@ look-again-spec =
     Inv-loop
     μ-loop
     loop-holds
+    is-empty-requires
     lowest-requires
     cast-word-at
     word-at-requires

@@ -8,6 +8,9 @@ use Rattle.solve_finish.proofs.shifted_edges.Tie as tie
 enum-told : tie.Need-enum-told
 enum-told c = search needs
 
+none-requires : tie.Need-none-requires
+none-requires c κs = search needs
+
 enum-known-step : tie.Need-enum-known-step
 enum-known-step c = search needs
 
@@ -16,11 +19,11 @@ joined-requires c κs = search needs
 
 returns : tie.Need-returns
 unfolding shiftedEdges
-returns c = sym (ap shiftedEdges (c .enum-told .given .1))
+returns c = c .none .ensures ∙ sym (ap shiftedEdges (c .before .enum-told .given .1))
 
 returns-2 : tie.Need-returns-2
 unfolding shiftedEdges
 returns-2 c = c .joined .ensures ∙ sym (ap shiftedEdges (c .before .before .step .given .1))
 
 pub shifted-edges-spec : {M : Type 1} → statement M
-shifted-edges-spec = tie.close (tie.spec enum-told enum-known-step joined-requires returns returns-2)
+shifted-edges-spec = tie.close (tie.spec enum-told none-requires enum-known-step joined-requires returns returns-2)

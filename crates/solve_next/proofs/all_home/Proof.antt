@@ -3,8 +3,7 @@ use mathlib.Core.Path.{_≡_, sym, _∙_}
 use Prim.Native.Nat.{_-_}
 use native.Mathlib.Nat.{sub-zero}
 use borrow.Author.Tests.{eq-eqb, ne-eqb}
-use lib.Dec.{eqb}
-use lib.ListN.{getD}
+use Rattle.move_carry.specs.Opens.{isHomeIn}
 use Rattle.lists.specs.Lists.{all}
 use Rattle.lists.proofs.Laws.{all-hit, all-miss, all-end}
 use Rattle.solve_next.specs.Choosing.{allHomeIn}
@@ -14,7 +13,7 @@ use Rattle.solve_next.proofs.all_home.Statement.{statement}
 use Rattle.solve_next.proofs.all_home.Tie as tie
 
 abbrev Inv-loop : tie.InvT-loop
-Inv-loop places terminals source i₀ i = all (λ k. eqb (getD places k 0) source) i (terminals - i) ≡ allHomeIn terminals source places
+Inv-loop places terminals source i₀ i = all (isHomeIn source places) i (terminals - i) ≡ allHomeIn terminals source places
 
 abbrev μ-loop : tie.MeasureT-loop
 μ-loop places terminals source i₀ i = terminals - i
@@ -30,6 +29,7 @@ word-at-requires : tie.Need-word-at-requires Inv-loop μ-loop
 word-at-requires c κs = tt
 
 returns : tie.Need-returns Inv-loop μ-loop
+unfolding isHomeIn
 returns c =
     let at-loop-test = c .before .before in
     let away = ne-eqb _ _ (λ q. c .if1 .taken (c .before .word-at .ensures ∙ q)) in
@@ -42,6 +42,7 @@ loop-less : tie.Need-loop-less Inv-loop μ-loop
 loop-less c = omega arith
 
 loop-again : tie.Need-loop-again Inv-loop μ-loop
+unfolding isHomeIn
 loop-again c =
     let at-loop-test = c .before .before in
     let home = eq-eqb _ _ (sym (c .before .word-at .ensures) ∙ c .if1 .left) in

@@ -1,6 +1,6 @@
 -- A walk of no steps has met no vertex, and the walk down from the source that starts so is the definition.
 use native.Mathlib.Omega.{arith}
-use Rattle.move_cycle.specs.Steps.{stepsOf}
+use Rattle.move_cycle.specs.Steps.{codeSteps}
 use Rattle.solve_walk.specs.Walk.{cycleOf}
 use Rattle.solve_walk.proofs.Charts.{seen-none}
 use borrow.Author.Needs.{needs}
@@ -10,13 +10,18 @@ use Rattle.solve_walk.proofs.cycle.Tie as tie
 cast-none : tie.Need-cast-none
 cast-none c = search needs
 
+none-requires : tie.Need-none-requires
+none-requires c κs = search needs
+
 down-walk-requires : tie.Need-down-walk-requires
-unfolding stepsOf
-down-walk-requires c κs = let s = c .before .before .before .before .before in (omega arith, (s .pre .1 .0, (seen-none _ _, s .pre .1 .1)))
+unfolding codeSteps
+down-walk-requires c κs =
+    let s = c .before .before .before .before .before .before in
+    (omega arith, (s .pre .1 .0, (rw (c .none .ensures) (seen-none _ _), s .pre .1 .1)))
 
 returns : tie.Need-returns
-unfolding cycleOf stepsOf
+unfolding cycleOf codeSteps
 returns c = c .down-walk .ensures
 
 pub cycle-spec : {M : Type 1} → statement M
-cycle-spec = tie.close (tie.spec cast-none down-walk-requires returns)
+cycle-spec = tie.close (tie.spec cast-none none-requires down-walk-requires returns)

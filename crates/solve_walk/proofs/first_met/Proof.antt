@@ -6,25 +6,28 @@ use native.Mathlib.Omega.{arith}
 use lib.ListN.{take, drop}
 use borrow.Author.Needs.{needs}
 use Rattle.lists.specs.Lists.{indexOf}
-use Rattle.move_cycle.specs.Steps.{stepsOf}
+use Rattle.move_cycle.specs.Steps.{codeSteps}
 use Rattle.solve_walk.specs.Walk.{startsOf, firstMet}
 use Rattle.solve_walk.proofs.Loops.{held, met-here, met-later, met-nowhere}
 use Rattle.solve_walk.proofs.first_met.Statement.{statement}
 use Rattle.solve_walk.proofs.first_met.Tie as tie
 
 abbrev Inv-loop : tie.InvT-loop
-Inv-loop tails heads v count bytes i₀ i =
-    let starts = startsOf tails heads (stepsOf (take count bytes)) in
+Inv-loop tails heads v count codes i₀ i =
+    let starts = startsOf tails heads (codeSteps (take count codes)) in
     (i ≤ count) × (i + indexOf v (drop i starts) ≡ indexOf v starts)
 
 abbrev μ-loop : tie.MeasureT-loop
-μ-loop tails heads v count bytes i₀ i = count - i
+μ-loop tails heads v count codes i₀ i = count - i
 
 loop-holds : tie.Need-loop-holds Inv-loop μ-loop
 loop-holds c = (omega arith, zero-add _)
 
 cast-start-of : tie.Need-cast-start-of Inv-loop μ-loop
 cast-start-of c = search needs
+
+mul-start-of : tie.Need-mul-start-of Inv-loop μ-loop
+mul-start-of c = search needs
 
 array-read-start-of : tie.Need-array-read-start-of Inv-loop μ-loop
 array-read-start-of c = omega (arith, c .before .before .before .before .before .pre)
@@ -70,6 +73,7 @@ first-met-spec =
     μ-loop
     loop-holds
     cast-start-of
+    mul-start-of
     array-read-start-of
     start-of-requires
     returns

@@ -12,8 +12,13 @@ lowest-requires c κs = search needs
 drop-requires : tie.Need-drop-requires
 drop-requires c κs = search needs
 
+is-empty-requires : tie.Need-is-empty-requires
+is-empty-requires c κs = search needs
+
 returns : tie.Need-returns
-returns c = rw (c .drop .ensures, c .before .lowest .ensures, c .before .before .touching .ensures)
+returns c =
+    let after-drop = c .before in
+    rw (c .is-empty .ensures, after-drop .drop .ensures, after-drop .before .lowest .ensures, after-drop .before .before .touching .ensures)
 
 pub parts-spec : {M : Type 1} → statement M
-parts-spec = tie.close (tie.spec touching-requires lowest-requires drop-requires returns)
+parts-spec = tie.close (tie.spec touching-requires lowest-requires drop-requires is-empty-requires returns)

@@ -42,9 +42,11 @@ wide-requires c κs = search needs
 
 add-at-requires : tie.Need-add-at-requires Inv-loop μ-loop
 add-at-requires c κs =
-    let at-loop = c .before .before .before .before .before .loop in
-    let at-pre = c .before .before .before .before .before .before .before .before .before .pre in
-    let k = getD (c .before .before .before .before .before .before .before .before .before .args .keys .now) (at-loop .i) 0 in
+    let looping = c .before .before .before .before .before in
+    let start = looping .before .before .before .before in
+    let at-loop = looping .loop in
+    let at-pre = start .pre in
+    let k = getD (start .args .keys .now) (at-loop .i) 0 in
     omega (arith, at-loop .inv .3 k, at-pre .1 k)
 
 add-i : tie.Need-add-i Inv-loop μ-loop
@@ -55,16 +57,20 @@ loop-less c = omega arith
 
 loop-again : tie.Need-loop-again Inv-loop μ-loop
 loop-again c =
+    let after-wide = c .before .before .before .before in
+    let in-loop = after-wide .before .before .before in
+    let looping = in-loop .before in
+    let start = looping .before .before .before .before in
     let at-add-at = c .before .before .add-at in
-    let at-wide = c .before .before .before .before .wide in
-    let at-loop-test = c .before .before .before .before .before .before .before .loop-test in
-    let at-loop = c .before .before .before .before .before .before .before .before .loop in
-    let at-pre = c .before .before .before .before .before .before .before .before .before .before .before .before .pre in
-    let size : length (at-loop .sums) ≡ length (c .before .before .before .before .before .before .before .before .before .before .before .before .args .sums .now) = at-loop .inv .1 in (
+    let at-wide = after-wide .wide in
+    let at-loop-test = in-loop .loop-test in
+    let at-loop = looping .loop in
+    let at-pre = start .pre in
+    let size : length (at-loop .sums) ≡ length (start .args .sums .now) = at-loop .inv .1 in (
       omega arith,
       omega arith,
       λ v h. keyed-turn _ _ (at-loop .sums) _ _ _ _ v _ (at-loop-test .taken) (at-pre .0 .0) refl (at-wide .ensures .0) (at-add-at .ensures) (omega arith) (at-loop .inv .2 v h),
-      λ v. rw (at-add-at .ensures) (omega (arith, stored-most (at-loop .sums) (getD (c .before .before .before .before .before .before .before .before .before .before .before .before .args .keys .now) (at-loop .i) 0) (at-wide .result) v, at-loop .inv .3 v, at-wide .ensures .1)),
+      λ v. rw (at-add-at .ensures) (omega (arith, stored-most (at-loop .sums) (getD (start .args .keys .now) (at-loop .i) 0) (at-wide .result) v, at-loop .inv .3 v, at-wide .ensures .1)),
     )
 
 same-length : tie.Need-same-length Inv-loop μ-loop

@@ -4,17 +4,20 @@ use borrow.Author.Needs.{needs}
 use Rattle.text_judge.proofs.counts_fit_in.Statement.{statement}
 use Rattle.text_judge.proofs.counts_fit_in.Tie as tie
 
+cast-between : tie.Need-cast-between
+cast-between c = search needs
+
 between-requires : tie.Need-between-requires
 between-requires c κs = search needs
 
-cast-between : tie.Need-cast-between
-cast-between c = search needs
+cast-between-2 : tie.Need-cast-between-2
+cast-between-2 c = search needs
 
 between-requires-2 : tie.Need-between-requires-2
 between-requires-2 c κs = search needs
 
-cast-between-2 : tie.Need-cast-between-2
-cast-between-2 c = search needs
+cast-between-3 : tie.Need-cast-between-3
+cast-between-3 c = search needs
 
 between-requires-3 : tie.Need-between-requires-3
 between-requires-3 c κs = search needs
@@ -39,10 +42,11 @@ pub counts-fit-in-spec : {M : Type 1} → statement M
 counts-fit-in-spec =
     tie.close
     (tie.spec
-    between-requires
     cast-between
-    between-requires-2
+    between-requires
     cast-between-2
+    between-requires-2
+    cast-between-3
     between-requires-3
     and-requires
     and-requires-2

@@ -36,22 +36,28 @@ all-balanced-requires c κs =
 returns-3 : tie.Need-returns-3
 unfolding judged pick
 returns-3 c =
+    let after-all-away = c .before .before .before in
+    let branch-1 = after-all-away .before .before .before .before in
+    let after-all-differ = branch-1 .before in
     let at-all-balanced = c .before .all-balanced in
     let at-if2 = c .before .before .if2 in
-    let at-all-away = c .before .before .before .all-away in
-    let at-if1 = c .before .before .before .before .before .before .before .if1 in
-    let at-all-differ = c .before .before .before .before .before .before .before .before .all-differ in
+    let at-all-away = after-all-away .all-away in
+    let at-if1 = branch-1 .if1 in
+    let at-all-differ = after-all-differ .all-differ in
     rw
     (sym (at-all-differ .ensures) ∙ not-false _ (at-if1 .left), sym (at-all-away .ensures) ∙ not-false _ (at-if2 .left), sym (at-all-balanced .ensures) ∙ not-true _ (c .if3 .taken))
 
 returns-4 : tie.Need-returns-4
 unfolding judged pick
 returns-4 c =
+    let after-all-away = c .before .before .before in
+    let branch-1 = after-all-away .before .before .before .before in
+    let after-all-differ = branch-1 .before in
     let at-all-balanced = c .before .all-balanced in
     let at-if2 = c .before .before .if2 in
-    let at-all-away = c .before .before .before .all-away in
-    let at-if1 = c .before .before .before .before .before .before .before .if1 in
-    let at-all-differ = c .before .before .before .before .before .before .before .before .all-differ in
+    let at-all-away = after-all-away .all-away in
+    let at-if1 = branch-1 .if1 in
+    let at-all-differ = after-all-differ .all-differ in
     rw
     (sym (at-all-differ .ensures) ∙ not-false _ (at-if1 .left), sym (at-all-away .ensures) ∙ not-false _ (at-if2 .left), sym (at-all-balanced .ensures) ∙ not-false _ (c .if3 .left))
 

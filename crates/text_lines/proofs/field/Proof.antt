@@ -38,11 +38,15 @@ enum-told c = search needs
 returns-2 : tie.Need-returns-2
 unfolding answerRead pick
 returns-2 c =
+    let after-found = c .before .before .before in
+    let after-read-number = after-found .before .before in
+    let branch-1 = after-read-number .before .before in
+    let after-index-of = branch-1 .before in
     let at-holds = c .before .holds in
-    let at-found = c .before .before .before .found in
-    let at-read-number = c .before .before .before .before .before .read-number in
-    let at-if1 = c .before .before .before .before .before .before .before .if1 in
-    let at-index-of = c .before .before .before .before .before .before .before .before .index-of in (
+    let at-found = after-found .found in
+    let at-read-number = after-read-number .read-number in
+    let at-if1 = branch-1 .if1 in
+    let at-index-of = after-index-of .index-of in (
       field-in _ _ _ _ (at-index-of .ensures) (at-if1 .left) _ (sym (at-read-number .ensures) ∙ at-found .given .1)
           (sym (at-holds .ensures) ∙ c .if2 .taken),
       (omega arith, λ some. absurd (some refl)),
@@ -51,11 +55,15 @@ returns-2 c =
 returns-3 : tie.Need-returns-3
 unfolding answerRead pick
 returns-3 c =
+    let after-found = c .before .before .before in
+    let after-read-number = after-found .before .before in
+    let branch-1 = after-read-number .before .before in
+    let after-index-of = branch-1 .before in
     let at-holds = c .before .holds in
-    let at-found = c .before .before .before .found in
-    let at-read-number = c .before .before .before .before .before .read-number in
-    let at-if1 = c .before .before .before .before .before .before .before .if1 in
-    let at-index-of = c .before .before .before .before .before .before .before .before .index-of in (
+    let at-found = after-found .found in
+    let at-read-number = after-read-number .read-number in
+    let at-if1 = branch-1 .if1 in
+    let at-index-of = after-index-of .index-of in (
       field-out _ _ _ _ (at-index-of .ensures) (at-if1 .left) _ (sym (at-read-number .ensures) ∙ at-found .given .1)
           (sym (at-holds .ensures) ∙ c .if2 .left),
       (omega arith, λ some. refl),

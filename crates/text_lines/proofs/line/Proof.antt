@@ -100,13 +100,18 @@ refused-line-requires-3 c κs = tt
 
 returns-3 : tie.Need-returns-3 Inv-loop μ-loop
 returns-3 c =
-    let size : c .before .before .before .before .before .before .before .before .before .before .before .before .before .before .args .count ≤ length (c .before .before .before .before .before .before .before .before .before .before .before .before .before .before .args .t3) = search needs in
+    let after-field = c .before .before .before in
+    let after-end-byte = after-field .before in
+    let in-loop = after-end-byte .before .before .before in
+    let looping = in-loop .before in
+    let start = looping .before .before .before .before .before .before in
+    let size : start .args .count ≤ length (start .args .t3) = search needs in
     let at-if3 = c .before .if3 in
-    let at-field = c .before .before .before .field in
-    let at-end-byte = c .before .before .before .before .end-byte in
-    let at-loop-test = c .before .before .before .before .before .before .before .loop-test in
-    let at-loop = c .before .before .before .before .before .before .before .before .loop in
-    let at-args = c .before .before .before .before .before .before .before .before .before .before .before .before .before .before .args in (
+    let at-field = after-field .field in
+    let at-end-byte = after-end-byte .end-byte in
+    let at-loop-test = in-loop .loop-test in
+    let at-loop = looping .loop in
+    let at-args = start .args in (
       answer-read-refused _ _ _ _ _ (ap (λ (l : Line). l .answer) (c .refused-line3 .ensures)) (at-if3 .taken)
           ∙ line-step-stop _ _ (at-args .s .now) (at-loop .values) (at-loop .at) (at-loop .i) _ (at-loop .inv .4) (at-loop-test .taken) size
           (at-field .result) _ (at-end-byte .ensures) (at-field .ensures .0) (at-if3 .taken),
@@ -121,9 +126,12 @@ array-write-values c = omega arith
 
 add-at : tie.Need-add-at Inv-loop μ-loop
 add-at c =
-    let at-field = c .before .before .before .field in
-    let at-loop = c .before .before .before .before .before .before .before .before .loop in
-    let at-args = c .before .before .before .before .before .before .before .before .before .before .before .before .before .before .args in
+    let after-field = c .before .before .before in
+    let looping = after-field .before .before .before .before .before in
+    let start = looping .before .before .before .before .before .before in
+    let at-field = after-field .field in
+    let at-loop = looping .loop in
+    let at-args = start .args in
     let u = rest-used (at-args .s .now) _ _ (at-loop .inv .2) (at-field .ensures .1 .0) in
     omega arith
 
@@ -135,13 +143,18 @@ loop-less c = omega arith
 
 loop-again : tie.Need-loop-again Inv-loop μ-loop
 loop-again c =
-    let size : c .before .before .before .before .before .before .before .before .before .before .before .before .before .before .args .count ≤ length (c .before .before .before .before .before .before .before .before .before .before .before .before .before .before .args .t3) = search needs in
+    let after-field = c .before .before .before in
+    let after-end-byte = after-field .before in
+    let in-loop = after-end-byte .before .before .before in
+    let looping = in-loop .before in
+    let start = looping .before .before .before .before .before .before in
+    let size : start .args .count ≤ length (start .args .t3) = search needs in
     let at-if3 = c .before .if3 in
-    let at-field = c .before .before .before .field in
-    let at-end-byte = c .before .before .before .before .end-byte in
-    let at-loop-test = c .before .before .before .before .before .before .before .loop-test in
-    let at-loop = c .before .before .before .before .before .before .before .before .loop in
-    let at-args = c .before .before .before .before .before .before .before .before .before .before .before .before .before .before .args in (
+    let at-field = after-field .field in
+    let at-end-byte = after-end-byte .end-byte in
+    let at-loop-test = in-loop .loop-test in
+    let at-loop = looping .loop in
+    let at-args = start .args in (
       omega arith,
       omega arith,
       rest-used (at-args .s .now) _ _ (at-loop .inv .2) (at-field .ensures .1 .0),

@@ -6,6 +6,7 @@ use native.Mathlib.Omega.{arith}
 use borrow.Author.Needs.{needs}
 use lib.ListN.{length}
 use lib.Seq.{sets, length-sets}
+use Rattle.text.specs.Sizes.{lineBytes}
 use Rattle.text.specs.Text.{edgeRow, linesText}
 use Rattle.text_writer.proofs.Writing.{TextLeft, lines-turned, lines-done}
 use Rattle.text_writer.proofs.put_edges.Statement.{statement}
@@ -13,7 +14,7 @@ use Rattle.text_writer.proofs.put_edges.Tie as tie
 
 abbrev Inv-loop : tie.InvT-loop
 Inv-loop buf₀ at net edges to₀ i₀ buf to i =
-    (i ≤ edges) × (to ≤ at + 50 * i)
+    (i ≤ edges) × (to ≤ at + lineBytes 3 * i)
     × TextLeft buf (sets buf₀ at (linesText 67 (edgeRow net) 0 edges)) to (at + length (linesText 67 (edgeRow net) 0 edges))
     (linesText 67 (edgeRow net) i (edges - i))
 

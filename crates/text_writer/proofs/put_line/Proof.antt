@@ -4,6 +4,7 @@ use Prim.Native.Nat.{_+_, _-_, _*_, _≤_}
 use native.Mathlib.Omega.{arith}
 use lib.ListN.{length, drop}
 use lib.Seq.{sets, length-sets}
+use Rattle.text.specs.Sizes.{lineBytes}
 use Rattle.text.specs.Text.{numbersText}
 use Rattle.text_writer.proofs.Writing.{TextLeft, line-begun, line-length, line-turned, line-done}
 use Rattle.text_writer.proofs.put_line.Statement.{statement}
@@ -11,7 +12,7 @@ use Rattle.text_writer.proofs.put_line.Tie as tie
 
 abbrev Inv-loop : tie.InvT-loop
 Inv-loop buf₀ at letter values count to₀ i₀ buf to i =
-    (i ≤ length values) × (to ≤ at + 2 + 11 * i)
+    (i ≤ length values) × (to ≤ at + lineBytes i)
     × TextLeft buf (sets buf₀ (at + 2) (numbersText values)) to (at + 2 + length (numbersText values)) (numbersText (drop i values))
 
 abbrev μ-loop : tie.MeasureT-loop
@@ -64,11 +65,15 @@ loop-less c = omega arith
 
 loop-again : tie.Need-loop-again Inv-loop μ-loop
 loop-again c =
+    let after-end-byte = c .before .before .before in
+    let after-write-number = after-end-byte .before .before .before .before in
+    let in-loop = after-write-number .before .before .before in
+    let looping = in-loop .before in
     let at-put-byte3 = c .before .before .put-byte3 in
-    let at-end-byte = c .before .before .before .end-byte in
-    let at-write-number = c .before .before .before .before .before .before .before .write-number in
-    let at-loop-test = c .before .before .before .before .before .before .before .before .before .before .loop-test in
-    let at-loop = c .before .before .before .before .before .before .before .before .before .before .before .loop in (
+    let at-end-byte = after-end-byte .end-byte in
+    let at-write-number = after-write-number .write-number in
+    let at-loop-test = in-loop .loop-test in
+    let at-loop = looping .loop in (
       omega arith,
       omega arith,
       line-turned _ _ (at-loop-test .taken) (at-loop .inv .2) _ _ _ _ (at-write-number .ensures .1 .0) (at-write-number .ensures .0)
@@ -77,9 +82,12 @@ loop-again c =
 
 same-length : tie.Need-same-length Inv-loop μ-loop
 same-length c =
-    let at-put-byte2 = c .before .before .before .before .put-byte2 in
-    let at-put-byte = c .before .before .before .before .before .before .before .before .put-byte in
-    let at-args = c .before .before .before .before .before .before .before .before .before .before .before .before .args in
+    let after-put-byte2 = c .before .before .before .before in
+    let after-put-byte = after-put-byte2 .before .before .before .before in
+    let start = after-put-byte .before .before .before .before in
+    let at-put-byte2 = after-put-byte2 .put-byte2 in
+    let at-put-byte = after-put-byte .put-byte in
+    let at-args = start .args in
     ap length
     (line-done (at-args .values .now) _ (c .loop-test .left) (c .before .loop .inv .2) .1
     ∙ line-begun (at-args .letter) (at-args .at) (at-args .values .now) (at-args .buf .now) _ _ (at-put-byte .ensures) (at-put-byte2 .ensures))
@@ -87,9 +95,12 @@ same-length c =
 
 returns : tie.Need-returns Inv-loop μ-loop
 returns c =
-    let at-put-byte2 = c .before .before .before .before .put-byte2 in
-    let at-put-byte = c .before .before .before .before .before .before .before .before .put-byte in
-    let at-args = c .before .before .before .before .before .before .before .before .before .before .before .before .args in
+    let after-put-byte2 = c .before .before .before .before in
+    let after-put-byte = after-put-byte2 .before .before .before .before in
+    let start = after-put-byte .before .before .before .before in
+    let at-put-byte2 = after-put-byte2 .put-byte2 in
+    let at-put-byte = after-put-byte .put-byte in
+    let at-args = start .args in
     let d = line-done (at-args .values .now) _ (c .loop-test .left) (c .before .loop .inv .2) in (
       d .0 ∙ line-length _ _ _,
       (

@@ -6,6 +6,7 @@ use native.Mathlib.Omega.{arith}
 use borrow.Author.Needs.{needs}
 use lib.ListN.{length}
 use lib.Seq.{sets, length-sets}
+use Rattle.text.specs.Sizes.{lineBytes}
 use Rattle.text.specs.Text.{terminalRow, linesText}
 use Rattle.text_writer.proofs.Writing.{TextLeft, lines-turned, lines-done}
 use Rattle.text_writer.proofs.put_terminals.Statement.{statement}
@@ -13,7 +14,7 @@ use Rattle.text_writer.proofs.put_terminals.Tie as tie
 
 abbrev Inv-loop : tie.InvT-loop
 Inv-loop buf₀ at net terminals to₀ j₀ buf to j =
-    (j ≤ terminals) × (to ≤ at + 50 * j)
+    (j ≤ terminals) × (to ≤ at + lineBytes 2 * j)
     × TextLeft buf (sets buf₀ at (linesText 87 (terminalRow net) 0 terminals)) to (at + length (linesText 87 (terminalRow net) 0 terminals))
     (linesText 87 (terminalRow net) j (terminals - j))
 

@@ -21,9 +21,11 @@ same-length c = search needs
 
 returns : tie.Need-returns
 returns c =
+    let after-put-edges = c .before .before .before .before .before .before in
+    let after-put-line = after-put-edges .before .before .before .before in
     let at-put-terminals = c .before .before .put-terminals in
-    let at-put-edges = c .before .before .before .before .before .before .put-edges in
-    let at-put-line = c .before .before .before .before .before .before .before .before .before .before .put-line in
+    let at-put-edges = after-put-edges .put-edges in
+    let at-put-line = after-put-line .put-line in
     text-written _ _ _ _ _ _ _ _ (at-put-line .ensures .0) (at-put-line .ensures .1 .1) (at-put-edges .ensures .0) (at-put-edges .ensures .1 .1)
     (at-put-terminals .ensures .0) (at-put-terminals .ensures .1)
 

@@ -17,7 +17,7 @@ use reference::cancelling::acyclic_flows;
 use reference::cases::{longest_cycle, texts, DOWN_AGAIN, MISFIT, S, T, TAIL};
 use reference::catalog::BOARDS as CATALOG;
 use reference::damage::{at_every_field, damaged, every_start, surplus};
-use reference::encoded::{random_list, EngineCall};
+use reference::encoded::{random_list, with_no_calls, EngineCall};
 use reference::engine::{self, unwritten_journal, Journal, EDGES};
 use reference::player::Player;
 use reference::random::Random;
@@ -129,6 +129,7 @@ fn compare_random(rng: &mut Random, tally: &mut Tally) -> Result<(), String> {
     // Lists of calls: on good boards as a rule, and on those that a damaged text leaves.
     if rng.chance(1, 16) {
         let calls = random_list(rng, &good);
+        let calls = with_no_calls(rng, calls);
         let at_every_call = rng.chance(1, 8);
         compare_play(if rng.chance(7, 8) { &good } else { &text }, &calls, at_every_call, tally)?;
     }
@@ -152,7 +153,9 @@ fn compare_made(seed: u64, tally: &mut Tally) -> Result<(), String> {
         vec![EngineCall::Carry(0, 0), EngineCall::Carry(1, 2), EngineCall::Carry(2, 0), EngineCall::Undo, EngineCall::Turn(vec![])],
         [&to_source[..], &[around.clone()]].concat(),
         [&to_source[..], &[around.clone(), EngineCall::Undo, EngineCall::Turn(vec![])]].concat(),
-        [EngineCall::Hint].into_iter().chain(to_source).flat_map(|call| [call, EngineCall::Hint]).chain([around, EngineCall::Hint]).collect(),
+        [EngineCall::Hint].into_iter().chain(to_source.clone()).flat_map(|call| [call, EngineCall::Hint]).chain([around, EngineCall::Hint]).collect(),
+        // Kinds without a number: the first of them, those behind it, and the last.
+        [4, 5, 10, 11, u32::MAX].into_iter().flat_map(|kind| [EngineCall::NoCall([kind, 0, 2]), to_source[0].clone(), EngineCall::Undo]).collect(),
     ];
     lists.iter().try_for_each(|calls| compare_play(T.as_bytes(), calls, true, tally))?;
     compare_catalog(&mut rng, tally)?;

@@ -4,16 +4,16 @@
 use crate::report::compare_texts;
 use crate::{same, Tally};
 use reference::encoded::{call_by_reference, codes_of, engine_call, entries, number, set_of, EngineCall, ENTRY};
-use reference::engine::{self, End, Journal, EDGES, MOVES, TERMINALS};
-use reference::moves::Move;
+use reference::engine::{self, End, Journal, EDGES, MOVES, TERMINALS, UP_STEP};
+use reference::moves::{Move, Step};
 use reference::player::{Call, Player};
 
-/// The move of a hint in numbers: its kind, 0 for none, 1 for a carry and 2 for a turn; terminal, edge, count of steps, and the steps. What a kind
-/// does not need is 0.
+/// The move of a hint in numbers: its kind, 0 for none, 1 for a carry and 2 for a turn; terminal, edge, count of steps, and the steps, each the
+/// number of its edge, and `UP_STEP` more for an up-step. What a kind does not need is 0.
 type Advice = [u32; ADVICE];
 const ADVICE: usize = 4 + EDGES;
 const NO_ADVICE: Advice = [0; ADVICE];
-/// What no hint gives.
+/// What no call answers and no hint gives.
 const UNWRITTEN: u32 = u32::MAX;
 
 fn carry_advice(terminal: u32, edge: u32) -> Advice {
@@ -22,10 +22,11 @@ fn carry_advice(terminal: u32, edge: u32) -> Advice {
     advice
 }
 
-fn turn_advice(steps: &[u8]) -> Advice {
+fn turn_advice(steps: &[Step]) -> Advice {
     let mut advice = NO_ADVICE;
     (advice[0], advice[3]) = (2, steps.len() as u32);
-    advice[4..].iter_mut().zip(steps).for_each(|(place, step)| *place = u32::from(*step));
+    let code = |step: &Step| number(step.edge) + if step.is_up { UP_STEP } else { 0 };
+    advice[4..].iter_mut().zip(steps).for_each(|(place, step)| *place = code(step));
     advice
 }
 
@@ -49,7 +50,7 @@ pub struct Finished {
 /// The list of calls, and the buffer with the moves of its hints.
 fn played_by_engine(text: &[u8], calls: &[EngineCall]) -> (Played, Vec<u32>) {
     let (codes, steps) = codes_of(calls);
-    let mut played = Played { loading: u32::MAX, given: vec![u32::MAX; calls.len()], end: End::unwritten() };
+    let mut played = Played { loading: u32::MAX, given: vec![UNWRITTEN; calls.len()], end: End::unwritten() };
     let mut hints = vec![UNWRITTEN; calls.len() * ADVICE];
     played.loading = engine::play(text, (&codes, &steps), &mut played.given, &mut hints, &mut played.end);
     (played, hints)
@@ -57,7 +58,7 @@ fn played_by_engine(text: &[u8], calls: &[EngineCall]) -> (Played, Vec<u32>) {
 
 pub fn finished_by_engine(text: &[u8], calls: &[EngineCall]) -> (Finished, Vec<u32>) {
     let (codes, steps) = codes_of(calls);
-    let mut finished = Finished { given: vec![u32::MAX; calls.len()], answer: u32::MAX, count: u32::MAX, end: End::unwritten() };
+    let mut finished = Finished { given: vec![UNWRITTEN; calls.len()], answer: u32::MAX, count: u32::MAX, end: End::unwritten() };
     let mut hints = vec![UNWRITTEN; calls.len() * ADVICE];
     let Finished { given, count, end, .. } = &mut finished;
     finished.answer = engine::finish(text, (&codes, &steps), given, &mut hints, count, end);
@@ -88,9 +89,16 @@ fn end_by_reference(player: &Player) -> End {
     End { flows, places, marks, moves: number(moves), journal: journal_of(player) }
 }
 
+/// The answers of the calls, and places behind them that nothing is written into: what is no call has no answer.
+fn given_by_player(player: &mut Player, calls: &[EngineCall]) -> Vec<u32> {
+    let mut given: Vec<u32> = calls.iter().filter_map(|call| call_by_reference(player, call)).collect();
+    given.resize(calls.len(), UNWRITTEN);
+    given
+}
+
 fn played_by_reference(text: &[u8], calls: &[EngineCall]) -> Played {
     let (loading, mut player) = Player::load(text);
-    let given = calls.iter().map(|call| call_by_reference(&mut player, call)).collect();
+    let given = given_by_player(&mut player, calls);
     Played { loading, given, end: end_by_reference(&player) }
 }
 
@@ -105,16 +113,16 @@ pub fn finished_by_player(player: &mut Player, given: Vec<u32>) -> Finished {
 
 fn finished_by_reference(text: &[u8], calls: &[EngineCall]) -> Finished {
     let (_, mut player) = Player::load(text);
-    let given = calls.iter().map(|call| call_by_reference(&mut player, call)).collect();
+    let given = given_by_player(&mut player, calls);
     finished_by_player(&mut player, given)
 }
 
 /// The move of a hint in numbers; all are 0 where there is none.
 fn advice_of(hint: Option<&Move>) -> Advice {
-    match hint.and_then(|made| engine_call(&Call::of_move(made))) {
-        Some(EngineCall::Carry(terminal, edge)) => carry_advice(terminal, edge),
-        Some(EngineCall::Turn(steps)) => turn_advice(&steps),
-        _ => NO_ADVICE,
+    match hint {
+        Some(Move::Carry { terminal, edge }) => carry_advice(number(*terminal), number(*edge)),
+        Some(Move::Turn(steps)) => turn_advice(steps),
+        None => NO_ADVICE,
     }
 }
 
@@ -175,13 +183,19 @@ pub fn compare_play(text: &[u8], calls: &[EngineCall], at_every_call: bool, tall
     compare_hints(text, calls, &hints, tally).map_err(told)?;
     let first = if at_every_call { 0 } else { calls.len() };
     (first..=calls.len()).try_for_each(|count| compare_finish(text, &calls[..count], tally)).map_err(told)?;
-    for (call, answer) in calls.iter().zip(&played.given) {
+    let mut given = played.given.iter();
+    for call in calls {
         let name = match call {
             EngineCall::Carry(..) => "carry",
             EngineCall::Turn(_) => "turn",
             EngineCall::Undo => "undo",
             EngineCall::Hint => "hint",
+            EngineCall::NoCall(_) => {
+                *tally.entry("no call".into()).or_default() += 1;
+                continue;
+            }
         };
+        let answer = given.next().expect("an answer for each call");
         *tally.entry(format!("{name} {answer}")).or_default() += 1;
     }
     Ok(())

@@ -7,6 +7,9 @@ use borrow.Author.Needs.{needs}
 use Rattle.replay.proofs.scripts.text_script.Statement.{statement}
 use Rattle.replay.proofs.scripts.text_script.Tie as tie
 
+cast-least : tie.Need-cast-least
+cast-least c = search needs
+
 least-requires : tie.Need-least-requires
 least-requires c κs = search needs
 
@@ -47,6 +50,7 @@ pub text-script-spec : {M : Type 1} → statement M
 text-script-spec =
     tie.close
     (tie.spec
+    cast-least
     least-requires
     cast-n
     slice-aggregate-fill

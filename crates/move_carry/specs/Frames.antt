@@ -1,0 +1,28 @@
+-- For inner contracts only: the numbers that a move goes by, beside the lists of its board, and the network that they stand for.
+use mathlib.Core.List.{List, []}
+use Prim.Native.Nat.{ℕ}
+use Rattle.board.specs.declared.Network.{Network}
+use Rattle.move_carry.specs.declared.Frame.{Frame}
+
+-- the frame of a network
+abbrev pub frameOf : Network → ℕ → ℕ → Frame
+frameOf net marks positive =
+    record { vertices = net .vertices; edges = net .edges; terminals = net .terminals; source = net .source; marks = marks; positive = positive }
+
+-- the network of a frame and its lists; no move looks at the text's flows and homes
+abbrev pub netOf : Frame → List ℕ → List ℕ → List ℕ → Network
+netOf frame tails heads demands = record {
+  vertices = frame .vertices;
+  edges = frame .edges;
+  terminals = frame .terminals;
+  source = frame .source;
+  tails = tails;
+  heads = heads;
+  flows = [];
+  homes = [];
+  demands = demands;
+}
+
+-- a network without the text's flows and homes
+abbrev pub bareOf : Network → Network
+bareOf net = netOf (frameOf net 0 0) (net .tails) (net .heads) (net .demands)

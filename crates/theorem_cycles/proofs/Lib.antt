@@ -1,0 +1,17 @@
+pub mod Network
+pub mod Flowing
+pub mod Single
+pub mod Amounted
+pub mod Openings
+pub mod TurnedMarks
+pub mod TurnedFlows
+pub mod TurnedRoutes
+pub mod Turned
+pub mod TurnBack
+pub mod Potential
+pub mod Gains
+pub mod MarkedEdges
+pub mod Walks
+pub mod Degrees
+pub mod Chosen
+pub mod Cycles

@@ -1,0 +1,6 @@
+pub mod Bound
+pub mod Invariant
+pub mod Allowed
+pub mod Walked
+pub mod Potential
+pub mod Cycles

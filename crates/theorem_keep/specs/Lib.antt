@@ -1,3 +1,0 @@
-pub mod Invariant
-pub mod Bound
-pub mod Allowed
