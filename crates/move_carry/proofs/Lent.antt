@@ -28,7 +28,7 @@ use Rattle.move_carry.specs.Carries.{onBoardIn, onBoard, carryRefusal, c
 
 -- no test looks at the tails, the text's flows or the homes
 pub carry-refusal-bare : (p : Bool) (net : Network) (flows : List ℕ) (marks positive : ℕ) (places : List ℕ) (i e : ℕ)
-    → carryRefusalIn p (netOf (frameOf net marks positive) [] (net .heads) (net .demands)) flows marks places i e ≡ carryRefusalIn p net flows marks places i e
+    → carryRefusalIn p (netOf (frameOf net marks positive 0) [] (net .heads) (net .demands)) flows marks places i e ≡ carryRefusalIn p net flows marks places i e
 unfolding carryRefusalIn onBoardIn entersIn
 carry-refusal-bare p net flows marks positive places i e = refl
 

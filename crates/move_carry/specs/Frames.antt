@@ -4,10 +4,17 @@ use Prim.Native.Nat.{ℕ}
 use Rattle.board.specs.declared.Network.{Network}
 use Rattle.move_carry.specs.declared.Frame.{Frame}
 
--- the frame of a network
-abbrev pub frameOf : Network → ℕ → ℕ → Frame
-frameOf net marks positive =
-    record { vertices = net .vertices; edges = net .edges; terminals = net .terminals; source = net .source; marks = marks; positive = positive }
+-- the frame of a network, with the marks, the positive edges, and the terminal at which the search for an open carry goes on
+abbrev pub frameOf : Network → ℕ → ℕ → ℕ → Frame
+frameOf net marks positive resume = record {
+  vertices = net .vertices;
+  edges = net .edges;
+  terminals = net .terminals;
+  source = net .source;
+  marks = marks;
+  positive = positive;
+  resume = resume;
+}
 
 -- the network of a frame and its lists; no move looks at the text's flows and homes
 abbrev pub netOf : Frame → List ℕ → List ℕ → List ℕ → Network
@@ -25,4 +32,4 @@ netOf frame tails heads demands = record {
 
 -- a network without the text's flows and homes
 abbrev pub bareOf : Network → Network
-bareOf net = netOf (frameOf net 0 0) (net .tails) (net .heads) (net .demands)
+bareOf net = netOf (frameOf net 0 0 0) (net .tails) (net .heads) (net .demands)

@@ -14,8 +14,8 @@ ghost use Rattle.move_carry.specs.Opens.{flowFits};
 ghost use Rattle.move_carry.specs.Carries.{carryCall, carryRefusalIn, carryEntry};
 ghost use Rattle.move_carry.specs.Frames.{netOf};
 
-// The numbers that a move goes by, beside the lists of its board: the counts, the source, the marked edges and the
-// positive ones.
+// The numbers that a move goes by, beside the lists of its board: the counts, the source, the marked edges, the positive
+// ones, and where the search for an open carry goes on: no terminal below `resume` has one.
 pub struct Frame {
     pub vertices: u32,
     pub edges: u32,
@@ -23,6 +23,7 @@ pub struct Frame {
     pub source: u32,
     pub marks: EdgeSet,
     pub positive: EdgeSet,
+    pub resume: u32,
 }
 
 // Whether the flow of an edge allows a carry of that demand.
@@ -100,6 +101,7 @@ pub fn carry(
         source: board.network.source,
         marks: board.marks,
         positive: sets::none(),
+        resume: 0,
     };
     let number = refusal_in(
         in_play,

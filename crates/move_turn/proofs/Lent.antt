@@ -41,9 +41,9 @@ use Rattle.move_turn.proofs.Passing.{in-sets}
 use Rattle.move_turn.proofs.Changes.{change-accepted, change-refused, turnMade, turn-changes, turn-refused, turn-stored}
 
 -- what a turn needs holds of the parts of a board in play
-pub bounds-turnable : (net : Network) (flows places leaving : List ℕ) (marks positive : ℕ) → InBounds net flows places → Incident (net .tails) leaving → PositiveSet flows positive
-    → Turnable (frameOf net marks positive) (net .tails) (net .heads) (net .demands) leaving flows
-bounds-turnable net flows places leaving marks positive bounds leave is-positive = record {
+pub bounds-turnable : (net : Network) (flows places leaving : List ℕ) (marks positive resume : ℕ) → InBounds net flows places → Incident (net .tails) leaving → PositiveSet flows positive
+    → Turnable (frameOf net marks positive resume) (net .tails) (net .heads) (net .demands) leaving flows
+bounds-turnable net flows places leaving marks positive resume bounds leave is-positive = record {
   room = bounds .edges;
   chart = record { leave = leave; is-positive = is-positive; all = bounds .all; headed = bounds .headed };
   small = bounds .small;

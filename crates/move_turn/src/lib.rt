@@ -255,6 +255,7 @@ pub fn turn_steps(
         source: net.source,
         marks: board.marks,
         positive: positive,
+        resume: 0,
     };
     let found = solve_carry::open_carry(frame, &heads, &demands, &entering, &flows, &places);
     let made = change(

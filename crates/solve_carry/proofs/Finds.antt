@@ -241,13 +241,13 @@ module _ (net : Network) (flows : List ℕ) (marks : ℕ) (places : List ℕ) wh
 
 -- no search looks at the tails, the text's flows or the homes
 pub open-carry-bare : (net : Network) (flows : List ℕ) (marks positive : ℕ) (places : List ℕ)
-    → openCarryIn (netOf (frameOf net marks positive) [] (net .heads) (net .demands)) flows marks places ≡ openCarryIn net flows marks places
+    → openCarryIn (netOf (frameOf net marks positive 0) [] (net .heads) (net .demands)) flows marks places ≡ openCarryIn net flows marks places
 unfolding openCarryIn chosenEdgeIn markedEdgeIn markedOpenIn someOpenIn openTerminalIn hasOpenIn openEdgeIn isOpenIn entersIn
 open-carry-bare net flows marks positive places = refl
 
 -- what the search leans on holds of the parts of a board in play
 pub bounds-searched : (net : Network) (flows places entering : List ℕ) (marks positive : ℕ) → InBounds net flows places → Incident (net .heads) entering → PositiveSet flows positive
-    → Searched (netOf (frameOf net marks positive) [] (net .heads) (net .demands)) entering flows positive places
+    → Searched (netOf (frameOf net marks positive 0) [] (net .heads) (net .demands)) entering flows positive places
 bounds-searched net flows places entering marks positive bounds enter is-positive = record {
   enter = enter;
   is-positive = is-positive;

@@ -9,7 +9,7 @@ ghost use Rattle.sets.specs.Sets.{hasBit, setOf};
 ghost use Rattle.move_carry.specs.Opens.{flowFits};
 ghost use Rattle.move_carry.specs.Frames.{netOf};
 ghost use Rattle.solve_carry.specs.Search.{openCarryIn};
-ghost use Rattle.solve_carry.specs.Inner.{lowestFitBy, chosenBy, Searched};
+ghost use Rattle.solve_carry.specs.Inner.{lowestFitBy, chosenBy, Searched, Resumes};
 
 // A terminal and the edge of its carry. Where no carry is open, the counts of terminals and of edges.
 pub struct Found {
@@ -54,7 +54,7 @@ fn chosen(flows: &[u32], marks: EdgeSet, edges: u32, demand: u32, set: EdgeSet) 
 }
 
 // The lowest terminal with an open carry, and of its open carries the one over a marked edge first, then over the
-// lowest.
+// lowest. The search goes on where the frame says.
 pub fn open_carry<'a>(
     frame: Frame,
     heads: &'a [u32],
@@ -66,12 +66,14 @@ pub fn open_carry<'a>(
     requires { ⌜ Searched (netOf frame [] (now heads) (now demands)) (setsOf (now entering))
         (now flows) (setOf (frame .positive))
         (now places) ⌝ }
+    requires { ⌜ Resumes (netOf frame [] (now heads) (now demands)) (now flows) (setOf (frame .marks))
+        (now places) (frame .resume) ⌝ }
     ensures { λ r. ⌜ r ≡ openCarryIn (netOf frame [] (now (heads .entry)) (now (demands .entry)))
         (now (flows .entry)) (setOf (frame .marks)) (now (places .entry)) ⌝ }
 {
     let terminals = frame.terminals;
     let edges = frame.edges;
-    let mut i: u32 = 0;
+    let mut i = frame.resume;
     while i < terminals {
         let place = lists::word_at(places, i as usize);
         let demand = lists::word_at(demands, i as usize);

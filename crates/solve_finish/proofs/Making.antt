@@ -22,43 +22,19 @@ use Rattle.solve_next.specs.Choosing.{allHome, judge, acted, nextCycle, nextAct
 use Rattle.solve_next.proofs.Advised.{next-carry, next-turn}
 use Rattle.solve_finish.specs.Finishes.{stepped, steppedOn}
 use Rattle.solve_finish.proofs.Stepping.{stepped-home, away, not-playing}
-use Rattle.solve_carry.specs.Search.{chosenEdge, chosenEdgeIn, markedEdge, markedEdgeIn, markedOpen, markedOpenIn}
+use Rattle.solve_carry.specs.Search.{chosenEdge}
+use Rattle.solve_carry.proofs.Resumed.{Chosen, chosen}
 
--- a carry that is open and whose edge and terminal the board has
-pub record Chosen (b : Board) (i e : ℕ) : Type 0 where
-  pub terminal : i < b .network .terminals
-  pub edge : e < b .network .edges
-  pub opens : isOpen b i e ≡ true
+-- the carry is open, and its terminal and edge are on the board
+abbrev ChosenOn : Board → ℕ → ℕ → Type 0
+ChosenOn b i e = Chosen (b .network) (b .flows) (b .marks) (b .places) i e
 
-pub chosen : (b : Board) → someOpen b ≡ true → Chosen b (openTerminal b) (chosenEdge b (openTerminal b))
-unfolding someOpenIn openTerminalIn hasOpenIn chosenEdgeIn openEdgeIn markedEdgeIn markedOpenIn
-chosen b h = go (known (ltb (markedEdge b i) (b .network .edges)))
-  where
-    i : ℕ
-    i = openTerminal b
-
-    low : i < b .network .terminals
-    low = ltb-true _ _ h
-
-    found : openEdge b i < b .network .edges
-    found = ltb-true _ _ (lowest-least (hasOpen b) 0 (b .network .terminals) .hit (omega (arith, low)))
-
-    go : Known (ltb (markedEdge b i) (b .network .edges)) → Chosen b i (chosenEdge b i)
-    go (was-true t) =
-        let m : markedEdge b i < b .network .edges = ltb-true _ _ t in
-        rw (pick-yes (ltb (markedEdge b i) (b .network .edges)) (markedEdge b i) (openEdge b i) t)
-        (record {
-          terminal = low;
-          edge = m;
-          opens = both-right (marked b (markedEdge b i)) _ (lowest-least (markedOpen b i) 0 (b .network .edges) .hit (omega (arith, m)));
-        })
-    go (was-false t) =
-        rw (pick-no (ltb (markedEdge b i) (b .network .edges)) (markedEdge b i) (openEdge b i) t)
-        (record { terminal = low; edge = found; opens = lowest-least (isOpen b i) 0 (b .network .edges) .hit (omega (arith, found)) })
+chosen-on : (b : Board) → someOpen b ≡ true → ChosenOn b (openTerminal b) (chosenEdge b (openTerminal b))
+chosen-on b some = chosen (b .network) (b .flows) (b .marks) (b .places) some
 
 module _ (b : Board) where
   -- an open carry is accepted, but for a terminal at the source
-  open-accepted : (i e : ℕ) → playing b ≡ true → Chosen b i e → place b i ≢ b .network .source → carryRefusal b i e ≡ 0
+  open-accepted : (i e : ℕ) → playing b ≡ true → ChosenOn b i e → place b i ≢ b .network .source → carryRefusal b i e ≡ 0
   unfolding carryRefusalIn isHomeIn onBoardIn isOpenIn
   open-accepted i e play c out =
       pick-yes (playing b) _ _ play
@@ -67,7 +43,7 @@ module _ (b : Board) where
       ∙ pick-yes (enters b i e) _ _ (both-left _ _ (c .opens))
       ∙ pick-yes (flowFits (marked b e) (flow b e) (demand b i)) _ _ (both-right _ _ (c .opens))
 
-  source-refused : (i e : ℕ) → playing b ≡ true → Chosen b i e → place b i ≡ b .network .source → carryRefusal b i e ≡ 21
+  source-refused : (i e : ℕ) → playing b ≡ true → ChosenOn b i e → place b i ≡ b .network .source → carryRefusal b i e ≡ 21
   unfolding carryRefusalIn isHomeIn onBoardIn
   source-refused i e play c home =
       pick-yes (playing b) _ _ play
@@ -101,15 +77,15 @@ module _ (b : Board) where
 
   module _ (play : playing b ≡ true) (some : someOpen b ≡ true) where
     pub step-stuck : place b (openTerminal b) ≡ b .network .source → stepped b .answer ≢ 0
-    step-stuck home = refused-stops (rw (next-carry b some) (λ q. omega (arith, q, source-refused (openTerminal b) (chosenEdge b (openTerminal b)) play (chosen b some) home)))
+    step-stuck home = refused-stops (rw (next-carry b some) (λ q. omega (arith, q, source-refused (openTerminal b) (chosenEdge b (openTerminal b)) play (chosen-on b some) home)))
 
     pub chosen-carry-accepted : place b (openTerminal b) ≢ b .network .source → carryRefusal b (openTerminal b) (chosenEdge b (openTerminal b)) ≡ 0
-    chosen-carry-accepted out = open-accepted (openTerminal b) (chosenEdge b (openTerminal b)) play (chosen b some) out
+    chosen-carry-accepted out = open-accepted (openTerminal b) (chosenEdge b (openTerminal b)) play (chosen-on b some) out
 
     pub step-carry : place b (openTerminal b) ≢ b .network .source
         → stepped b ≡ record { answer = 0; board = carried b (openTerminal b) (chosenEdge b (openTerminal b)) }
     step-carry out =
-        sym (away b (not-home (openTerminal b) (chosen b some .terminal) out))
+        sym (away b (not-home (openTerminal b) (chosen-on b some .terminal) out))
         ∙ rw (next-carry b some) (answered-yes _ b (carried b (openTerminal b) (chosenEdge b (openTerminal b))) (chosen-carry-accepted out))
 
   module _ (none : someOpen b ≡ false) where

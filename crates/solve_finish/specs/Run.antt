@@ -21,6 +21,7 @@ use Rattle.move_guard.specs.Moved.{unchanged}
 use Rattle.move_guard.specs.Moved.{Change}
 use Rattle.move_carry.specs.Carries.{carriedIn}
 use Rattle.move_turn.specs.Turns.{turnChange}
+use Rattle.solve_carry.specs.Inner.{Resumes}
 use Rattle.solve_next.specs.Choosing.{Act, relocate, augment, allHomeIn, nextActIn}
 use Rattle.move_edges.specs.Incidence.{Incident}
 use Rattle.move_carry.specs.declared.Frame.{Frame}
@@ -90,6 +91,11 @@ unfoldable pub shiftedEdges : Move → ℕ
 shiftedEdges (Carry c) = none
 shiftedEdges (Turn t) = joined (t .down) (t .up)
 
+-- the terminal at which the search for an open carry goes on after a move: that of a carry, the first after a turn
+unfoldable pub resumption : Move → ℕ
+resumption (Carry c) = c .terminal
+resumption (Turn t) = 0
+
 -- outside `rest` the set has the positive edges, and no flow is large
 pub record RightBut (flows : List ℕ) (positive rest : ℕ) : Type 0 where
   pub positives : (e : ℕ) → e < maxEdges → hasBit rest e ≡ false → hasBit positive e ≡ ltb 0 (getD flows e 0)
@@ -116,7 +122,7 @@ madeOf r flows places = record {
 abbrev pub haltedWith : ℕ → Frame → Progress
 haltedWith answer frame = record { answer = answer; entry = blank; marks = frame .marks; positive = frame .positive; small = true }
 
--- the lists are those of a board in play, and the sets those of its network
+-- the lists are those of a board in play, the sets those of its network, and the search for an open carry goes on where it may
 pub record Going (frame : Frame) (tails heads demands leaving entering flows places : List ℕ) : Type 0 where
   pub net : Network
   pub bare : bareOf net ≡ netOf frame tails heads demands
@@ -124,6 +130,7 @@ pub record Going (frame : Frame) (tails heads demands leaving entering flows pla
   pub leave : Incident (net .tails) leaving
   pub enter : Incident (net .heads) entering
   pub is-positive : PositiveSet flows (setOf (frame .positive))
+  pub resumes : Resumes net flows (setOf (frame .marks)) places (frame .resume)
 
 -- so many moves stand, of them those from `from` on made by this finish, and so many may be left of its run
 pub record Filled (from moves left : ℕ) (old words : List (List ℕ)) : Type 0 where

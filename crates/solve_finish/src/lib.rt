@@ -30,6 +30,7 @@ ghost use Rattle.solve_finish.specs.Run.{
   stepChange,
   Makes,
   shiftedEdges,
+  resumption,
   RightBut,
   Sees,
   leftAfter,
@@ -98,6 +99,16 @@ fn shifted_edges(step: Move) -> EdgeSet
     match step {
         Move::Carry(_) => sets::none(),
         Move::Turn(turn) => sets::joined(turn.down, turn.up),
+    }
+}
+
+// The terminal at which the search for an open carry goes on after a move: that of a carry, the first after a turn.
+fn resumption(step: Move) -> u32
+    ensures { λ r. ⌜ r ≡ resumption step ⌝ }
+{
+    match step {
+        Move::Carry(carry) => carry.terminal,
+        Move::Turn(_) => 0,
     }
 }
 
@@ -292,6 +303,7 @@ fn play_out(
     let mut marks = board.marks;
     let mut positive = move_edges::positive(flows);
     let mut moves = board.moves;
+    let mut resume: u32 = 0;
     let mut left = Board::JOURNAL as u32;
     while left != 0 {
         let frame = Frame {
@@ -301,6 +313,7 @@ fn play_out(
             source: board.network.source,
             marks: marks,
             positive: positive,
+            resume: resume,
         };
         let made = advance(
             frame,
@@ -325,7 +338,9 @@ fn play_out(
             };
         }
         let entry = made.entry;
+        let step = entry.step;
         journal::put_entry(journal, m, entry);
+        resume = resumption(step);
         marks = made.marks;
         positive = made.positive;
         moves += 1;

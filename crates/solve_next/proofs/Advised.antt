@@ -24,9 +24,10 @@ use Rattle.move_carry.proofs.Lent.{carry-refusal-bare}
 use Rattle.move_cycle.specs.Steps.{codeSteps}
 use Rattle.move_turn.specs.Turns.{turnRefusalIn}
 use Rattle.solve_carry.specs.Search.{markedOpenIn, markedEdgeIn, chosenEdgeIn, openCarryIn, chosenEdge}
-use Rattle.solve_carry.specs.Inner.{Searched}
+use Rattle.solve_carry.specs.Inner.{Searched, Resumes}
 use Rattle.solve_carry.specs.declared.Found.{Found}
 use Rattle.solve_carry.proofs.Finds.{found-terminal, found-some, found-edge, bounds-searched}
+use Rattle.solve_carry.proofs.Resumed.{resumes-first, resumes-bare}
 use Rattle.solve_walk.specs.Walk.{packed}
 use Rattle.solve_walk.specs.declared.Walk.{Walk}
 use Rattle.solve_walk.specs.Inner.{walked}
@@ -129,6 +130,9 @@ module _ (frame : Frame) (tails heads demands leaving entering flows places : Li
   pub movable-searched : Searched (netOf frame [] heads demands) entering flows (frame .positive) places
   movable-searched = bounds-searched (netOf frame tails heads demands) flows places entering (frame .marks) (frame .positive) (m .bounds) (m .enter) (m .is-positive)
 
+  pub movable-resumes : Resumes (netOf frame [] heads demands) flows (frame .marks) places (frame .resume)
+  movable-resumes = resumes-bare (netOf frame tails heads demands) flows (frame .marks) places (frame .resume) (m .resumes)
+
   pub movable-charted : Charted tails heads flows leaving entering (frame .positive)
   movable-charted = record {
     leave = m .leave;
@@ -145,7 +149,7 @@ module _ (frame : Frame) (tails heads demands leaving entering flows places : Li
 -- the lists of a board in play, with their sets
 pub board-movable : (b : Board) (leaving entering : List ℕ) (positive : ℕ) → InBounds (b .network) (b .flows) (b .places) → Incident (b .network .tails) leaving
     → Incident (b .network .heads) entering → PositiveSet (b .flows) positive
-    → Movable (frameOf (b .network) (b .marks) positive) (b .network .tails) (b .network .heads) (b .network .demands) leaving entering (b .flows) (b .places)
+    → Movable (frameOf (b .network) (b .marks) positive 0) (b .network .tails) (b .network .heads) (b .network .demands) leaving entering (b .flows) (b .places)
 board-movable b leaving entering positive bounds leave enter is-positive = record {
   bounds = record {
     vertices = bounds .vertices;
@@ -163,6 +167,7 @@ board-movable b leaving entering positive bounds leave enter is-positive = recor
   leave = leave;
   enter = enter;
   is-positive = is-positive;
+  resumes = resumes-first _ _ _ _;
 }
 
 -- no move looks at the text's flows and homes

@@ -200,6 +200,7 @@ pub fn hint(board: Board, journal: &[[u64; WORDS]; Board::JOURNAL]) -> Suggestio
         source: net.source,
         marks: board.marks,
         positive: positive,
+        resume: 0,
     };
     let next = next_move(
         frame,

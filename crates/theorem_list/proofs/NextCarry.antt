@@ -9,9 +9,9 @@ use Rattle.move_carry.specs.Opens.{isOpen, openTerminal, someOpen}
 use Rattle.theorem_cycles.specs.Invariant.{Invariant}
 use Rattle.theorem_cycles.specs.Allowed.{Carriable}
 use Rattle.theorem_cycles.proofs.Openings.{open-facts}
-use Rattle.solve_finish.proofs.Making.{chosen}
 use Rattle.theorem_cycles.proofs.Degrees.{never-enters}
 use Rattle.solve_carry.specs.Search.{chosenEdge}
+use Rattle.solve_carry.proofs.Resumed.{chosen}
 
 -- an open carry keeps the rules
 open-carriable : (b : Board) → Invariant b → (i e : ℕ) → i < b .network .terminals → e < b .network .edges → isOpen b i e ≡ true → Carriable b i e
@@ -27,4 +27,4 @@ open-carriable b inv i e g h t =
     }
 
 pub chosen-carriable : (b : Board) → Invariant b → someOpen b ≡ true → Carriable b (openTerminal b) (chosenEdge b (openTerminal b))
-chosen-carriable b inv h = let c = chosen b h in open-carriable b inv (openTerminal b) (chosenEdge b (openTerminal b)) (c .terminal) (c .edge) (c .opens)
+chosen-carriable b inv h = let c = chosen (b .network) (b .flows) (b .marks) (b .places) h in open-carriable b inv (openTerminal b) (chosenEdge b (openTerminal b)) (c .terminal) (c .edge) (c .opens)

@@ -20,6 +20,7 @@ use Rattle.move_turn.specs.Lent.{changeOf}
 use Rattle.move_guard.specs.Bounds.{InBounds}
 use Rattle.move_guard.proofs.Bounds.{playing-bounds}
 use Rattle.solve_carry.proofs.Finds.{found-some, open-carry-bare, bounds-searched}
+use Rattle.solve_carry.proofs.Resumed.{resumes-first}
 use Rattle.move_turn.proofs.Changes.{turnMade}
 use Rattle.move_turn.proofs.Lent.{bounds-turnable, turn-of-bare, closed-made, open-made, lent-refused, lent-stored}
 use borrow.Author.Needs.{needs, length-unmapped}
@@ -154,8 +155,10 @@ slice-aggregate-open-carry-5 c = search needs
 open-carry-requires : tie.Need-open-carry-requires
 open-carry-requires c κs =
     let chart = c .before .before .before .before .before in
-    let b = given (begun chart) in
-    bounds-searched (b .network) (b .flows) (b .places) _ (b .marks) _ (bounds (begun chart)) (chart .before .before .at-vertices2 .ensures) (chart .positive .ensures)
+    let b = given (begun chart) in (
+      bounds-searched (b .network) (b .flows) (b .places) _ (b .marks) _ (bounds (begun chart)) (chart .before .before .at-vertices2 .ensures) (chart .positive .ensures),
+      resumes-first _ _ _ _,
+    )
 
 slice-aggregate-change : tie.Need-slice-aggregate-change
 slice-aggregate-change c = search needs
@@ -165,7 +168,7 @@ change-requires c κs =
     let chart = charted c in
     let b = given (begun chart) in
     let leaving = chart .before .before .before in
-    bounds-turnable (b .network) (b .flows) (b .places) _ _ _ (bounds (begun chart)) (leaving .at-vertices .ensures) (chart .positive .ensures)
+    bounds-turnable (b .network) (b .flows) (b .places) _ _ _ _ (bounds (begun chart)) (leaving .at-vertices .ensures) (chart .positive .ensures)
 
 returns-2 : tie.Need-returns-2
 returns-2 c =

@@ -1,8 +1,7 @@
--- What is left of the search is the whole search, as long as no terminal had an open carry.
+-- What is left of the search is the whole search, as long as no terminal had an open carry: at the start those that it passes over have none.
 use mathlib.Core.Path.{_≡_, sym, _∙_}
 use mathlib.Core.List.{List, []}
 use Prim.Native.Nat.{ℕ, _-_, _<_, _^_}
-use native.Mathlib.Nat.{sub-zero}
 use native.Mathlib.Omega.{arith}
 use denote.Ref.{now}
 use borrow.Author.Needs.{needs}
@@ -13,6 +12,7 @@ use Rattle.board.specs.declared.Network.{Network}
 use Rattle.move_carry.specs.Opens.{hasOpenIn, openTerminalIn}
 use Rattle.move_carry.specs.Frames.{netOf}
 use Rattle.solve_carry.proofs.Finds.{Finds, finds-edge, found-carry, found-no-carry}
+use Rattle.solve_carry.proofs.Resumed.{resumed}
 use Rattle.solve_carry.proofs.open_carry.Statement.{statement}
 use Rattle.solve_carry.proofs.open_carry.Tie as tie
 use Rattle.solve_carry.proofs.open_carry.Reads as reads
@@ -56,16 +56,17 @@ start c = c .before .before .before .before .before .before
 
 found : (c : Looked)
     → Finds (net (start (looping c))) (now (start (looping c) .args .entering)) (now (start (looping c) .args .flows)) (start (looping c) .args .frame .positive)
-    (start (looping c) .args .frame .marks) (now (start (looping c) .args .places)) (start (looping c) .pre) (small (start (looping c))) (looping c .loop .i) (tested c .loop-test .taken) (c .chosen .result)
+    (start (looping c) .args .frame .marks) (now (start (looping c) .args .places)) (start (looping c) .pre .0) (small (start (looping c))) (looping c .loop .i) (tested c .loop-test .taken) (c .chosen .result)
 found c =
     let at-set = c .before in
     let at-demand = at-set .before in
-    finds-edge _ _ _ _ _ _ (start (looping c) .pre) (small (start (looping c))) _ (tested c .loop-test .taken) _ _ _ _ (at-demand .before .word-at .ensures) (at-demand .word-at2 .ensures)
+    finds-edge _ _ _ _ _ _ (start (looping c) .pre .0) (small (start (looping c))) _ (tested c .loop-test .taken) _ _ _ _ (at-demand .before .word-at .ensures) (at-demand .word-at2 .ensures)
     (at-set .touching .ensures) (c .chosen .ensures)
 
 loop-holds : tie.Need-loop-holds Inv-loop μ-loop
-unfolding openTerminalIn
-loop-holds c = rw sub-zero
+loop-holds c =
+    let s = c .before .before .before .before .before in
+    resumed (net s) _ _ _ _ (s .pre .1)
 
 cast-word-at : tie.Need-cast-word-at Inv-loop μ-loop
 cast-word-at c = search needs

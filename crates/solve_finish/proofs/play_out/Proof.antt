@@ -1,5 +1,5 @@
 -- The loop plays a run on the board that the table and the words stand for (proofs/Running.antt), and each place that it fills was blank before
--- (proofs/Filling.antt). A move that is refused keeps flows and places, and ends the run.
+-- (proofs/Filling.antt). The search for an open carry goes on where it may (proofs/Resuming.antt). A move that is refused keeps flows and places, and ends the run.
 use mathlib.Core.Path.{_≡_, refl, sym, ap, _∙_, subst}
 use mathlib.Core.Bool.{true, false≢true}
 use mathlib.Core.List.{List}
@@ -19,9 +19,14 @@ use Rattle.journal.proofs.Laws.{add-standing}
 use Rattle.move_guard.specs.Moved.{Change}
 use Rattle.move_guard.proofs.Facts.{playing-moves}
 use Rattle.move_edges.specs.Incidence.{PositiveSet}
+use Rattle.move_guard.specs.Bounds.{InBounds}
+use Rattle.solve_carry.specs.Inner.{Resumes}
+use Rattle.solve_carry.proofs.Resumed.{resumes-first}
 use Rattle.solve_finish.specs.Run.{Made}
 use Rattle.solve_finish.specs.Finishes.{playedOut}
 use Rattle.solve_finish.specs.Run.{PartsSized, stepChange, Makes, madeOf, Filled}
+use Rattle.solve_finish.proofs.Ready.{ready-bounds}
+use Rattle.solve_finish.proofs.Resuming.{resumes-made, resumes-same}
 use Rattle.solve_finish.proofs.InPlace.{step-of-bare, Keeps, step-keeps, step-long}
 use Rattle.solve_finish.proofs.Running.{Run, journaled, run-starts, run-same, run-plays, run-refused, run-rest, run-made, over, left-less}
 use Rattle.solve_finish.proofs.Filling.{filled-none, filled-less, filled-blocked, filled-more}
@@ -36,18 +41,19 @@ use Rattle.move_edges.proofs.at_vertices.Reads as at-vertices-reads
 use Rattle.move_edges.proofs.positive.Reads as positive-reads
 use Rattle.solve_finish.proofs.advance.Reads as advance-reads
 use Rattle.solve_finish.proofs.left_after.Reads as left-after-reads
+use Rattle.solve_finish.proofs.resumption.Reads as resumption-reads
 
 -- the board at the start, with the journal of the words now
 abbrev reached : Table → List (List ℕ) → List (List ℕ) → ℕ → Board
 reached t words₀ words moves = journaled (wholeOf t words₀) (journalOf moves words)
 
 abbrev Inv-loop : tie.InvT-loop
-Inv-loop board journal₀ flows₀ places₀ tails heads demands leaving entering marks₀ positive₀ moves₀ left₀ journal flows places marks positive moves left =
+Inv-loop board journal₀ flows₀ places₀ tails heads demands leaving entering marks₀ positive₀ moves₀ resume₀ left₀ journal flows places marks positive moves resume left =
     Run (wholeOf board journal₀) (board .network) (reached board journal₀ journal moves) flows marks places moves left × PositiveSet flows positive
-    × Filled (board .moves) moves left journal₀ journal
+    × Filled (board .moves) moves left journal₀ journal × Resumes (board .network) flows marks places resume
 
 abbrev μ-loop : tie.MeasureT-loop
-μ-loop board journal₀ flows₀ places₀ tails heads demands leaving entering marks₀ positive₀ moves₀ left₀ journal flows places marks positive moves left =
+μ-loop board journal₀ flows₀ places₀ tails heads demands leaving entering marks₀ positive₀ moves₀ resume₀ left₀ journal flows places marks positive moves resume left =
     left
 
 abbrev cs : lts.Claims
@@ -62,6 +68,8 @@ cs = (
   is-blank-reads.Learnt,
   put-entry-reads.Asked,
   put-entry-reads.Learnt,
+  resumption-reads.Asked,
+  resumption-reads.Learnt,
   left-after-reads.Asked,
   left-after-reads.Learnt,
 )
@@ -82,11 +90,21 @@ Found = lts.Else1 cs reads.Pre reads.Post Inv-loop μ-loop
 abbrev Moved : Type 0
 Moved = lts.After-left-after cs reads.Pre reads.Post Inv-loop μ-loop
 
+abbrev Stored : Type 0
+Stored = lts.After-put-entry cs reads.Pre reads.Post Inv-loop μ-loop
+
+abbrev begun : lts.After-positive cs reads.Pre reads.Post Inv-loop μ-loop → Started
+begun c =
+    let at-leaving = c .before .before .before in
+    at-leaving .before .before .before .before .before
+
 abbrev started : Looping → Started
-started c = c .before .before .before .before .before .before .before .before .before
+started c = begun (c .before)
 
 abbrev within : Advanced → lts.In-loop cs reads.Pre reads.Post Inv-loop μ-loop
-within c = c .before .before .before .before .before .before .before .before
+within c =
+    let at-leaving = c .before .before .before .before in
+    at-leaving .before .before .before .before
 
 abbrev looping : Advanced → Looping
 looping c = within c .before
@@ -158,15 +176,36 @@ goes-past c =
     omega
     (arith, run-further _ _ _ (run-rest _ _ _ _ _ _ _ _ (loop .inv .0) (within (advanced c) .loop-test .taken) (made (advanced c)) (makes (advanced c)) (c .if1 .left)))
 
--- the place after an accepted move: the run has gone on, fewer moves are left, and one more place is filled
+-- what the next move leans on, of the lists of the board
+bounds : (c : Advanced) → let loop = looping c .loop in InBounds (network c) (loop .flows) (loop .places)
+bounds c = ready-bounds _ _ _ _ (run-plays _ _ _ _ _ _ _ _ (looping c .loop .inv .0) (within c .loop-test .taken))
+
+-- the place after an accepted move: the run has gone on, fewer moves are left, one more place is filled, and the search goes on where it may
+abbrev stored : Moved → Stored
+stored c = c .before .before
+
+abbrev found-stored : Stored → Found
+found-stored c =
+    let blank = c .before .before .before in
+    blank .before .before .before .before
+
 abbrev found : Moved → Found
-found c = c .before .before .before .before .before .before .before .before
+found c = found-stored (stored c)
+
+resumes-on : (c : Moved)
+    → let at-move = advanced (found c) in
+    Resumes (network at-move) (flows-now at-move) (at-move .advance .result .marks) (places-now at-move) (c .before .resumption .result)
+resumes-on c =
+    let at-move = advanced (found c) in
+    let loop = looping at-move .loop in
+    resumes-made (network at-move) (loop .flows) (loop .marks) (loop .places) (bounds at-move) (made at-move .change) _ (makes at-move .changes) (found c .if1 .left)
+    (c .before .resumption .ensures)
 
 goes-on : (c : Moved)
     → let at-move = advanced (found c) in
     let start = started (looping at-move) in
     let m = looping at-move .loop .moves + 1 in
-    Run (given start) (given start .network) (reached (table start) (old start) (c .before .put-entry .last .0) m) (flows-now at-move)
+    Run (given start) (given start .network) (reached (table start) (old start) (stored c .put-entry .last .0) m) (flows-now at-move)
     (at-move .advance .result .marks) (places-now at-move) m (c .left-after .result)
 goes-on c =
     let at-move = advanced (found c) in
@@ -174,7 +213,7 @@ goes-on c =
     let m = loop .moves in
     run-made _ _ _ _ _ _ _ _ (loop .inv .0) (within at-move .loop-test .taken) (made at-move) (makes at-move) _ _ (found c .if1 .left) (short-now at-move)
     (ap (journaled (given (started (looping at-move))))
-    (ap (standing (m + 1)) (c .before .put-entry .ensures .1)
+    (ap (standing (m + 1)) (stored c .put-entry .ensures .1)
     ∙ sym (add-standing m (m + 1) (entriesOf (loop .journal)) (at-move .advance .result .entry) (omega arith))))
     (c .left-after .ensures)
 
@@ -186,9 +225,9 @@ goes-less c =
 
 fills-on : (c : Moved)
     → let at-loop = looping (advanced (found c)) in
-    Filled (table (started at-loop) .moves) (at-loop .loop .moves + 1) (c .left-after .result) (old (started at-loop)) (c .before .put-entry .last .0)
+    Filled (table (started at-loop) .moves) (at-loop .loop .moves + 1) (c .left-after .result) (old (started at-loop)) (stored c .put-entry .last .0)
 fills-on c =
-    let at-put = c .before in
+    let at-put = stored c in
     let at-else = at-put .before .before .before in
     filled-more _ _ _ _ _ (looping (advanced (found c)) .loop .inv .2) _ _ (at-put .put-entry .ensures .0) (at-put .put-entry .ensures .1) _
     (sym (at-else .before .is-blank .ensures) ∙ not-false _ (at-else .if2 .left)) (goes-less c)
@@ -207,8 +246,9 @@ cast-left c = search needs
 
 loop-holds : tie.Need-loop-holds Inv-loop μ-loop
 loop-holds c =
-    let start = c .before .before .before .before .before .before .before .before in
-    (rw (start .pre .1 .0, start .pre .1 .1) (starts start), c .positive .ensures, filled-none (table start .moves) (old start))
+    let at-leaving = c .before .before .before in
+    let start = at-leaving .before .before .before .before .before in
+    (rw (start .pre .1 .0, start .pre .1 .1) (starts start), c .positive .ensures, filled-none (table start .moves) (old start), resumes-first _ _ _ _)
 
 slice-aggregate-advance : tie.Need-slice-aggregate-advance Inv-loop μ-loop
 slice-aggregate-advance c = search needs
@@ -228,6 +268,7 @@ advance-requires c κs =
       leave = at-sets .before .at-vertices .ensures;
       enter = at-sets .at-vertices2 .ensures;
       is-positive = at-loop .loop .inv .1;
+      resumes = at-loop .loop .inv .3;
     }
 
 loop-less : tie.Need-loop-less Inv-loop μ-loop
@@ -242,6 +283,7 @@ loop-again c =
           (run-refused _ _ _ _ _ _ _ _ (loop .inv .0) (within at-move .loop-test .taken) (made at-move) (makes at-move) (c .if1 .taken)),
       subst (λ (f : List ℕ). PositiveSet f (loop .positive)) (sym (kept .0)) (loop .inv .1),
       filled-less _ _ _ _ _ (loop .inv .2) 0 (omega arith),
+      resumes-same _ _ _ _ _ _ _ (kept .0) (kept .2) (loop .inv .3),
     )
 
 cast-m : tie.Need-cast-m Inv-loop μ-loop
@@ -267,8 +309,11 @@ put-entry-requires c κs = search needs
 
 add-moves : tie.Need-add-moves Inv-loop μ-loop
 add-moves c =
-    let at-found = c .before .before .before .before .before .before .before in
+    let at-found = found-stored (c .before) in
     record { fits = omega (arith, few (advanced at-found)) }
+
+resumption-requires : tie.Need-resumption-requires Inv-loop μ-loop
+resumption-requires c κs = search needs
 
 left-after-requires : tie.Need-left-after-requires Inv-loop μ-loop
 left-after-requires c κs = search needs
@@ -277,7 +322,7 @@ loop-less-2 : tie.Need-loop-less-2 Inv-loop μ-loop
 loop-less-2 c = goes-less c
 
 loop-again-2 : tie.Need-loop-again-2 Inv-loop μ-loop
-loop-again-2 c = (goes-on c, makes (advanced (found c)) .is-positive, fills-on c)
+loop-again-2 c = (goes-on c, makes (advanced (found c)) .is-positive, fills-on c, resumes-on c)
 
 returns-2 : tie.Need-returns-2 Inv-loop μ-loop
 returns-2 c =
@@ -309,6 +354,7 @@ play-out-spec =
     is-blank-requires
     returns
     put-entry-requires
+    resumption-requires
     add-moves
     left-after-requires
     loop-less-2

@@ -7,7 +7,7 @@ use Rattle.move_carry.specs.Frames.{netOf}
 use Rattle.solve_carry.specs.Search.{openCarryIn}
 use Rattle.solve_carry.proofs.Finds.{open-carry-bare}
 use Rattle.solve_next.specs.Choosing.{allHomeIn}
-use Rattle.solve_next.proofs.Advised.{advice-none, advice-carry, advice-turn, movable-searched, movable-charted, movable-few}
+use Rattle.solve_next.proofs.Advised.{advice-none, advice-carry, advice-turn, movable-searched, movable-resumes, movable-charted, movable-few}
 use borrow.Author.Needs.{needs}
 use Rattle.solve_next.proofs.next_move.Statement.{statement}
 use Rattle.solve_next.proofs.next_move.Tie as tie
@@ -61,7 +61,8 @@ away c = sym (c .before .all-home-after .ensures) ∙ c .if1 .left
 open-carry-requires : tie.Need-open-carry-requires
 open-carry-requires c κs =
     let lent = c .before .before .before in
-    movable-searched _ _ _ _ _ _ _ _ (lent .before .before .before .pre)
+    let m = lent .before .before .before .pre in
+    (movable-searched _ _ _ _ _ _ _ _ m, movable-resumes _ _ _ _ _ _ _ _ m)
 
 all-home-after-requires : tie.Need-all-home-after-requires
 all-home-after-requires c κs = search needs
