@@ -8,7 +8,7 @@ use native.Mathlib.Numerals.{add-one}
 use native.Mathlib.Omega.{arith}
 use lib.ListN.{length, getD, set, take, drop, replicate, length-drop}
 use lib.Seq.{sets, length-take-le, getD-take, getD-drop, take-suc-set, take-add, drop-at}
-use Rattle.board.specs.Limits.{maxEdges}
+use Rattle.board.specs.Limits.{maxVertices, maxEdges}
 use Rattle.lists.specs.Lists.{indexOf}
 use Rattle.lists.proofs.Stored.{stored-turn, stored-end}
 use Rattle.lists.proofs.Laws.{index-hit, index-miss, index-end}
@@ -17,14 +17,17 @@ use Rattle.move_cycle.specs.Steps.{codeUp, codeStep, codeSteps, stepCode, codes
 use Rattle.move_cycle.proofs.Codes.{steps-length, steps-join, codes-steps, stride-code}
 use Rattle.solve_walk.specs.declared.Walk.{Walk}
 use Rattle.solve_walk.specs.Walk.{startsOf, packed}
-use Rattle.solve_walk.specs.Inner.{walked}
 
--- a walk's steps have their places
-pub held : (codes : List ℕ) (n : ℕ) → length codes ≡ maxEdges → n ≤ maxEdges → n ≤ length codes
+-- the steps of a walk so far have their places
+pub held : (codes : List ℕ) (n : ℕ) → length codes ≡ maxVertices → n ≤ maxVertices → n ≤ length codes
 held codes n size h = omega (arith, size, h)
 
-pub last-held : (codes : List ℕ) (n k : ℕ) → length codes ≡ maxEdges → k ≤ n → n ≤ maxEdges → k + (n - k) ≤ length codes
+pub last-held : (codes : List ℕ) (n k : ℕ) → length codes ≡ maxVertices → k ≤ n → n ≤ maxVertices → k + (n - k) ≤ length codes
 last-held codes n k size h l = omega (arith, size, h, l)
+
+-- the first n codes are n steps
+pub steps-held : (codes : List ℕ) (n : ℕ) → n ≤ length codes → length (codeSteps (take n codes)) ≡ n
+steps-held codes n fits = steps-length (take n codes) ∙ length-take-le n codes fits
 
 -- the steps of codes
 steps-drop : (k : ℕ) (cs : List ℕ) → drop k (codeSteps cs) ≡ codeSteps (drop k cs)
@@ -59,7 +62,7 @@ module _ (tails heads codes : List ℕ) (n v i total : ℕ) (fits : n ≤ length
   starts = startsOf tails heads (codeSteps (take n codes))
 
   size : length starts ≡ n
-  size = starts-length tails heads (codeSteps (take n codes)) ∙ steps-length (take n codes) ∙ length-take-le n codes fits
+  size = starts-length tails heads (codeSteps (take n codes)) ∙ steps-held codes n fits
 
   here : i < n → getD starts i 0 ≡ startOf tails heads (codeStep (getD codes i 0))
   here h =
@@ -101,29 +104,29 @@ module _ (codes : List ℕ) (k m : ℕ) (fits : k + m ≤ length codes) where
   pub last-codes : drop k (take (k + m) codes) ≡ last
   last-codes = rw (take-add k m codes) (drop-at (take k codes) last k (length-take-le k codes (omega arith)))
 
--- the copy is the record of the last steps
-pub walk-from-made : (t : Walk) (k : ℕ) (buf : List ℕ) → buf ≡ sets (replicate maxEdges 0) 0 (lastOf (t .steps) k (t .count - k)) → k ≤ t .count
-    → t .count ≤ length (t .steps) → _≡_ {A = Walk} (record { count = t .count - k; steps = buf }) (packed (drop k (walked t)))
-walk-from-made t k buf made h l = λ i. record { count = counts i; steps = fills i }
+-- the copy is the record of the last of the first n steps
+pub walk-from-made : (codes : List ℕ) (n k : ℕ) (buf : List ℕ) → buf ≡ sets (replicate maxEdges 0) 0 (lastOf codes k (n - k)) → k ≤ n → n ≤ length codes
+    → _≡_ {A = Walk} (record { count = n - k; steps = buf }) (packed (drop k (codeSteps (take n codes))))
+walk-from-made codes n k buf made h l = λ i. record { count = counts i; steps = fills i }
   where
     first : List ℕ
-    first = take (t .count) (t .steps)
+    first = take n codes
 
-    fits : k + (t .count - k) ≤ length (t .steps)
+    fits : k + (n - k) ≤ length codes
     fits = omega (arith, h, l)
 
-    whole : k + (t .count - k) ≡ t .count
+    whole : k + (n - k) ≡ n
     whole = omega (arith, h)
 
-    counts : t .count - k ≡ length (drop k (codeSteps first))
-    counts = omega (arith, length-drop k (codeSteps first), steps-length first, length-take-le (t .count) (t .steps) l)
+    counts : n - k ≡ length (drop k (codeSteps first))
+    counts = omega (arith, length-drop k (codeSteps first), steps-held codes n l)
 
-    codes : lastOf (t .steps) k (t .count - k) ≡ codesOf (drop k (codeSteps first))
-    codes =
-        sym (last-codes (t .steps) k (t .count - k) fits)
-        ∙ ap (λ (n : ℕ). drop k (take n (t .steps))) whole
+    last-steps : lastOf codes k (n - k) ≡ codesOf (drop k (codeSteps first))
+    last-steps =
+        sym (last-codes codes k (n - k) fits)
+        ∙ ap (λ (m : ℕ). drop k (take m codes)) whole
         ∙ sym (codes-steps (drop k first))
         ∙ ap codesOf (sym (steps-drop k first))
 
     fills : buf ≡ sets (replicate maxEdges 0) 0 (codesOf (drop k (codeSteps first)))
-    fills = made ∙ ap (sets (replicate maxEdges 0) 0) codes
+    fills = made ∙ ap (sets (replicate maxEdges 0) 0) last-steps

@@ -7,7 +7,6 @@ use Prim.Native.Nat.{ℕ, zero, suc, _+_, _-_, _<_, _≤_}
 use native.Mathlib.Omega.{arith}
 use lib.Dec.{ltb, eqb}
 use lib.ListN.{length, getD, take, drop}
-use lib.Seq.{length-take-le}
 use borrow.Author.Tests.{lt-ltb, le-ltb, ne-eqb, eqb-false}
 use Rattle.board.specs.Limits.{maxVertices, maxEdges}
 use Rattle.lists.specs.Choice.{either}
@@ -15,36 +14,30 @@ use Rattle.lists.proofs.Laws.{index-le, either-left, either-right}
 use Rattle.sets.specs.Sets.{hasBit}
 use Rattle.sets.specs.Inner.{setWidth}
 use Rattle.graph_flows.specs.Trails.{Step, down, up}
-use Rattle.move_cycle.specs.Steps.{codeUp}
-use Rattle.move_cycle.proofs.Codes.{steps-length}
+use Rattle.move_cycle.specs.Steps.{codeUp, codeSteps}
 use Rattle.solve_walk.specs.declared.Walk.{Walk}
 use Rattle.solve_walk.specs.Walk.{another, parts, startsOf, firstMet, downWalk, upWalk, packed}
-use Rattle.solve_walk.specs.Inner.{walked}
 use Rattle.solve_walk.proofs.Packed.{another-most}
-use Rattle.solve_walk.proofs.Loops.{held, starts-length}
+use Rattle.solve_walk.proofs.Loops.{steps-held, starts-length}
 
--- a walk has as many steps as its count says
-walked-length : (t : Walk) → length (t .steps) ≡ maxEdges → t .count ≤ maxEdges → length (walked t) ≡ t .count
-walked-length t size h = steps-length (take (t .count) (t .steps)) ∙ length-take-le (t .count) (t .steps) (held (t .steps) (t .count) size h)
-
--- v is first met among the steps, or after them
-pub met-most : (tails heads : List ℕ) (t : Walk) (v : ℕ) → length (t .steps) ≡ maxEdges → t .count ≤ maxEdges
-    → firstMet tails heads (walked t) v ≤ t .count
+-- v is first met among the steps of the first n codes, or after them
+pub met-most : (tails heads codes : List ℕ) (n v : ℕ) → n ≤ length codes → firstMet tails heads (codeSteps (take n codes)) v ≤ n
 unfolding firstMet
-met-most tails heads t v size h =
-    omega (arith, index-le v (startsOf tails heads (walked t)), starts-length tails heads (walked t), walked-length t size h)
+met-most tails heads codes n v fits =
+    let w = codeSteps (take n codes) in
+    omega (arith, index-le v (startsOf tails heads w), starts-length tails heads w, steps-held codes n fits)
 
--- what the calls ask for: the walk t, and the vertices left, have room together
-module _ (t : Walk) (left : ℕ) (room : t .count + left ≤ maxEdges) where
-  pub room-now : t .count ≤ maxEdges
+-- what the calls ask for: n steps, and the vertices left, have room together
+module _ (n left : ℕ) (room : n + left ≤ maxVertices) where
+  pub room-now : n ≤ maxVertices
   room-now = omega (arith, room)
 
   pub room-step : (ends flows : List ℕ) (v x e : ℕ) → (left ≡ 0 → ⊥) → length flows ≡ maxEdges → e ≡ another ends flows v x
-      → (t .count < maxEdges) × (e < codeUp)
+      → (n < maxVertices) × (e < codeUp)
   room-step ends flows v x e some few i = (omega (arith, room, some), omega (arith, few, i, another-most ends flows v x))
 
-  pub room-on : (n : ℕ) → (left ≡ 0 → ⊥) → n ≡ t .count + 1 → n + (left - 1) ≤ maxEdges
-  room-on n some i = omega (arith, room, some, i)
+  pub room-on : (m : ℕ) → (left ≡ 0 → ⊥) → m ≡ n + 1 → m + (left - 1) ≤ maxVertices
+  room-on m some i = omega (arith, room, some, i)
 
 -- a vertex has its place in a set
 pub vertex-bit : (v : ℕ) → v < maxVertices → v < setWidth

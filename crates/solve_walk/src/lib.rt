@@ -7,18 +7,24 @@ ghost use mathlib.Core.Path.{_≡_};
 ghost use mathlib.Core.List.{[], _∷_, _++_};
 ghost use Prim.Native.Nat.{_+_, _≤_, _<_};
 ghost use lib.ListN.{getD, drop};
-ghost use Rattle.board.specs.Limits.{maxVertices, maxEdges};
+ghost use Rattle.board.specs.Limits.{maxVertices};
 ghost use Rattle.sets.specs.Sets.{withBit, setOf};
 ghost use Rattle.sets.specs.Inner.{wordWidth, setsOf};
 ghost use Rattle.move_cycle.specs.Steps.{codeUp, stride};
 ghost use Rattle.solve_walk.specs.Walk.{another, firstMet, downWalk, upWalk, cycleOf, packed};
-ghost use Rattle.solve_walk.specs.Inner.{walked};
+ghost use Rattle.solve_walk.specs.Inner.{gone};
 ghost use Rattle.solve_walk.specs.Chart.{Charted, Seen, anotherBy, partsBy};
 
 // The steps of a walk, from the first on; 0 in the places past them.
 pub struct Walk {
     pub count: u32,
     pub steps: [StepCode; Board::MAX_EDGES],
+}
+
+// The steps of a walk so far, from the first on: no more than there are vertices.
+pub struct Way {
+    pub count: u32,
+    pub steps: [StepCode; Board::MAX_VERTICES],
 }
 
 // The lowest positive edge with this end at v other than x, or a number that no edge has.
@@ -64,25 +70,26 @@ fn meet(starts: &[u32], seen: VertexSet, e: u32) -> VertexSet
 }
 
 // The walk with one step more.
-fn with_step(walk: Walk, ups: bool, e: u32) -> Walk
-    requires { ⌜ walk .count < maxEdges ⌝ }
+fn with_step(walk: Way, ups: bool, e: u32) -> Way
+    requires { ⌜ walk .count < maxVertices ⌝ }
     requires { ⌜ e < codeUp ⌝ }
-    ensures { λ r. ⌜ walked r ≡ walked walk ++ (stride ups e ∷ []) ⌝ }
+    ensures { λ r. ⌜ gone r ≡ gone walk ++ (stride ups e ∷ []) ⌝ }
     ensures { λ r. ⌜ r .count ≡ walk .count + 1 ⌝ }
 {
-    let old = walk.steps;
     let step = move_cycle::stride(ups, e);
-    let steps = move_cycle::put_step(old, walk.count as usize, step);
-    Walk {
+    let mut steps = walk.steps;
+    let i = walk.count as usize;
+    steps[i] = step;
+    Way {
         count: walk.count + 1,
         steps: steps,
     }
 }
 
 // How many steps came before v was first met.
-fn first_met<'a>(tails: &'a [u32], heads: &'a [u32], walk: Walk, v: u32) -> u32
-    requires { ⌜ walk .count ≤ maxEdges ⌝ }
-    ensures { λ r. ⌜ r ≡ firstMet (now (tails .entry)) (now (heads .entry)) (walked walk) v ⌝ }
+fn first_met<'a>(tails: &'a [u32], heads: &'a [u32], walk: Way, v: u32) -> u32
+    requires { ⌜ walk .count ≤ maxVertices ⌝ }
+    ensures { λ r. ⌜ r ≡ firstMet (now (tails .entry)) (now (heads .entry)) (gone walk) v ⌝ }
 {
     let count = walk.count;
     let codes = walk.steps;
@@ -97,10 +104,10 @@ fn first_met<'a>(tails: &'a [u32], heads: &'a [u32], walk: Walk, v: u32) -> u32
 }
 
 // The steps from k on, from the first place on.
-fn walk_from(walk: Walk, k: u32) -> Walk
+fn walk_from(walk: Way, k: u32) -> Walk
     requires { ⌜ k ≤ walk .count ⌝ }
-    requires { ⌜ walk .count ≤ maxEdges ⌝ }
-    ensures { λ r. ⌜ r ≡ packed (drop k (walked walk)) ⌝ }
+    requires { ⌜ walk .count ≤ maxVertices ⌝ }
+    ensures { λ r. ⌜ r ≡ packed (drop k (gone walk)) ⌝ }
 {
     let codes = walk.steps;
     let rest = walk.count - k;
@@ -117,10 +124,10 @@ fn walk_from(walk: Walk, k: u32) -> Walk
 }
 
 // The steps since v was first met.
-fn since_met<'a>(tails: &'a [u32], heads: &'a [u32], walk: Walk, v: u32) -> Walk
-    requires { ⌜ walk .count ≤ maxEdges ⌝ }
-    ensures { λ r. ⌜ r ≡ packed (drop (firstMet (now (tails .entry)) (now (heads .entry)) (walked walk) v)
-        (walked walk)) ⌝ }
+fn since_met<'a>(tails: &'a [u32], heads: &'a [u32], walk: Way, v: u32) -> Walk
+    requires { ⌜ walk .count ≤ maxVertices ⌝ }
+    ensures { λ r. ⌜ r ≡ packed (drop (firstMet (now (tails .entry)) (now (heads .entry)) (gone walk) v)
+        (gone walk)) ⌝ }
 {
     let k = first_met(tails, heads, walk, v);
     walk_from(walk, k)
@@ -136,18 +143,18 @@ fn down_walk<'a>(
     positive: EdgeSet,
     seen: VertexSet,
     left: u32,
-    walk: Walk,
+    walk: Way,
     x: u32,
     v: u32,
 ) -> Walk
-    requires { ⌜ walk .count + left ≤ maxEdges ⌝ }
+    requires { ⌜ walk .count + left ≤ maxVertices ⌝ }
     requires { ⌜ Charted (now tails) (now heads) (now flows) (setsOf (now leaving)) (setsOf (now entering))
         (setOf positive) ⌝ }
-    requires { ⌜ Seen (now tails) (now heads) (walked walk) seen ⌝ }
+    requires { ⌜ Seen (now tails) (now heads) (gone walk) seen ⌝ }
     requires { ⌜ v < maxVertices ⌝ }
     ensures { λ r. ⌜ r ≡ packed (downWalk (now (tails .entry)) (now (heads .entry)) (now (flows .entry))
         (another (now (tails .entry)) (now (flows .entry))) (another (now (heads .entry)) (now (flows .entry))) left
-        (walked walk) x v) ⌝ }
+        (gone walk) x v) ⌝ }
 {
     if lists::or(left == 0, sets::word::has(seen, v as usize)) {
         return since_met(tails, heads, walk, v);
@@ -200,18 +207,18 @@ fn up_walk<'a>(
     positive: EdgeSet,
     seen: VertexSet,
     left: u32,
-    walk: Walk,
+    walk: Way,
     x: u32,
     v: u32,
 ) -> Walk
-    requires { ⌜ walk .count + left ≤ maxEdges ⌝ }
+    requires { ⌜ walk .count + left ≤ maxVertices ⌝ }
     requires { ⌜ Charted (now tails) (now heads) (now flows) (setsOf (now leaving)) (setsOf (now entering))
         (setOf positive) ⌝ }
-    requires { ⌜ Seen (now tails) (now heads) (walked walk) seen ⌝ }
+    requires { ⌜ Seen (now tails) (now heads) (gone walk) seen ⌝ }
     requires { ⌜ v < maxVertices ⌝ }
     ensures { λ r. ⌜ r ≡ packed (upWalk (now (tails .entry)) (now (heads .entry)) (now (flows .entry))
         (another (now (tails .entry)) (now (flows .entry))) (another (now (heads .entry)) (now (flows .entry))) left
-        (walked walk) x v) ⌝ }
+        (gone walk) x v) ⌝ }
 {
     if lists::or(left == 0, sets::word::has(seen, v as usize)) {
         return since_met(tails, heads, walk, v);
@@ -265,16 +272,16 @@ pub fn cycle<'a>(
     vertices: u32,
     source: u32,
 ) -> Walk
-    requires { ⌜ vertices ≤ maxEdges ⌝ }
+    requires { ⌜ vertices ≤ maxVertices ⌝ }
     requires { ⌜ Charted (now tails) (now heads) (now flows) (setsOf (now leaving)) (setsOf (now entering))
         (setOf positive) ⌝ }
     requires { ⌜ source < maxVertices ⌝ }
     ensures { λ r. ⌜ r ≡ packed (cycleOf (now (tails .entry)) (now (heads .entry))
         (now (flows .entry)) vertices source) ⌝ }
 {
-    let walk = Walk {
+    let walk = Way {
         count: 0,
-        steps: [0; Board::MAX_EDGES],
+        steps: [0; Board::MAX_VERTICES],
     };
     let none = flows.len() as u32;
     let unseen = sets::word::none();

@@ -7,7 +7,7 @@ use Rattle.move_carry.specs.Frames.{netOf}
 use Rattle.solve_carry.specs.Search.{openCarryIn}
 use Rattle.solve_carry.proofs.Finds.{open-carry-bare}
 use Rattle.solve_next.specs.Choosing.{allHomeIn}
-use Rattle.solve_next.proofs.Advised.{advice-none, advice-carry, advice-turn, movable-searched, movable-resumes, movable-charted, movable-few}
+use Rattle.solve_next.proofs.Advised.{advice-none, advice-carry, advice-turn, movable-searched, movable-resumes, movable-charted}
 use borrow.Author.Needs.{needs}
 use Rattle.solve_next.proofs.next_move.Statement.{statement}
 use Rattle.solve_next.proofs.next_move.Tie as tie
@@ -87,7 +87,7 @@ cycle-requires c κs =
     let none = c .before .before .before in
     let out = none .before .before .before in
     let m = start (looked out) .pre in
-    (movable-few _ _ _ _ _ _ _ _ m, (movable-charted _ _ _ _ _ _ _ _ m, m .bounds .source))
+    (m .bounds .vertices, (movable-charted _ _ _ _ _ _ _ _ m, m .bounds .source))
 
 returns-3 : tie.Need-returns-3
 returns-3 c =

@@ -139,7 +139,7 @@ down-walk-or-requires : (t : ℕ) → down-walk-lts.Need-or-requires (down-calls
 down-walk-or-requires t c κs = search needs
 
 down-walk-since-met-requires : (t : ℕ) → down-walk-lts.Need-since-met-requires (down-calls t) (down-walk-at t) down-walk.Post
-down-walk-since-met-requires t c κs = let s = down-start t (c .before) in room-now (s .args .walk) (s .args .left) (s .pre .1 .0)
+down-walk-since-met-requires t c κs = let s = down-start t (c .before) in room-now _ _ (s .pre .1 .0)
 
 down-walk-returns : (t : ℕ) → down-walk-lts.Need-returns (down-calls t) (down-walk-at t) down-walk.Post
 down-walk-returns t c =
@@ -158,7 +158,7 @@ down-walk-with-step-requires t c κs =
     let fell = c .before in
     let goes = fell .before in
     let s = down-from t goes in
-    room-step (s .args .walk) (s .args .left) (s .pre .1 .0) _ _ _ _ _ (down-some t goes) (s .pre .1 .1 .0 .all) (down-fell t fell)
+    room-step _ _ (s .pre .1 .0) _ _ _ _ _ (down-some t goes) (s .pre .1 .1 .0 .all) (down-fell t fell)
 
 down-walk-meet-requires : (t : ℕ) → down-walk-lts.Need-meet-requires (down-calls t) (down-walk-at t) down-walk.Post
 down-walk-meet-requires t c κs =
@@ -191,7 +191,7 @@ down-walk-down-walk-requires t c κs =
     let s = down-from t goes in
     let some = down-some t goes in
     let longer = steps .with-step .ensures in
-    let room = room-on (s .args .walk) (s .args .left) (s .pre .1 .0) _ some (longer .1) in
+    let room = room-on _ _ (s .pre .1 .0) _ some (longer .1) in
     let met = seen-more _ _ _ _ _ _ (down (fell .fall .result)) (longer .0) (c .before .meet .ensures) (s .pre .1 .1 .1 .0) in
     let small : c .word-at .result < maxVertices = rw (c .word-at .ensures) (s .pre .1 .1 .0 .headed _) in
     (omega (arith, some, s .pre .0), (room, (s .pre .1 .1 .0, (met, small))))
@@ -215,7 +215,7 @@ down-walk-with-step-requires-2 t c κs =
     let climbed = c in
     let goes = climbed .before .before .before in
     let s = down-from t goes in
-    room-step (s .args .walk) (s .args .left) (s .pre .1 .0) _ _ _ _ _ (down-some t goes) (s .pre .1 .1 .0 .all) (down-climbed t climbed)
+    room-step _ _ (s .pre .1 .0) _ _ _ _ _ (down-some t goes) (s .pre .1 .1 .0 .all) (down-climbed t climbed)
 
 down-walk-meet-requires-2 : (t : ℕ) → down-walk-lts.Need-meet-requires-2 (down-calls t) (down-walk-at t) down-walk.Post
 down-walk-meet-requires-2 t c κs =
@@ -245,7 +245,7 @@ down-walk-up-walk-requires t c κs =
     let s = down-from t goes in
     let some = down-some t goes in
     let longer = steps .with-step2 .ensures in
-    let room = room-on (s .args .walk) (s .args .left) (s .pre .1 .0) _ some (longer .1) in
+    let room = room-on _ _ (s .pre .1 .0) _ some (longer .1) in
     let met = seen-more _ _ _ _ _ _ (up (climbed .climb .result)) (longer .0) (c .before .meet2 .ensures) (s .pre .1 .1 .1 .0) in
     let small : c .word-at2 .result < maxVertices = rw (c .word-at2 .ensures) (s .pre .1 .1 .0 .tailed _) in
     (omega (arith, some, s .pre .0), (room, (s .pre .1 .1 .0, (met, small))))
@@ -306,7 +306,7 @@ up-walk-or-requires : (t : ℕ) → up-walk-lts.Need-or-requires (up-calls t) (u
 up-walk-or-requires t c κs = search needs
 
 up-walk-since-met-requires : (t : ℕ) → up-walk-lts.Need-since-met-requires (up-calls t) (up-walk-at t) up-walk.Post
-up-walk-since-met-requires t c κs = let s = up-start t (c .before) in room-now (s .args .walk) (s .args .left) (s .pre .1 .0)
+up-walk-since-met-requires t c κs = let s = up-start t (c .before) in room-now _ _ (s .pre .1 .0)
 
 up-walk-returns : (t : ℕ) → up-walk-lts.Need-returns (up-calls t) (up-walk-at t) up-walk.Post
 up-walk-returns t c =
@@ -325,7 +325,7 @@ up-walk-with-step-requires t c κs =
     let fell = c in
     let goes = fell .before .before .before in
     let s = up-from t goes in
-    room-step (s .args .walk) (s .args .left) (s .pre .1 .0) _ _ _ _ _ (up-some t goes) (s .pre .1 .1 .0 .all) (up-fell t fell)
+    room-step _ _ (s .pre .1 .0) _ _ _ _ _ (up-some t goes) (s .pre .1 .1 .0 .all) (up-fell t fell)
 
 up-walk-meet-requires : (t : ℕ) → up-walk-lts.Need-meet-requires (up-calls t) (up-walk-at t) up-walk.Post
 up-walk-meet-requires t c κs =
@@ -355,7 +355,7 @@ up-walk-down-walk-requires t c κs =
     let s = up-from t goes in
     let some = up-some t goes in
     let longer = steps .with-step .ensures in
-    let room = room-on (s .args .walk) (s .args .left) (s .pre .1 .0) _ some (longer .1) in
+    let room = room-on _ _ (s .pre .1 .0) _ some (longer .1) in
     let met = seen-more _ _ _ _ _ _ (down (fell .fall .result)) (longer .0) (c .before .meet .ensures) (s .pre .1 .1 .1 .0) in
     let small : c .word-at .result < maxVertices = rw (c .word-at .ensures) (s .pre .1 .1 .0 .headed _) in
     (omega (arith, some, s .pre .0), (room, (s .pre .1 .1 .0, (met, small))))
@@ -379,7 +379,7 @@ up-walk-with-step-requires-2 t c κs =
     let climbed = c in
     let goes = climbed .before .before .before in
     let s = up-from t goes in
-    room-step (s .args .walk) (s .args .left) (s .pre .1 .0) _ _ _ _ _ (up-some t goes) (s .pre .1 .1 .0 .all) (up-climbed t climbed)
+    room-step _ _ (s .pre .1 .0) _ _ _ _ _ (up-some t goes) (s .pre .1 .1 .0 .all) (up-climbed t climbed)
 
 up-walk-meet-requires-2 : (t : ℕ) → up-walk-lts.Need-meet-requires-2 (up-calls t) (up-walk-at t) up-walk.Post
 up-walk-meet-requires-2 t c κs =
@@ -409,7 +409,7 @@ up-walk-up-walk-requires t c κs =
     let s = up-from t goes in
     let some = up-some t goes in
     let longer = steps .with-step2 .ensures in
-    let room = room-on (s .args .walk) (s .args .left) (s .pre .1 .0) _ some (longer .1) in
+    let room = room-on _ _ (s .pre .1 .0) _ some (longer .1) in
     let met = seen-more _ _ _ _ _ _ (up (climbed .climb .result)) (longer .0) (c .before .meet2 .ensures) (s .pre .1 .1 .1 .0) in
     let small : c .word-at2 .result < maxVertices = rw (c .word-at2 .ensures) (s .pre .1 .1 .0 .tailed _) in
     (omega (arith, some, s .pre .0), (room, (s .pre .1 .1 .0, (met, small))))

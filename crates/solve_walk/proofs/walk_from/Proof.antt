@@ -4,7 +4,7 @@ use Prim.Native.Nat.{_-_, _≤_}
 use native.Mathlib.Omega.{arith}
 use lib.ListN.{length, drop, replicate}
 use borrow.Author.Needs.{needs}
-use Rattle.board.specs.Limits.{maxEdges}
+use Rattle.board.specs.Limits.{maxVertices, maxEdges}
 use lib.Seq.{sets}
 use Rattle.solve_walk.proofs.Loops.{lastOf, held, last-held, copy-turn, copy-end, walk-from-made}
 use Rattle.solve_walk.proofs.walk_from.Statement.{statement}
@@ -53,17 +53,17 @@ loop-less c = omega arith
 loop-again : tie.Need-loop-again Inv-loop μ-loop
 loop-again c =
     let at-start = c .before .before .before .before in
-    let size : length (at-start .args .walk .steps) ≡ maxEdges = search needs in
+    let size : length (at-start .args .walk .steps) ≡ maxVertices = search needs in
     let fits = last-held (at-start .args .walk .steps) (at-start .args .walk .count) (at-start .args .k) size (at-start .pre .0) (at-start .pre .1) in
     (omega (arith, c .loop-test .taken), copy-turn _ _ _ fits _ _ (c .loop-test .taken) ∙ c .before .loop .inv .1)
 
 returns : tie.Need-returns Inv-loop μ-loop
 returns c =
     let at-start = c .before .before .before .before in
-    let size : length (at-start .args .walk .steps) ≡ maxEdges = search needs in
+    let size : length (at-start .args .walk .steps) ≡ maxVertices = search needs in
     let fits = last-held (at-start .args .walk .steps) (at-start .args .walk .count) (at-start .args .k) size (at-start .pre .0) (at-start .pre .1) in
     let made = sym (copy-end _ _ _ fits _ _ (c .loop-test .left)) ∙ c .before .loop .inv .1 in
-    walk-from-made (at-start .args .walk) _ _ made (at-start .pre .0) (held (at-start .args .walk .steps) _ size (at-start .pre .1))
+    walk-from-made (at-start .args .walk .steps) _ _ _ made (at-start .pre .0) (held (at-start .args .walk .steps) _ size (at-start .pre .1))
 
 pub walk-from-spec : {M : Type 1} → statement M
 walk-from-spec =
