@@ -74,8 +74,12 @@ hintsOf g (c ∷ cs) = hintedBy (g .board) c ++ hintsOf (made g c .game) cs
 abbrev pub adviceCode : Advice → List ℕ
 adviceCode a = a .kind ∷ a .terminal ∷ a .edge ∷ a .count ∷ a .steps
 
+-- how many of them stand before the steps, and how many there are
+abbrev pub adviceHead : ℕ
+adviceHead = 4
+
 abbrev pub adviceWidth : ℕ
-adviceWidth = 4 + maxEdges
+adviceWidth = adviceHead + maxEdges
 
 -- the place of the next hint; none is past the end
 unfoldable pub behind : List ℕ → ℕ → ℕ

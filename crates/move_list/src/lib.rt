@@ -11,7 +11,7 @@ ghost use Rattle.move_turn.specs.Turns.{turnCall};
 ghost use Rattle.move_cycle.specs.Steps.{stepsOf};
 ghost use Rattle.journal.specs.Words.{wholeOf, givenOf, wordsAfter};
 ghost use Rattle.move_list.specs.Words.{wordsPlayed};
-ghost use Rattle.move_list.specs.Calls.{gameOf, played, answers, hintsOf, adviceCode, behind, noted};
+ghost use Rattle.move_list.specs.Calls.{gameOf, played, answers, hintsOf, adviceHead, adviceCode, behind, noted};
 ghost use Rattle.move_list.specs.Inner.{lastPlace, OneMade};
 ghost use Rattle.move_list.specs.Codes.{part, hintCode, callOf, callsOf};
 ghost use lib.ListN.{length};
@@ -34,6 +34,11 @@ impl CallCode {
     // A hint.
     pub const HINT: u32 = 3;
 }
+
+// How many numbers of a hint stand before its steps, and how many it has.
+const ADVICE_HEAD: usize = 4;
+
+const ADVICE_WIDTH: usize = ADVICE_HEAD + Board::MAX_EDGES;
 
 // A turn along the steps from a up to c.
 fn turn_part(
@@ -91,7 +96,7 @@ fn answer_count(kind: u32) -> usize
 
 // Stores the codes of the steps from place k on.
 fn put_steps(buf: &mut [u32], k: usize, steps: [StepCode; Board::MAX_EDGES])
-    requires { ⌜ k ≤ lastPlace + 4 ⌝ }
+    requires { ⌜ k ≤ lastPlace + adviceHead ⌝ }
     ensures { λ _. ⌜ now (buf .exit) ≡ sets (now (buf .entry)) k steps ⌝ }
 {
     let mut i: usize = 0;
@@ -111,7 +116,7 @@ fn put_advice(buf: &mut [u32], k: usize, advice: Advice)
     lists::put_word(buf, k + 2, advice.edge);
     lists::put_word(buf, k + 3, advice.count);
     let steps = advice.steps;
-    put_steps(buf, k + 4, steps);
+    put_steps(buf, k + ADVICE_HEAD, steps);
 }
 
 // Stores the move of a hint from place k on, where the buffer reaches that far; gives the place of the next.
@@ -123,7 +128,7 @@ fn note(buf: &mut [u32], k: usize, advice: Advice) -> usize
         return k;
     }
     put_advice(buf, k, advice);
-    k + 68
+    k + ADVICE_WIDTH
 }
 
 // Makes the calls, one after the other, and leaves out what is none; writes their answers into one buffer, and the
