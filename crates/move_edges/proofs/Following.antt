@@ -15,7 +15,7 @@ use Rattle.sets.specs.Inner.{isEmpty, setWidth, dropped, lowestIn}
 use Rattle.sets.proofs.Scan.{bits-ext, empty-above}
 use Rattle.sets.proofs.Apart.{has-collect}
 use Rattle.board.specs.Limits.{maxVertices}
-use Rattle.move_edges.specs.Incidence.{touchingAt}
+use Rattle.move_edges.specs.Incidence.{touchingBy}
 use Rattle.move_edges.specs.Singular.{leaving, straight}
 use Rattle.move_edges.proofs.Leaving.{first-in, some-in, more-in}
 use Rattle.move_edges.specs.Marking.{singularIn, isFreshIn, freshIn, straightBy, singularBy, isFreshBy}
@@ -40,7 +40,7 @@ module _ (tails heads flows sets : List ℕ) (positive : ℕ) (chart : ChartedOu
   straight-same zero v small = refl
   straight-same (suc k) v small =
       let first = first-in tails flows sets positive v (chart .leave) (chart .is-positive) small fits (chart .all) in
-      let out = touchingAt sets positive v in
+      let out = touchingBy sets positive v in
       let one : isEmpty out ≡ not (ltb (leaving tails flows v 0) (length flows)) =
       empty-above out ∙ ap not (some-in tails flows sets positive v (chart .leave) (chart .is-positive) small fits (chart .all)) in
       let two : isEmpty (dropped out (lowestIn out)) ≡ not (ltb (leaving tails flows v (suc (leaving tails flows v 0))) (length flows)) =

@@ -21,7 +21,7 @@ use Rattle.sets.proofs.Bits.{has-none}
 use Rattle.sets.proofs.Scan.{has-dropped, lowest-below, lowest-has}
 use Rattle.board.specs.Limits.{maxVertices, maxEdges}
 use Rattle.move_edges.specs.Singular.{leaves, leaving}
-use Rattle.move_edges.specs.Incidence.{Incident, PositiveSet, touchingAt}
+use Rattle.move_edges.specs.Incidence.{Incident, PositiveSet, touchingBy}
 use Rattle.move_edges.proofs.Meeting.{touching-is}
 
 dropped-most : (m c : ℕ) → dropped m c ≤ m
@@ -35,7 +35,7 @@ dropped-most m c = go (known (hasBit m c))
 module _ (ends flows edges : List ℕ) (positive v : ℕ) (at : Incident ends edges) (is-positive : PositiveSet flows positive) (small : v < maxVertices)
     (fits : positive < 2 ^ setWidth) (long : length flows ≡ maxEdges) where
   abbrev here : ℕ
-  here = touchingAt edges positive v
+  here = touchingBy edges positive v
 
   bits : (e : ℕ) → hasBit here e ≡ leaves ends flows v e
   bits = touching-is ends flows edges positive v at is-positive small fits long

@@ -18,7 +18,7 @@ use Rattle.sets.proofs.Bits.{has-past}
 use Rattle.sets.proofs.Scan.{has-common}
 use Rattle.board.specs.Limits.{maxVertices, maxEdges}
 use Rattle.move_edges.specs.Singular.{leaves}
-use Rattle.move_edges.specs.Incidence.{Incident, PositiveSet, touchingAt}
+use Rattle.move_edges.specs.Incidence.{Incident, PositiveSet, touchingBy}
 
 both-swap : (a b : Bool) → both a b ≡ both b a
 unfolding both
@@ -33,15 +33,15 @@ unfolding leaves both
 leaves-past ends flows v e h = rw (List·getD-eq-default flows 0 h, le-ltb 0 0 (omega arith))
 
 module _ (ends flows edges : List ℕ) (positive v : ℕ) (at : Incident ends edges) (is-positive : PositiveSet flows positive) (small : v < maxVertices) where
-  pub touching-at : (e : ℕ) → e < maxEdges → hasBit (touchingAt edges positive v) e ≡ leaves ends flows v e
+  pub touching-at : (e : ℕ) → e < maxEdges → hasBit (touchingBy edges positive v) e ≡ leaves ends flows v e
   unfolding leaves
   touching-at e h = has-common (getD edges v 0) positive e ∙ rw (at v e small h, is-positive e h) (both-swap (eqb (getD ends e 0) v) (ltb 0 (getD flows e 0)))
 
-  pub touching-is : positive < 2 ^ setWidth → length flows ≡ maxEdges → (e : ℕ) → hasBit (touchingAt edges positive v) e ≡ leaves ends flows v e
+  pub touching-is : positive < 2 ^ setWidth → length flows ≡ maxEdges → (e : ℕ) → hasBit (touchingBy edges positive v) e ≡ leaves ends flows v e
   touching-is fits long e = go (lt-or-ge e maxEdges)
     where
-      go : (e < maxEdges) ⊎ (maxEdges ≤ e) → hasBit (touchingAt edges positive v) e ≡ leaves ends flows v e
+      go : (e < maxEdges) ⊎ (maxEdges ≤ e) → hasBit (touchingBy edges positive v) e ≡ leaves ends flows v e
       go (inl l) = touching-at e l
       go (inr l) =
-          has-past (touchingAt edges positive v) setWidth e (omega (arith, fits, and-le-r (getD edges v 0) positive)) l
+          has-past (touchingBy edges positive v) setWidth e (omega (arith, fits, and-le-r (getD edges v 0) positive)) l
           ∙ sym (leaves-past ends flows v e (omega (arith, long, l)))

@@ -16,5 +16,5 @@ abbrev pub PositiveSet : List ℕ → ℕ → Type 0
 PositiveSet flows m = (e : ℕ) → e < maxEdges → hasBit m e ≡ ltb 0 (getD flows e 0)
 
 -- the wet channels of the set of v
-abbrev pub touchingAt : List ℕ → ℕ → ℕ → ℕ
-touchingAt sets positive v = common (getD sets v none) positive
+abbrev pub touchingBy : List ℕ → ℕ → ℕ → ℕ
+touchingBy sets positive v = common (getD sets v none) positive

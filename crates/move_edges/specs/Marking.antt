@@ -10,7 +10,7 @@ use Rattle.sets.specs.Sets.{none, hasBit, collect}
 use Rattle.sets.specs.Inner.{isEmpty, dropped, lowestIn}
 use Rattle.move_edges.specs.Singular.{straight}
 use Rattle.board.specs.Whole.{Board}
-use Rattle.move_edges.specs.Incidence.{touchingAt}
+use Rattle.move_edges.specs.Incidence.{touchingBy}
 
 -- "A channel is single when its head, and every pool that can be reached from the head over wet channels, has at most one wet channel leaving"
 unfoldable pub singularIn : List ℕ → List ℕ → List ℕ → ℕ → ℕ → Bool
@@ -37,7 +37,7 @@ fresh b = freshIn (b .network .tails) (b .network .heads) (b .flows) (b .network
 unfoldable pub straightBy : List ℕ → List ℕ → ℕ → ℕ → ℕ → Bool
 straightBy heads leaving positive zero v = true
 straightBy heads leaving positive (suc k) v =
-    let out = touchingAt leaving positive v in
+    let out = touchingBy leaving positive v in
     let e = lowestIn out in
     elim (isEmpty out) [
       | true ↦ true

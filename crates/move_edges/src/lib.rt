@@ -6,7 +6,7 @@ ghost use Prim.Native.Nat.{_<_};
 ghost use lib.ListN.{getD, set};
 ghost use Rattle.sets.specs.Sets.{none, withBit, collect, setOf};
 ghost use Rattle.sets.specs.Inner.{setWidth, setsOf};
-ghost use Rattle.move_edges.specs.Incidence.{Incident, PositiveSet, touchingAt};
+ghost use Rattle.move_edges.specs.Incidence.{Incident, PositiveSet, touchingBy};
 ghost use Rattle.move_edges.specs.Marking.{straightBy, singularBy, isFreshBy};
 
 // ---- The edges at each vertex, and the positive edges, as sets.
@@ -52,7 +52,7 @@ pub fn positive(flows: &[u32; Board::MAX_EDGES]) -> EdgeSet
 
 // The set of the positive edges that have this end at v, and the empty set where there is no such vertex.
 pub fn touching(edges: &[EdgeSet], positive: EdgeSet, v: u32) -> EdgeSet
-    ensures { λ r. ⌜ setOf r ≡ touchingAt (setsOf (now (edges .entry))) (setOf positive) v ⌝ }
+    ensures { λ r. ⌜ setOf r ≡ touchingBy (setsOf (now (edges .entry))) (setOf positive) v ⌝ }
 {
     let at = v as usize;
     if at < edges.len() {

@@ -11,7 +11,7 @@ use Rattle.lists.specs.Choice.{pick, both}
 use Rattle.lists.specs.Lists.{all}
 use Rattle.lists.proofs.Laws.{Known, was-true, was-false, known, all-same}
 use Rattle.board.specs.Limits.{maxTotal}
-use Rattle.move_guard.specs.Guard.{edgeNumbersIntact, edgeListsIntact, terminalNumbersIntact, terminalListsIntact, edgeBlankAt, terminalBlankAt}
+use Rattle.move_guard.specs.Guard.{edgeNumbersIntact, edgeListsIntact, terminalNumbersIntact, terminalListsIntact, edgeBlankIn, terminalBlankIn}
 
 -- tests joined to the left and to the right
 three : (a b c d : Bool) → both (both a (both b c)) d ≡ both a (both b (both c d))
@@ -52,11 +52,11 @@ past-terminal terminals vertices home demand place j h = rw (le-ltb j terminals 
 
 -- the same of all places from one on
 pub past-edges : (edges vertices : ℕ) (tails heads texts acyclic flows : List ℕ) (i k : ℕ) → edges ≤ i
-    → all (edgeBlankAt tails heads texts acyclic flows) i k ≡ all (edgeListsIntact edges vertices tails heads texts acyclic flows) i k
+    → all (edgeBlankIn tails heads texts acyclic flows) i k ≡ all (edgeListsIntact edges vertices tails heads texts acyclic flows) i k
 past-edges edges vertices tails heads texts acyclic flows i k h =
     all-same _ _ i k (λ e from to. sym (past-edge edges vertices (getD tails e 0) (getD heads e 0) (getD texts e 0) (getD acyclic e 0) (getD flows e 0) e (omega (arith, h, from))))
 
 pub past-terminals : (terminals vertices : ℕ) (homes demands places : List ℕ) (j k : ℕ) → terminals ≤ j
-    → all (terminalBlankAt homes demands places) j k ≡ all (terminalListsIntact terminals vertices homes demands places) j k
+    → all (terminalBlankIn homes demands places) j k ≡ all (terminalListsIntact terminals vertices homes demands places) j k
 past-terminals terminals vertices homes demands places j k h =
     all-same _ _ j k (λ t from to. sym (past-terminal terminals vertices (getD homes t 0) (getD demands t 0) (getD places t 0) t (omega (arith, h, from))))

@@ -53,12 +53,12 @@ abbrev pub terminalIntact : Board → ℕ → Bool
 terminalIntact b j = terminalIntactIn (b .network) (b .places) j
 
 -- the numbers of a place past the edges, and those of a place past the terminals, are 0
-abbrev pub edgeBlankAt : List ℕ → List ℕ → List ℕ → List ℕ → List ℕ → ℕ → Bool
-edgeBlankAt tails heads texts acyclic flows i =
+abbrev pub edgeBlankIn : List ℕ → List ℕ → List ℕ → List ℕ → List ℕ → ℕ → Bool
+edgeBlankIn tails heads texts acyclic flows i =
     both (eqb (getD tails i 0) 0) (both (eqb (getD heads i 0) 0) (both (eqb (getD texts i 0) 0) (both (eqb (getD acyclic i 0) 0) (eqb (getD flows i 0) 0))))
 
-abbrev pub terminalBlankAt : List ℕ → List ℕ → List ℕ → ℕ → Bool
-terminalBlankAt homes demands places j = both (eqb (getD homes j 0) 0) (both (eqb (getD demands j 0) 0) (eqb (getD places j 0) 0))
+abbrev pub terminalBlankIn : List ℕ → List ℕ → List ℕ → ℕ → Bool
+terminalBlankIn homes demands places j = both (eqb (getD homes j 0) 0) (both (eqb (getD demands j 0) 0) (eqb (getD places j 0) 0))
 
 -- a turn's amount is one that can be taken back
 abbrev pub moveIntact : Move → Bool

@@ -14,8 +14,8 @@ ghost use Rattle.move_guard.specs.Guard.{
   edgeListsIntact,
   terminalNumbersIntact,
   terminalListsIntact,
-  edgeBlankAt,
-  terminalBlankAt,
+  edgeBlankIn,
+  terminalBlankIn,
   moveIntact,
   intact,
   loaded,
@@ -89,7 +89,7 @@ fn edges_blank<'a>(
     flows: &'a [u32; Board::MAX_EDGES],
     from: usize,
 ) -> bool
-    ensures { λ r. ⌜ r ≡ all (edgeBlankAt (now (tails .entry)) (now (heads .entry)) (now (texts .entry))
+    ensures { λ r. ⌜ r ≡ all (edgeBlankIn (now (tails .entry)) (now (heads .entry)) (now (texts .entry))
         (now (acyclic .entry)) (now (flows .entry))) from (maxEdges - from) ⌝ }
 {
     let mut i = from;
@@ -143,7 +143,7 @@ fn terminals_blank<'a>(
     places: &'a [u32; Board::MAX_TERMINALS],
     from: usize,
 ) -> bool
-    ensures { λ r. ⌜ r ≡ all (terminalBlankAt (now (homes .entry)) (now (demands .entry)) (now (places .entry)))
+    ensures { λ r. ⌜ r ≡ all (terminalBlankIn (now (homes .entry)) (now (demands .entry)) (now (places .entry)))
         from (maxTerminals - from) ⌝ }
 {
     let mut j = from;

@@ -17,7 +17,7 @@ use Rattle.board.specs.Whole.{Board}
 use Rattle.solve_next.specs.declared.Advice.{Advice}
 use Rattle.solve_next.specs.declared.Suggestion.{Suggestion}
 use Rattle.solve_next.specs.Hints.{hintCall}
-use Rattle.move_list.specs.Calls.{Call, hint, Game, Reply, made, played, answers, hintedBy, hintsOf, adviceCode, adviceWidth, behind, noted}
+use Rattle.move_list.specs.Calls.{Call, hint, Game, Reply, made, played, answers, hintGiven, hintsOf, adviceCode, adviceWidth, behind, noted}
 use Rattle.move_list.specs.Codes.{part, callOf, callsOf}
 
 -- the steps of a turn
@@ -60,11 +60,11 @@ calls-few steps (x ∷ y ∷ z ∷ codes) h = absurd (omega arith)
 
 -- the hints that are noted with those of the first call: none of its own, or one
 module _ (b : Board) (c : Call) (rest : List Suggestion) (buf buf' : List ℕ) (k k' : ℕ) where
-  pub none-hinted : hintedBy b c ≡ [] → buf' ≡ buf → k' ≡ k → noted buf' k' rest ≡ noted buf k (hintedBy b c ++ rest)
+  pub none-hinted : hintGiven b c ≡ [] → buf' ≡ buf → k' ≡ k → noted buf' k' rest ≡ noted buf k (hintGiven b c ++ rest)
   none-hinted n e ek = rw (n, e, ek)
 
   pub one-hinted : (h : Suggestion) → c ≡ hint → h ≡ hintCall b → buf' ≡ sets buf k (adviceCode (h .advice)) → k' ≡ behind buf k
-      → noted buf' k' rest ≡ noted buf k (hintedBy b c ++ rest)
+      → noted buf' k' rest ≡ noted buf k (hintGiven b c ++ rest)
   unfolding noted
   one-hinted h n eh e ek = rw (n, e, ek, eh)
 
@@ -119,7 +119,7 @@ module _ (steps codes : List ℕ) (left : ℕ) where
       unfolding answers
       answers-turn buf buf' k e = rw (is, e, makes, add-one k)
 
-      pub hints-turn : (buf buf' : List ℕ) (k k' : ℕ) → ((rest : List Suggestion) → noted buf' k' rest ≡ noted buf k (hintedBy (g .board) call ++ rest))
+      pub hints-turn : (buf buf' : List ℕ) (k k' : ℕ) → ((rest : List Suggestion) → noted buf' k' rest ≡ noted buf k (hintGiven (g .board) call ++ rest))
           → noted buf' k' (hintsOf (r .game) others) ≡ noted buf k (hintsOf g calls)
       unfolding hintsOf
       hints-turn buf buf' k k' told = rw (is, makes) (told _)

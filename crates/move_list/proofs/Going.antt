@@ -17,7 +17,7 @@ use Rattle.journal.proofs.After.{after-none}
 use Rattle.move_cycle.specs.Steps.{stepsOf}
 use Rattle.solve_next.specs.declared.Suggestion.{Suggestion}
 use Rattle.solve_next.specs.Hints.{hintCall}
-use Rattle.move_list.specs.Calls.{Call, carry, turn, undo, hint, Game, gameOf, Reply, replyOf, made, played, answers, hintedBy, hintsOf, adviceCode, behind, noted}
+use Rattle.move_list.specs.Calls.{Call, carry, turn, undo, hint, Game, gameOf, Reply, replyOf, made, played, answers, hintGiven, hintsOf, adviceCode, behind, noted}
 use Rattle.move_list.specs.Codes.{part, carryCode, turnCode, undoCode, hintCode, callOf, callsOf}
 use Rattle.move_list.specs.Inner.{OneMade}
 use Rattle.move_list.specs.Words.{wordsPlayed}
@@ -115,7 +115,7 @@ module _ (steps codes buf₀ hints₀ : List ℕ) (b₀ : Board) (w₀ : List (L
 
     module _ (buf' hints' : List ℕ) (b' : Board) (w' : List (List ℕ)) (k' j' : ℕ) (counted : k' ≡ k + length (first steps codes left)) where
       round-on : (call : Call) (p : Played) → first steps codes left ≡ call ∷ [] → replyOf p ≡ made (gameOf b) call → buf' ≡ set buf k (p .answer)
-          → length hints' ≡ length hints → ((rest : List Suggestion) → noted hints' j' rest ≡ noted hints j (hintedBy b call ++ rest))
+          → length hints' ≡ length hints → ((rest : List Suggestion) → noted hints' j' rest ≡ noted hints j (hintGiven b call ++ rest))
           → b' ≡ p .board → w' ≡ wordsAfter (b .moves) (p .board) w → Round buf' hints' b' w' (left - 3) k' j'
       round-on call p alone makes e-buf long told e-b e-w =
           let is = calls-one steps codes left some within call alone in

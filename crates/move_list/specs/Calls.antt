@@ -60,15 +60,15 @@ answers g [] = []
 answers g (c ∷ cs) = made g c .answer ∷ answers (made g c .game) cs
 
 -- the hint that one call gives, if it is one; and the hints of the calls, in order
-abbrev pub hintedBy : Board → Call → List Suggestion
-hintedBy b (carry i e) = []
-hintedBy b (turn w) = []
-hintedBy b undo = []
-hintedBy b hint = hintCall b ∷ []
+abbrev pub hintGiven : Board → Call → List Suggestion
+hintGiven b (carry i e) = []
+hintGiven b (turn w) = []
+hintGiven b undo = []
+hintGiven b hint = hintCall b ∷ []
 
 unfoldable pub hintsOf : Game → List Call → List Suggestion
 hintsOf g [] = []
-hintsOf g (c ∷ cs) = hintedBy (g .board) c ++ hintsOf (made g c .game) cs
+hintsOf g (c ∷ cs) = hintGiven (g .board) c ++ hintsOf (made g c .game) cs
 
 -- a hint's move in numbers: its kind, terminal, edge, count of steps, and the codes of the steps
 abbrev pub adviceCode : Advice → List ℕ

@@ -18,7 +18,7 @@ use Rattle.decimal.proofs.Laws.{decimal-small, decimal-large, by-digits, number
 use Rattle.graph_flows.specs.Trails.{Step, down, up, edgeOf, edgesOf}
 use Rattle.solve_next.specs.Choosing.{Act, relocate, augment}
 use Rattle.move_list.specs.Calls.{carry, turn, callFor}
-use Rattle.play_lines.specs.Orders.{call, fieldsOf, isLetter, pairBy, turnOf, byFields, orderOf}
+use Rattle.play_lines.specs.Orders.{call, fieldsOf, isLetter, pairRead, turnOf, byFields, orderOf}
 use Rattle.play_lines.specs.MoveLines.{wayLetter, stepsText, moveText}
 use Rattle.play_lines.proofs.Exact.{into, into-none, comma-fields, byte-fields}
 
@@ -79,7 +79,7 @@ steps-fields x (s ∷ w) h =
     ap fieldsOf cut ∙ number-field (edgeOf s) (wayLetter s ∷ stepsText w) ∙ ap (λ (fs : List (List ℕ)). decimal (edgeOf s) ∷ fs) (steps-fields (wayLetter s) w (way-no-comma s)) in
     rw (h, fieldsOf) (ap (λ (fs : List (List ℕ)). (x ∷ []) ∷ fs) rest)
 
-pair-read : (s : Step) (w : List Step) → pairBy (Value (edgeOf s)) (wayLetter s ∷ []) (call (turn w)) ≡ call (turn (s ∷ w))
+pair-read : (s : Step) (w : List Step) → pairRead (Value (edgeOf s)) (wayLetter s ∷ []) (call (turn w)) ≡ call (turn (s ∷ w))
 unfolding isLetter pick both
 pair-read (down e) w = refl
 pair-read (up e) w = refl
@@ -88,8 +88,8 @@ turn-read : (w : List Step) → Below 10000000 (edgesOf w) → turnOf (stepField
 unfolding turnOf
 turn-read [] b = refl
 turn-read (s ∷ w) b =
-    ap (λ (n : Number). pairBy n (wayLetter s ∷ []) (turnOf (stepFields w))) (number-decimal (edgeOf s) (b .0))
-    ∙ ap (pairBy (Value (edgeOf s)) (wayLetter s ∷ [])) (turn-read w (b .1))
+    ap (λ (n : Number). pairRead n (wayLetter s ∷ []) (turnOf (stepFields w))) (number-decimal (edgeOf s) (b .0))
+    ∙ ap (pairRead (Value (edgeOf s)) (wayLetter s ∷ [])) (turn-read w (b .1))
     ∙ pair-read s w
 
 -- ---- a move

@@ -12,7 +12,7 @@ use Rattle.decimal.specs.declared.Number.the-variants.{Value, Malformed}
 use Rattle.decimal.specs.Decimal.{numberOf}
 use Rattle.graph_flows.specs.Trails.{Step, down, up}
 use Rattle.move_list.specs.Calls.{carry, turn, undo, hint}
-use Rattle.play_lines.specs.Orders.{Order, call, finish, other, isLetter, carryBy, carryOf, inFront, pairBy, turnOf, alone, byFields}
+use Rattle.play_lines.specs.Orders.{Order, call, finish, other, isLetter, carryRead, carryOf, inFront, pairRead, turnOf, alone, byFields}
 
 -- nothing; a line of another form; `H`, `U`, `F`; `K` with no, one and both numbers; `T` with steps, and with an edge whose way is to come
 pub data Shape : Type 0 where
@@ -30,7 +30,7 @@ pub data Shape : Type 0 where
 -- the second number of a carry
 abbrev pub lastOf : ℕ → List (List ℕ) → Order
 lastOf i [] = other
-lastOf i (e ∷ []) = carryBy (Value i) (numberOf e)
+lastOf i (e ∷ []) = carryRead (Value i) (numberOf e)
 lastOf i (e ∷ f ∷ fs) = other
 
 -- steps in front of a turn
@@ -45,7 +45,7 @@ behind w other = other
 -- the way of an edge, and the rest of a turn
 abbrev pub wayOf : ℕ → List (List ℕ) → Order
 wayOf e [] = other
-wayOf e (way ∷ fs) = pairBy (Value e) way (turnOf fs)
+wayOf e (way ∷ fs) = pairRead (Value e) way (turnOf fs)
 
 abbrev pub orderFrom : Shape → List (List ℕ) → Order
 orderFrom begin fs = byFields fs
@@ -93,7 +93,7 @@ none-front s (call hint) = refl
 none-front s finish = refl
 none-front s other = refl
 
-none-pair : (n : Number) (way : List ℕ) (o : Order) → behind [] (pairBy n way o) ≡ pairBy n way o
+none-pair : (n : Number) (way : List ℕ) (o : Order) → behind [] (pairRead n way o) ≡ pairRead n way o
 unfolding pick
 none-pair Malformed way o = refl
 none-pair (Value e) way o = split (isLetter 68 way) (isLetter 85 way)

@@ -33,15 +33,15 @@ unfoldable pub isLetter : ℕ → List ℕ → Bool
 isLetter x f = both (eqb (length f) 1) (eqb (getD f 0 0) x)
 
 -- `K,mill,channel`: "Numbers are written as in the board text"
-abbrev pub carryBy : Number → Number → Order
-carryBy (Value i) (Value e) = call (carry i e)
-carryBy (Value i) Malformed = other
-carryBy Malformed n = other
+abbrev pub carryRead : Number → Number → Order
+carryRead (Value i) (Value e) = call (carry i e)
+carryRead (Value i) Malformed = other
+carryRead Malformed n = other
 
 unfoldable pub carryOf : List (List ℕ) → Order
 carryOf [] = other
 carryOf (i ∷ []) = other
-carryOf (i ∷ e ∷ []) = carryBy (numberOf i) (numberOf e)
+carryOf (i ∷ e ∷ []) = carryRead (numberOf i) (numberOf e)
 carryOf (i ∷ e ∷ f ∷ fs) = other
 
 -- a step in front of a turn
@@ -54,15 +54,15 @@ inFront s finish = other
 inFront s other = other
 
 -- a pair of "channel and way (D or U)" in front of a turn
-abbrev pub pairBy : Number → List ℕ → Order → Order
-pairBy (Value e) way rest = pick (isLetter 68 way) (inFront (down e) rest) (pick (isLetter 85 way) (inFront (up e) rest) other)
-pairBy Malformed way rest = other
+abbrev pub pairRead : Number → List ℕ → Order → Order
+pairRead (Value e) way rest = pick (isLetter 68 way) (inFront (down e) rest) (pick (isLetter 85 way) (inFront (up e) rest) other)
+pairRead Malformed way rest = other
 
 -- `T` with such pairs; "`T` alone is the empty turn"
 unfoldable pub turnOf : List (List ℕ) → Order
 turnOf [] = call (turn [])
 turnOf (e ∷ []) = other
-turnOf (e ∷ way ∷ fs) = pairBy (numberOf e) way (turnOf fs)
+turnOf (e ∷ way ∷ fs) = pairRead (numberOf e) way (turnOf fs)
 
 -- `H`, `U`, `F`, with nothing behind them
 abbrev pub alone : Order → List (List ℕ) → Order

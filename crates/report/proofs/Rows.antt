@@ -15,7 +15,7 @@ use Rattle.text.specs.Text.{linesText}
 use Rattle.report_routes.specs.Tables.{routesFit}
 use Rattle.report_routes.specs.Inner.{countsOf, rowsOf, AreRouteSets, setLoad}
 use Rattle.report_routes.proofs.Read.{counts-route, fits-at, row-route, table-load, set-load}
-use Rattle.report.specs.Reports.{routeRow, loadRow}
+use Rattle.report.specs.Reports.{routeRow, loadRowIn, loadRow}
 use Rattle.report.specs.Rows.{tableRouteRow, tableLoadRow}
 
 -- one edge of a row, stored behind those before it
@@ -33,7 +33,7 @@ lines-same x f g i (suc k) same = rw (same i (omega arith), lines-same x f g (su
 
 -- the line of an edge by the sets of the routes, and that those lines are the ones by the rows
 abbrev pub setLoadRow : List ℕ → List ℕ → List ℕ → ℕ → ℕ → List ℕ
-setLoadRow acyclic demands routes terminals e = e ∷ getD acyclic e 0 ∷ setLoad routes demands e terminals ∷ []
+setLoadRow acyclic demands routes terminals = loadRowIn (λ e. getD acyclic e 0) (λ e. setLoad routes demands e terminals)
 
 pub set-lines : (net : Network) (acyclic counts : List ℕ) (rows : List (List ℕ)) (routes : List ℕ) → net .edges ≤ maxEdges → AreRouteSets routes counts rows (net .terminals)
     → linesText 76 (setLoadRow acyclic (net .demands) routes (net .terminals)) 0 (net .edges) ≡ linesText 76 (tableLoadRow net acyclic counts rows) 0 (net .edges)

@@ -15,19 +15,28 @@ use Rattle.move_guard.specs.Guard.{loaded}
 use Rattle.report_routes.specs.Routes.{route, load}
 use Rattle.report_routes.specs.Tables.{routesFit}
 
--- `M,mill,steps,` "and its channels from the spring on"
+-- `M,mill,steps,` "and its channels from the spring on": by the steps and the channels of each route, and of a board
+abbrev pub routeRowIn : (ℕ → ℕ) → (ℕ → List ℕ) → ℕ → List ℕ
+routeRowIn steps edges i = i ∷ steps i ∷ edges i
+
 abbrev pub routeRow : Board → ℕ → List ℕ
-routeRow b i = i ∷ length (route b i) ∷ route b i
+routeRow b = routeRowIn (λ i. length (route b i)) (route b)
 
--- `L,channel,first flow,load`: first flow is "the drained first flow" (document 02, E4), "and load is the sum of needs routed over it"
+-- `L,channel,first flow,load`: first flow is "the drained first flow" (document 02, E4), "and load is the sum of needs routed over it". By the flows and the loads,
+-- and of a board
+abbrev pub loadRowIn : (ℕ → ℕ) → (ℕ → ℕ) → ℕ → List ℕ
+loadRowIn flows loads e = e ∷ flows e ∷ loads e ∷ []
+
 abbrev pub loadRow : Board → ℕ → List ℕ
-loadRow b e = e ∷ acyclicFlow b e ∷ load b e ∷ []
+loadRow b = loadRowIn (acyclicFlow b) (load b)
 
--- `R,mills,channels`, then a line for each terminal and one for each edge
+-- `R,mills,channels`, then a line for each terminal and one for each edge: by the two counts and the rows, and of a board
+abbrev pub reportTextIn : ℕ → ℕ → (ℕ → List ℕ) → (ℕ → List ℕ) → List ℕ
+reportTextIn terminals edges routeRows loadRows =
+    lineText 82 (terminals ∷ edges ∷ []) ++ (linesText 77 routeRows 0 terminals ++ linesText 76 loadRows 0 edges)
+
 unfoldable pub reportText : Board → List ℕ
-reportText b =
-    lineText 82 (b .network .terminals ∷ b .network .edges ∷ [])
-    ++ (linesText 77 (routeRow b) 0 (b .network .terminals) ++ linesText 76 (loadRow b) 0 (b .network .edges))
+reportText b = reportTextIn (b .network .terminals) (b .network .edges) (routeRow b) (loadRow b)
 
 -- a board that a load gave. Its routes are simple, so they have room in their rows: see the theorem about every finish
 unfoldable pub started : Board → Bool

@@ -18,7 +18,7 @@ use Rattle.board.specs.declared.Relocation.{Relocation}
 use Rattle.board.specs.declared.Augmentation.{Augmentation}
 use Rattle.board.specs.declared.Move.{Move}
 use Rattle.board.specs.declared.Move.the-variants.{Carry, Turn}
-use Rattle.report_routes.specs.Routes.{carriedOver, routeBy}
+use Rattle.report_routes.specs.Routes.{carriedOver, routeIn}
 use Rattle.report_routes.specs.Inner.{tabulated, rowOf, countsOf, rowsOf}
 use Rattle.report_routes.proofs.Tabulated.{length-tabulated, tabulated-from, set-tabulated, sets-snoc}
 
@@ -36,19 +36,19 @@ carried-short i (Carry r) = go (known (eqb (r .terminal) i))
 carried-short i (Turn a) = omega arith
 
 -- no route has more edges than there are moves
-route-short : (i : ℕ) (ms : List Entry) → length (routeBy i ms) ≤ length ms
-unfolding routeBy
+route-short : (i : ℕ) (ms : List Entry) → length (routeIn i ms) ≤ length ms
+unfolding routeIn
 route-short i [] = omega arith
-route-short i (m ∷ ms) = omega (arith, length-append (routeBy i ms) (carriedOver i (m .step)), carried-short i (m .step), route-short i ms)
+route-short i (m ∷ ms) = omega (arith, length-append (routeIn i ms) (carriedOver i (m .step)), carried-short i (m .step), route-short i ms)
 
 -- what the counts and the rows hold
-pub counts-at : (ms : List Entry) (i : ℕ) → i < maxTerminals → getD (countsOf ms) i 0 ≡ length (routeBy i ms)
+pub counts-at : (ms : List Entry) (i : ℕ) → i < maxTerminals → getD (countsOf ms) i 0 ≡ length (routeIn i ms)
 unfolding countsOf
-counts-at ms i h = tabulated-from (λ j. length (routeBy j ms)) maxTerminals i 0 h
+counts-at ms i h = tabulated-from (λ j. length (routeIn j ms)) maxTerminals i 0 h
 
-pub rows-at : (ms : List Entry) (i : ℕ) (d : List ℕ) → i < maxTerminals → getD (rowsOf ms) i d ≡ rowOf (routeBy i ms)
+pub rows-at : (ms : List Entry) (i : ℕ) (d : List ℕ) → i < maxTerminals → getD (rowsOf ms) i d ≡ rowOf (routeIn i ms)
 unfolding rowsOf
-rows-at ms i d h = tabulated-from (λ j. rowOf (routeBy j ms)) maxTerminals i d h
+rows-at ms i d h = tabulated-from (λ j. rowOf (routeIn j ms)) maxTerminals i d h
 
 counts-short : (ms : List Entry) (i : ℕ) → i < maxTerminals → getD (countsOf ms) i 0 ≤ length ms
 counts-short ms i h = omega (arith, counts-at ms i h, route-short i ms)
@@ -63,53 +63,53 @@ row-full es e h =
 
 module _ (ms : List Entry) (r : Relocation) where
   -- the route of terminal i after a carry
-  route-other : (i : ℕ) → i ≢ r .terminal → routeBy i ms ≡ routeBy i ms ++ carriedOver i (Carry r)
+  route-other : (i : ℕ) → i ≢ r .terminal → routeIn i ms ≡ routeIn i ms ++ carriedOver i (Carry r)
   route-other i n =
       let q = pick-no (eqb (r .terminal) i) (r .edge ∷ []) [] (ne-eqb (r .terminal) i (λ z. n (sym z))) in
-      rw q (sym (append-nil (routeBy i ms)))
+      rw q (sym (append-nil (routeIn i ms)))
 
-  route-same : routeBy (r .terminal) ms ++ (r .edge ∷ []) ≡ routeBy (r .terminal) ms ++ carriedOver (r .terminal) (Carry r)
+  route-same : routeIn (r .terminal) ms ++ (r .edge ∷ []) ≡ routeIn (r .terminal) ms ++ carriedOver (r .terminal) (Carry r)
   route-same =
       let q = pick-yes (eqb (r .terminal) (r .terminal)) (r .edge ∷ []) [] (eq-eqb (r .terminal) (r .terminal) refl) in
       rw q
 
   counts-carried : r .terminal < maxTerminals → set (countsOf ms) (r .terminal) (getD (countsOf ms) (r .terminal) 0 + 1) ≡ countsOf (record { step = Carry r } ∷ ms)
-  unfolding countsOf routeBy
+  unfolding countsOf routeIn
   counts-carried h =
       set-tabulated
-      (λ i. length (routeBy i ms))
-      (λ i. length (routeBy i (record { step = Carry r } ∷ ms)))
+      (λ i. length (routeIn i ms))
+      (λ i. length (routeIn i (record { step = Carry r } ∷ ms)))
       maxTerminals
       (r .terminal)
       _
       (λ m n. ap length (route-other m n))
-      (rw (counts-at ms (r .terminal) h) (sym (length-append (routeBy (r .terminal) ms) (r .edge ∷ [])) ∙ ap length route-same))
+      (rw (counts-at ms (r .terminal) h) (sym (length-append (routeIn (r .terminal) ms) (r .edge ∷ [])) ∙ ap length route-same))
 
   rows-carried : r .terminal < maxTerminals
       → set (rowsOf ms) (r .terminal) (set (getD (rowsOf ms) (r .terminal) []) (getD (countsOf ms) (r .terminal) 0) (r .edge))
       ≡ rowsOf (record { step = Carry r } ∷ ms)
-  unfolding rowsOf routeBy
+  unfolding rowsOf routeIn
   rows-carried h =
       set-tabulated
-      (λ i. rowOf (routeBy i ms))
-      (λ i. rowOf (routeBy i (record { step = Carry r } ∷ ms)))
+      (λ i. rowOf (routeIn i ms))
+      (λ i. rowOf (routeIn i (record { step = Carry r } ∷ ms)))
       maxTerminals
       (r .terminal)
       _
       (λ m n. ap rowOf (route-other m n))
-      (rw (counts-at ms (r .terminal) h, rows-at ms (r .terminal) [] h) (row-snoc (routeBy (r .terminal) ms) (r .edge) ∙ ap rowOf route-same))
+      (rw (counts-at ms (r .terminal) h, rows-at ms (r .terminal) [] h) (row-snoc (routeIn (r .terminal) ms) (r .edge) ∙ ap rowOf route-same))
 
   -- no room in the row of the terminal
   rows-full : r .terminal < maxTerminals → maxVertices ≤ getD (countsOf ms) (r .terminal) 0 → rowsOf ms ≡ rowsOf (record { step = Carry r } ∷ ms)
-  unfolding rowsOf routeBy
+  unfolding rowsOf routeIn
   rows-full h full = λ t. tabulated (λ i. same i t) 0 maxTerminals
     where
-      same : (i : ℕ) → rowOf (routeBy i ms) ≡ rowOf (routeBy i ms ++ carriedOver i (Carry r))
+      same : (i : ℕ) → rowOf (routeIn i ms) ≡ rowOf (routeIn i ms ++ carriedOver i (Carry r))
       same i = go (known (eqb i (r .terminal)))
         where
-          go : Known (eqb i (r .terminal)) → rowOf (routeBy i ms) ≡ rowOf (routeBy i ms ++ carriedOver i (Carry r))
+          go : Known (eqb i (r .terminal)) → rowOf (routeIn i ms) ≡ rowOf (routeIn i ms ++ carriedOver i (Carry r))
           go (was-true t) =
-              rw (eqb-true i (r .terminal) t) (row-full (routeBy (r .terminal) ms) (r .edge) (omega (arith, counts-at ms (r .terminal) h)) ∙ ap rowOf route-same)
+              rw (eqb-true i (r .terminal) t) (row-full (routeIn (r .terminal) ms) (r .edge) (omega (arith, counts-at ms (r .terminal) h)) ∙ ap rowOf route-same)
           go (was-false t) = ap rowOf (route-other i (eqb-false _ _ t))
 
   -- no row for the terminal
@@ -119,29 +119,29 @@ module _ (ms : List Entry) (r : Relocation) where
       sym (set-out (tabulated f 0 maxTerminals) (r .terminal) (g (r .terminal)) (omega (arith, long))) ∙ set-tabulated f g maxTerminals (r .terminal) (g (r .terminal)) e refl
 
   counts-past : maxTerminals ≤ r .terminal → countsOf ms ≡ countsOf (record { step = Carry r } ∷ ms)
-  unfolding countsOf routeBy
-  counts-past h = past ℕ (λ i. length (routeBy i ms)) (λ i. length (routeBy i (record { step = Carry r } ∷ ms))) h (λ m n. ap length (route-other m n))
+  unfolding countsOf routeIn
+  counts-past h = past ℕ (λ i. length (routeIn i ms)) (λ i. length (routeIn i (record { step = Carry r } ∷ ms))) h (λ m n. ap length (route-other m n))
 
   rows-past : maxTerminals ≤ r .terminal → rowsOf ms ≡ rowsOf (record { step = Carry r } ∷ ms)
-  unfolding rowsOf routeBy
-  rows-past h = past (List ℕ) (λ i. rowOf (routeBy i ms)) (λ i. rowOf (routeBy i (record { step = Carry r } ∷ ms))) h (λ m n. ap rowOf (route-other m n))
+  unfolding rowsOf routeIn
+  rows-past h = past (List ℕ) (λ i. rowOf (routeIn i ms)) (λ i. rowOf (routeIn i (record { step = Carry r } ∷ ms))) h (λ m n. ap rowOf (route-other m n))
 
 -- a turn changes no route
 counts-turned : (ms : List Entry) (a : Augmentation) → countsOf ms ≡ countsOf (record { step = Turn a } ∷ ms)
-unfolding countsOf routeBy
-counts-turned ms a = sym (λ t. tabulated (λ i. length (append-nil (routeBy i ms) t)) 0 maxTerminals)
+unfolding countsOf routeIn
+counts-turned ms a = sym (λ t. tabulated (λ i. length (append-nil (routeIn i ms) t)) 0 maxTerminals)
 
 rows-turned : (ms : List Entry) (a : Augmentation) → rowsOf ms ≡ rowsOf (record { step = Turn a } ∷ ms)
-unfolding rowsOf routeBy
-rows-turned ms a = sym (λ t. tabulated (λ i. rowOf (append-nil (routeBy i ms) t)) 0 maxTerminals)
+unfolding rowsOf routeIn
+rows-turned ms a = sym (λ t. tabulated (λ i. rowOf (append-nil (routeIn i ms) t)) 0 maxTerminals)
 
 -- no move stands
 rows-none : replicate maxTerminals (replicate maxVertices 0) ≡ rowsOf []
-unfolding rowsOf tabulated routeBy rowOf
+unfolding rowsOf tabulated routeIn rowOf
 rows-none = refl
 
 counts-none : replicate maxTerminals 0 ≡ countsOf []
-unfolding countsOf tabulated routeBy
+unfolding countsOf tabulated routeIn
 counts-none = refl
 
 -- A walk from the last standing move of a journal to the first that has passed k moves: the rows and the counts are those of the moves it has passed.

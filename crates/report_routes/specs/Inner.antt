@@ -4,13 +4,12 @@ use mathlib.Core.List.{List, [], _∷_}
 use Prim.Native.Nat.{ℕ, zero, suc, _≤_, _<_}
 use lib.ListN.{length, getD, take, replicate}
 use lib.Seq.{sets}
-use Rattle.lists.specs.Choice.{pick}
 use Rattle.lists.specs.Lists.{total}
 use Rattle.lists.specs.Members.{has}
 use Rattle.sets.specs.Sets.{none, hasBit}
 use Rattle.board.specs.Limits.{maxVertices, maxEdges, maxTerminals, maxFlow}
 use Rattle.board.specs.declared.Entry.{Entry}
-use Rattle.report_routes.specs.Routes.{routeBy}
+use Rattle.report_routes.specs.Routes.{routeIn, shareIn}
 
 -- f at i, i + 1, .., i + k - 1
 unfoldable pub tabulated : {A : Type 0} → (ℕ → A) → ℕ → ℕ → List A
@@ -23,10 +22,10 @@ rowOf es = sets (replicate maxVertices 0) 0 es
 
 -- the routes by these moves: how many edges each has, and its row
 unfoldable pub countsOf : List Entry → List ℕ
-countsOf ms = tabulated (λ i. length (routeBy i ms)) 0 maxTerminals
+countsOf ms = tabulated (λ i. length (routeIn i ms)) 0 maxTerminals
 
 unfoldable pub rowsOf : List Entry → List (List ℕ)
-rowsOf ms = tabulated (λ i. rowOf (routeBy i ms)) 0 maxTerminals
+rowsOf ms = tabulated (λ i. rowOf (routeIn i ms)) 0 maxTerminals
 
 -- the route of terminal i by the counts and the rows
 abbrev pub rowAt : List ℕ → List (List ℕ) → ℕ → List ℕ
@@ -34,7 +33,7 @@ rowAt counts rows i = take (getD counts i 0) (getD rows i [])
 
 -- "the sum of needs routed over it", over the rows
 unfoldable pub tableLoad : List ℕ → List (List ℕ) → List ℕ → ℕ → ℕ → ℕ
-tableLoad counts rows demands e terminals = total (λ i. pick (has e (rowAt counts rows i)) (getD demands i 0) 0) 0 terminals
+tableLoad counts rows demands e terminals = total (shareIn (λ i. has e (rowAt counts rows i)) demands) 0 terminals
 
 -- no demand is above the greatest, so that no sum of them wraps
 abbrev pub Moderate : List ℕ → Type 0
@@ -50,7 +49,7 @@ AreRouteSets routes counts rows terminals = (i : ℕ) → i < terminals → IsSe
 
 -- "the sum of needs routed over it", over the sets
 unfoldable pub setLoad : List ℕ → List ℕ → ℕ → ℕ → ℕ
-setLoad routes demands e terminals = total (λ i. pick (hasBit (getD routes i none) e) (getD demands i 0) 0) 0 terminals
+setLoad routes demands e terminals = total (shareIn (λ i. hasBit (getD routes i none) e) demands) 0 terminals
 
 -- the same, and the empty set in the places past the terminals
 pub record RouteSets (routes counts : List ℕ) (rows : List (List ℕ)) (terminals : ℕ) : Type 0 where

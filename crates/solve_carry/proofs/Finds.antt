@@ -19,7 +19,7 @@ use Rattle.sets.specs.Inner.{setWidth, isEmpty, dropped, lowestIn}
 use Rattle.sets.proofs.Bits.{has-none}
 use Rattle.sets.proofs.Scan.{has-common, lowest-is, lowest-in, scan-hit, scan-miss, scan-end}
 use Rattle.move_edges.specs.Singular.{leaves}
-use Rattle.move_edges.specs.Incidence.{touchingAt}
+use Rattle.move_edges.specs.Incidence.{touchingBy}
 use Rattle.move_edges.proofs.Meeting.{touching-is}
 use Rattle.board.specs.declared.Network.{Network}
 use Rattle.move_carry.specs.Opens.{flowFits, entersIn, fitsIn, isOpenIn, openEdgeIn, hasOpenIn, openTerminalIn, someOpenIn}
@@ -90,7 +90,7 @@ module _ (net : Network) (entering flows : List ℕ) (positive marks : ℕ) (pla
   demand = getD (net .demands) i 0
 
   abbrev into : ℕ
-  into = touchingAt entering positive place
+  into = touchingBy entering positive place
 
   abbrev fit : ℕ → Bool
   fit = fitsIn net flows marks places i
@@ -190,7 +190,7 @@ module _ (net : Network) (entering flows : List ℕ) (positive marks : ℕ) (pla
       go (inr l) = rw (pick-no (ltb marked-first (net .edges)) marked-first first (le-ltb marked-first (net .edges) l)) (by-lowest l)
 
   -- in the code's shape: the place, the demand, the set and the edge by the code's names
-  pub finds-edge : (v d m e : ℕ) → v ≡ place → d ≡ demand → m ≡ touchingAt entering positive v → e ≡ chosenBy flows marks (net .edges) d m → Finds e
+  pub finds-edge : (v d m e : ℕ) → v ≡ place → d ≡ demand → m ≡ touchingBy entering positive v → e ≡ chosenBy flows marks (net .edges) d m → Finds e
   finds-edge v d m e at needs set is = rw (is, set, needs, at) finds
 
 -- the edge chosen of a set, in the code's shape

@@ -16,7 +16,7 @@ use Rattle.sets.specs.Inner.{setWidth, isEmpty, dropped, lowestIn}
 use Rattle.sets.proofs.Scan.{empty-above}
 use Rattle.sets.proofs.Bits.{has-none, has-with-same, has-with-other}
 use Rattle.board.specs.Limits.{maxVertices, maxEdges}
-use Rattle.move_edges.specs.Incidence.{Incident, PositiveSet, touchingAt}
+use Rattle.move_edges.specs.Incidence.{Incident, PositiveSet, touchingBy}
 use Rattle.move_edges.proofs.Leaving.{without-at, more-in}
 use Rattle.graph_flows.specs.Trails.{Step, startOf}
 use Rattle.solve_walk.specs.Walk.{touches, another, parts, startsOf, firstMet}
@@ -34,7 +34,7 @@ not-empty m = ap not (empty-above m) ∙ not-not (ltb 0 m)
 -- one end of the edges
 module _ (ends flows edges : List ℕ) (positive v : ℕ) (at : Incident ends edges) (is-positive : PositiveSet flows positive) (small : v < maxVertices)
     (fits : positive < 2 ^ setWidth) (long : length flows ≡ maxEdges) where
-  others : (x e : ℕ) → hasBit (dropped (touchingAt edges positive v) x) e ≡ touches ends flows v x e
+  others : (x e : ℕ) → hasBit (dropped (touchingBy edges positive v) x) e ≡ touches ends flows v x e
   unfolding touches
   others = without-at ends flows edges positive v at is-positive small fits long
 
@@ -44,7 +44,7 @@ module _ (ends flows edges : List ℕ) (positive v : ℕ) (at : Incident ends ed
 
   pub parts-in : partsBy edges positive v ≡ parts ends flows v
   unfolding parts
-  parts-in = not-empty (dropped (touchingAt edges positive v) (lowestIn (touchingAt edges positive v))) ∙ more-in ends flows edges positive v at is-positive small fits long
+  parts-in = not-empty (dropped (touchingBy edges positive v) (lowestIn (touchingBy edges positive v))) ∙ more-in ends flows edges positive v at is-positive small fits long
 
 -- the walk's two ends
 module _ (tails heads flows leaving entering : List ℕ) (positive v : ℕ) (chart : Charted tails heads flows leaving entering positive)

@@ -8,7 +8,7 @@ use lib.ListN.{length, getD}
 use Rattle.sets.specs.Sets.{hasBit}
 use Rattle.sets.specs.Inner.{isEmpty, dropped, lowestIn}
 use Rattle.board.specs.Limits.{maxVertices, maxEdges}
-use Rattle.move_edges.specs.Incidence.{Incident, PositiveSet, touchingAt}
+use Rattle.move_edges.specs.Incidence.{Incident, PositiveSet, touchingBy}
 use Rattle.graph_flows.specs.Trails.{Step}
 use Rattle.solve_walk.specs.Walk.{firstMet}
 
@@ -27,7 +27,7 @@ Seen tails heads w seen = (v : ℕ) → v < maxVertices → hasBit seen v ≡ lt
 
 -- `another` and `parts` by the sets
 abbrev pub anotherBy : List ℕ → ℕ → ℕ → ℕ → ℕ
-anotherBy edges positive v x = lowestIn (dropped (touchingAt edges positive v) x)
+anotherBy edges positive v x = lowestIn (dropped (touchingBy edges positive v) x)
 
 abbrev pub partsBy : List ℕ → ℕ → ℕ → Bool
-partsBy leaving positive v = not (isEmpty (dropped (touchingAt leaving positive v) (lowestIn (touchingAt leaving positive v))))
+partsBy leaving positive v = not (isEmpty (dropped (touchingBy leaving positive v) (lowestIn (touchingBy leaving positive v))))

@@ -11,14 +11,13 @@ use lib.Dec.{eqb}
 use lib.ListN.{length, getD, set, drop, replicate, length-replicate}
 use lib.Seq.{getD-set-same, getD-set-other}
 use borrow.Author.Tests.{eq-eqb, ne-eqb}
-use Rattle.lists.specs.Choice.{pick, either}
+use Rattle.lists.specs.Choice.{either}
 use Rattle.lists.specs.Lists.{all, keyed, sumAt}
 use Rattle.lists.proofs.Laws.{eq-or-ne, all-same, sum-turn, zeros-at}
 use Rattle.board.specs.Limits.{maxVertices}
 use Rattle.board.specs.declared.Network.{Network}
 use Rattle.text_rules.specs.Sound.{inflow, outflow, demandAt}
-use Rattle.text_rules.specs.Rules.{balanced}
-use Rattle.text_judge.specs.Sums.{evenAt}
+use Rattle.text_rules.specs.Rules.{balancedIn, balanced}
 
 -- a test for equality, negated
 pub same-not : (a b : ℕ) → a ≡ b → not (eqb a b) ≡ false
@@ -66,18 +65,17 @@ module _ (net : Network) (n : ℕ) (xs rest ys : List ℕ)
     (enters : (v : ℕ) → v < length {A = ℕ} (replicate n 0) → getD xs v 0 ≡ getD (replicate n 0) v 0 + inflow net v)
     (leaves : (v : ℕ) → v < length {A = ℕ} (replicate n 0) → getD rest v 0 ≡ getD (replicate n 0) v 0 + outflow net v) (size : length rest ≡ n)
     (needed : (v : ℕ) → v < length rest → getD ys v 0 ≡ getD rest v 0 + demandAt net v) (fits : net .vertices ≤ n) where
-  even : (v : ℕ) → v < n → evenAt xs ys (net .source) v ≡ balanced net v
-  unfolding balanced either pick
-  even v h =
+  abbrev even : ℕ → Bool
+  even = balancedIn (λ v. getD xs v 0) (λ v. getD ys v 0) (net .source)
+
+  even-balanced : (v : ℕ) → v < n → even v ≡ balanced net v
+  unfolding balanced
+  even-balanced v h =
       let less : v < length {A = ℕ} (replicate n 0) = omega (arith, length-replicate {A = ℕ} n 0) in
       let long : v < length rest = omega arith in
       let x : getD xs v 0 ≡ inflow net v = omega (arith, enters v less, zeros-at n v) in
       let y : getD ys v 0 ≡ outflow net v + demandAt net v = omega (arith, leaves v less, needed v long, zeros-at n v) in
-      ap₂ (λ (a b : ℕ). either (eqb v (net .source)) (eqb a b)) x y ∙ choose (eqb v (net .source)) (eqb (inflow net v) (outflow net v + demandAt net v))
-    where
-      choose : (a b : Bool) → either a b ≡ pick a true b
-      choose true b = refl
-      choose false b = refl
+      ap₂ (λ (a b : ℕ). either (eqb v (net .source)) (eqb a b)) x y
 
-  pub all-balanced : all (evenAt xs ys (net .source)) 0 (net .vertices) ≡ all (balanced net) 0 (net .vertices)
-  all-balanced = all-same _ _ 0 (net .vertices) (λ v l h. even v (omega arith))
+  pub all-balanced : all even 0 (net .vertices) ≡ all (balanced net) 0 (net .vertices)
+  all-balanced = all-same _ _ 0 (net .vertices) (λ v l h. even-balanced v (omega arith))

@@ -10,8 +10,17 @@ ghost use lib.ListN.{length, getD, set};
 ghost use Rattle.lists.specs.Choice.{both};
 ghost use Rattle.lists.specs.Lists.{all, sumAt};
 ghost use Rattle.board.specs.Limits.{maxVertices};
-ghost use Rattle.text_rules.specs.Rules.{keeps, balanced, judged, countsFitIn, countsFit, lawful};
-ghost use Rattle.text_judge.specs.Sums.{differAt, awayAt, evenAt};
+ghost use Rattle.text_rules.specs.Rules.{
+  noLoopIn,
+  awayFromSourceIn,
+  balancedIn,
+  keeps,
+  balanced,
+  judged,
+  countsFitIn,
+  countsFit,
+  lawful,
+};
 
 // Whether the first n places keep a rule.
 fn all_keep(rule: Rule, net: Network, n: u32) -> bool
@@ -27,13 +36,13 @@ fn all_keep(rule: Rule, net: Network, n: u32) -> bool
     true
 }
 
-// Whether the first n numbers of two slices differ, each from the other at its place.
-fn all_differ<'a>(xs: &'a [u32], ys: &'a [u32], n: u32) -> bool
-    ensures { λ r. ⌜ r ≡ all (differAt (now (xs .entry)) (now (ys .entry))) 0 n ⌝ }
+// Whether no edge of the first n is a loop.
+fn all_differ<'a>(tails: &'a [u32], heads: &'a [u32], n: u32) -> bool
+    ensures { λ r. ⌜ r ≡ all (noLoopIn (now (tails .entry)) (now (heads .entry))) 0 n ⌝ }
 {
     let mut i: u32 = 0;
     while i < n {
-        if lists::word_at(xs, i as usize) == lists::word_at(ys, i as usize) {
+        if lists::word_at(tails, i as usize) == lists::word_at(heads, i as usize) {
             return false;
         }
         i += 1;
@@ -41,13 +50,13 @@ fn all_differ<'a>(xs: &'a [u32], ys: &'a [u32], n: u32) -> bool
     true
 }
 
-// Whether none of the first n numbers is v.
-fn all_away(xs: &[u32], v: u32, n: u32) -> bool
-    ensures { λ r. ⌜ r ≡ all (awayAt (now (xs .entry)) v) 0 n ⌝ }
+// Whether none of the first n terminals is at the source.
+fn all_away(homes: &[u32], source: u32, n: u32) -> bool
+    ensures { λ r. ⌜ r ≡ all (awayFromSourceIn (now (homes .entry)) source) 0 n ⌝ }
 {
     let mut j: u32 = 0;
     while j < n {
-        if lists::word_at(xs, j as usize) == v {
+        if lists::word_at(homes, j as usize) == source {
             return false;
         }
         j += 1;
@@ -89,13 +98,14 @@ fn add_keyed<'a>(keys: &'a [u32], values: &'a [u32], sums: &mut [u64])
 }
 
 // Whether the two sums of each of the first n vertices are equal, but for those of the source.
-fn all_even<'a>(xs: &'a [u64], ys: &'a [u64], source: u32, n: u32) -> bool
-    requires { ⌜ (n ≤ length (now xs)) × (n ≤ length (now ys)) ⌝ }
-    ensures { λ r. ⌜ r ≡ all (evenAt (now (xs .entry)) (now (ys .entry)) source) 0 n ⌝ }
+fn all_even<'a>(enters: &'a [u64], leaves: &'a [u64], source: u32, n: u32) -> bool
+    requires { ⌜ (n ≤ length (now enters)) × (n ≤ length (now leaves)) ⌝ }
+    ensures { λ r. ⌜ r ≡ all (balancedIn (λ v. getD (now (enters .entry)) v 0) (λ v. getD (now (leaves .entry)) v 0)
+        source) 0 n ⌝ }
 {
     let mut v: u32 = 0;
     while v < n {
-        let even = xs[v as usize] == ys[v as usize];
+        let even = enters[v as usize] == leaves[v as usize];
         if !lists::or(v == source, even) {
             return false;
         }

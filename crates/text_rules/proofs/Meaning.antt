@@ -36,7 +36,7 @@ kept net h =
     record {
       no-loop = λ i less. eqb-false _ _ (not-true _ (all-from (noLoop net) _ i (p .0) less));
       away = λ j less. eqb-false _ _ (not-true _ (all-from (awayFromSource net) _ j (q .0) less));
-      balanced = λ v less other. eqb-true _ _ (sym (pick-no _ _ _ (ne-eqb _ _ other)) ∙ all-from (balanced net) _ v (r .0) less);
+      balanced = λ v less other. eqb-true _ _ (rw (ne-eqb v (net .source) other) at (all-from (balanced net) _ v (r .0) less));
     }
 
 pub judged-zero : (net : Network) → Lawful net → judged net ≡ 0
@@ -50,8 +50,8 @@ judged-zero net law =
     differ a b h = rw (ne-eqb a b h)
 
     go : (v : ℕ) → v < net .vertices → Known (eqb v (net .source)) → balanced net v ≡ true
-    go v h (was-true t) = pick-yes _ _ _ t
-    go v h (was-false t) = pick-no _ _ _ t ∙ eq-eqb _ _ (law .balanced v h (eqb-false _ _ t))
+    go v h (was-true t) = rw t
+    go v h (was-false t) = rw t (eq-eqb _ _ (law .balanced v h (eqb-false _ _ t)))
 
 -- the lengths of the arrays, which no code can change
 pub record Sized (net : Network) : Type 0 where

@@ -1,10 +1,11 @@
 -- The rules of a network: refusals 3, 4 and 5, and all that an accepted text keeps.
 use mathlib.Core.Path.{_≡_}
-use mathlib.Core.Bool.{Bool, true, not}
+use mathlib.Core.Bool.{Bool, not}
+use mathlib.Core.List.{List}
 use Prim.Native.Nat.{ℕ, _+_, _<_, _≤_}
 use lib.Dec.{leb, ltb, eqb}
 use lib.ListN.{getD, length}
-use Rattle.lists.specs.Choice.{pick, both, unless}
+use Rattle.lists.specs.Choice.{pick, both, either, unless}
 use Rattle.lists.specs.Lists.{all, sumAt}
 use Rattle.board.specs.Limits.{maxVertices, maxEdges, maxTerminals, maxFlow}
 use Rattle.board.specs.declared.Network.{Network}
@@ -12,18 +13,27 @@ use Rattle.text_rules.specs.Sound.{inflow, outflow, demandAt, Sound, Bal
 use Rattle.text_rules.specs.declared.Rule.{Rule}
 use Rattle.text_rules.specs.declared.Rule.the-variants.{EdgeFits, TerminalFits}
 
--- 3: a channel's tail is its head
+-- 3: a channel's tail is its head; by the tails and the heads, and of a network
+abbrev pub noLoopIn : List ℕ → List ℕ → ℕ → Bool
+noLoopIn tails heads i = not (eqb (getD tails i 0) (getD heads i 0))
+
 abbrev pub noLoop : Network → ℕ → Bool
-noLoop net i = not (eqb (getD (net .tails) i 0) (getD (net .heads) i 0))
+noLoop net = noLoopIn (net .tails) (net .heads)
 
--- 4: a mill at the spring
+-- 4: a mill at the spring; by the pools of the mills and the spring, and of a network
+abbrev pub awayFromSourceIn : List ℕ → ℕ → ℕ → Bool
+awayFromSourceIn homes source j = not (eqb (getD homes j 0) source)
+
 abbrev pub awayFromSource : Network → ℕ → Bool
-awayFromSource net j = not (eqb (getD (net .homes) j 0) (net .source))
+awayFromSource net = awayFromSourceIn (net .homes) (net .source)
 
--- 5: a pool out of balance; the spring need not balance
+-- 5: a pool out of balance; the spring need not balance. By the flow that enters each pool and what leaves it with the needs there, and of a network
+abbrev pub balancedIn : (ℕ → ℕ) → (ℕ → ℕ) → ℕ → ℕ → Bool
+balancedIn enters leaves source v = either (eqb v source) (eqb (enters v) (leaves v))
+
 unfoldable pub balanced : Network → ℕ → Bool
-unfolding sumAt
-balanced net v = pick (eqb v (net .source)) true (eqb (inflow net v) (outflow net v + demandAt net v))
+unfolding sumAt either
+balanced net = balancedIn (inflow net) (λ v. outflow net v + demandAt net v) (net .source)
 
 -- 2: the numbers of an edge are in their ranges; those of a place past the edges are 0
 abbrev pub edgeNumbersFit : Bool → ℕ → ℕ → ℕ → ℕ → Bool

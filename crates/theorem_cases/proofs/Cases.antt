@@ -40,7 +40,7 @@ use Rattle.solve_next.specs.Choosing.{allHomeIn, nextActIn}
 use Rattle.solve_finish.specs.Finishes.{Finished}
 use Rattle.solve_finish.specs.Finishes.{stepped, steppedOn, playedOut, finishRefusal, finishCall}
 use Rattle.move_list.specs.Calls.{Call, carry, turn, undo, gameOf, played, answers}
-use Rattle.report_routes.specs.Routes.{routeBy, route, load}
+use Rattle.report_routes.specs.Routes.{routeIn, route, load}
 use Rattle.solve_carry.specs.Search.{chosenEdgeIn, markedEdgeIn, markedOpenIn}
 
 -- a text in ASCII
@@ -155,5 +155,5 @@ unfolding loadText readText bytes cases hold holds same both pick indexOf number
     hasBit withBit collect every leadsBack isCycle gather leaves leaving straight singularIn freshIn
     smaller lessened raiseIn allowedIn amountIn shiftedAt shiftFrom shifted turnRefusalIn turnedIn turnCall undoRefusalIn undoCall
     finishing routed loadsFrom completes finishes total has touches another parts firstMet downWalk cycleOf isHomeIn allHomeIn markedOpenIn markedEdgeIn chosenEdgeIn nextActIn
-    stepped steppedOn playedOut finishRefusal finishCall routeBy route load
+    stepped steppedOn playedOut finishRefusal finishCall routeIn route load
 starred = tt

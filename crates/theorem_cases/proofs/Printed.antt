@@ -31,7 +31,7 @@ use Rattle.move_undo.specs.Undone.{undoRefusalIn, undoCall}
 use Rattle.solve_walk.specs.Walk.{touches, another, parts, firstMet, downWalk, cycleOf}
 use Rattle.solve_next.specs.Choosing.{allHomeIn, nextActIn, actOf}
 use Rattle.solve_finish.specs.Finishes.{stepped, steppedOn, playedOut, finishRefusal, finishCall}
-use Rattle.report_routes.specs.Routes.{routeBy, route, load}
+use Rattle.report_routes.specs.Routes.{routeIn, route, load}
 use Rattle.solve_next.specs.Hints.{hintRefusal, nextAdviceIn, hintCall}
 use Rattle.report_routes.specs.Tables.{routesFit}
 use Rattle.report.specs.Reports.{reportText, started, unreported}
@@ -68,7 +68,7 @@ asShown =
 pub printed : T asShown
 unfolding asShown lines answersT playOutput repliesFrom replyText replied hintRefusal nextAdviceIn hintCall actOf codeStep codeSteps stepsText moveLine hintLine boardPart movesPart firstLines linesWanted linesOf header line letter
     field numbers then fieldsOf onto isLetter carryOf turnOf byFields orderOf same bytes withCycle boardT sheetT sheetWithCycle sheetOutput finishOutput reportOf reportText
-    started unreported routesFit route routeBy load decimal decimalFrom numbersText lineText linesText loadText readText both pick indexOf numberOf
+    started unreported routesFit route routeIn load decimal decimalFrom numbersText lineText linesText loadText readText both pick indexOf numberOf
     valueFrom ranged all lowest sumAt keyed closedBoard opens pass passes reached leads onward since follow smallest lowered lowerCycle onCycle
     cycleVertex cycleFrom cancelled acyclicFlows answered intact loaded playing flowFits entersIn isOpenIn openEdgeIn hasOpenIn openTerminalIn someOpenIn onBoardIn
     carryRefusalIn carriedIn carryCall hasBit withBit collect every leadsBack isCycle gather leaves leaving straight singularIn freshIn

@@ -12,11 +12,11 @@ use Rattle.board.specs.declared.Entry.{Entry}
 use Rattle.graph_flows.specs.Trails.{Step}
 use Rattle.move_guard.specs.Parts.{demand}
 use Rattle.move_turn.specs.Turns.{turned, turnedIn}
-use Rattle.report_routes.specs.Routes.{carriedOver, routeBy, route, share, load, largest}
+use Rattle.report_routes.specs.Routes.{carriedOver, routeIn, route, share, load, largest}
 
 -- one more entry, which carries nobody
-route-same : (i n : ℕ) (l : List Entry) (a : Entry) → carriedOver i (a .step) ≡ [] → routeBy i (take (suc n) (set l n a)) ≡ routeBy i (take n l)
-unfolding routeBy
+route-same : (i n : ℕ) (l : List Entry) (a : Entry) → carriedOver i (a .step) ≡ [] → routeIn i (take (suc n) (set l n a)) ≡ routeIn i (take n l)
+unfolding routeIn
 route-same i zero [] a none = refl
 route-same i (suc n) [] a none = refl
 route-same i zero (m ∷ ms) a none = none

@@ -21,14 +21,14 @@ use Rattle.board.specs.declared.Entry.{Entry}
 use Rattle.board.specs.declared.Move.the-variants.{Carry}
 use Rattle.move_guard.specs.Parts.{demand}
 use Rattle.move_carry.specs.Carries.{carried, carriedIn}
-use Rattle.report_routes.specs.Routes.{carriedOver, routeBy, route, share, load, largest}
+use Rattle.report_routes.specs.Routes.{carriedOver, routeIn, route, share, load, largest}
 
 -- one more move at the end of the list
-route-more : (i : ℕ) (ms : List Entry) (m : Entry) → routeBy i (ms ++ (m ∷ [])) ≡ carriedOver i (m .step) ++ routeBy i ms
-unfolding routeBy
+route-more : (i : ℕ) (ms : List Entry) (m : Entry) → routeIn i (ms ++ (m ∷ [])) ≡ carriedOver i (m .step) ++ routeIn i ms
+unfolding routeIn
 route-more i [] m = sym (append-nil (carriedOver i (m .step)))
 route-more i (n ∷ ms) m =
-    ap (λ (l : List ℕ). l ++ carriedOver i (n .step)) (route-more i ms m) ∙ append-assoc (carriedOver i (m .step)) (routeBy i ms) (carriedOver i (n .step))
+    ap (λ (l : List ℕ). l ++ carriedOver i (n .step)) (route-more i ms m) ∙ append-assoc (carriedOver i (m .step)) (routeIn i ms) (carriedOver i (n .step))
 
 module _ (b : Board) (i e : ℕ) (room : b .moves < length (b .journal)) where
   -- the routes

@@ -21,7 +21,7 @@ use Rattle.text_rules.specs.Rules.{Lawful}
 use Rattle.graph_flows.specs.Trails.{stay}
 use Rattle.move_guard.specs.Parts.{marked}
 use Rattle.load.specs.Load.{acyclicOf, opened}
-use Rattle.report_routes.specs.Routes.{routeBy, route, share, load}
+use Rattle.report_routes.specs.Routes.{routeIn, route, share, load}
 use Rattle.theorem_cycles.specs.Invariant.{Invariant, amountOf, SmallAmounts}
 use Rattle.theorem_cycles.proofs.Network.{long-acyclic, acyclic-of-balance}
 use Rattle.theorem_keep.proofs.Kept.{demand-small}
@@ -41,7 +41,7 @@ module _ (net : Network) (law : Lawful net) where
   no-mark e m = absurd (true≢false (sym m ∙ unmarked e))
 
   route-empty : (i : ℕ) → route start i ≡ []
-  unfolding route routeBy
+  unfolding route routeIn
   route-empty i = refl
 
   no-share : (e i : ℕ) → share start e i ≡ 0

@@ -24,7 +24,7 @@ use Rattle.solve_next.specs.declared.Suggestion.{Suggestion}
 use Rattle.solve_next.specs.Choosing.{Act, relocate, augment, judge, acted}
 use Rattle.solve_next.specs.Hints.{hintRefusal}
 use Rattle.theorem_keep.proofs.Standing.{Standing, standing-playing}
-use Rattle.move_list.specs.Calls.{Call, carry, turn, undo, hint, callFor, Game, gameOf, Reply, replyOf, made, played, answers, hintedBy, hintsOf}
+use Rattle.move_list.specs.Calls.{Call, carry, turn, undo, hint, callFor, Game, gameOf, Reply, replyOf, made, played, answers, hintGiven, hintsOf}
 use Rattle.journal.specs.Words.{noWords, packedAll}
 use Rattle.move_list.specs.Words.{wordsPlayed}
 use Rattle.solve_finish.proofs.Lent.{finish-packed}
@@ -196,7 +196,7 @@ module _ (text : List ℕ) (loads : loadText text .answer ≡ 0) where
       let q = same ms c s in
       let rest : hintsOf (made (gameOf (afresh text ms)) c .game) cs ≡ suggests text (standingAfter text ms c) cs =
       ap (λ (g : Game). hintsOf g cs) (q .game) ∙ same-hints (standingAfter text ms c) cs (q .stands) in
-      ap (λ (hs : List Suggestion). hintedBy (afresh text ms) c ++ hs) rest
+      ap (λ (hs : List Suggestion). hintGiven (afresh text ms) c ++ hs) rest
 
   -- the board that the text gave is the player's before any call
   start : loadText text .board ≡ afresh text []

@@ -19,7 +19,7 @@ use Rattle.move_guard.proofs.Answers.{answered-yes}
 use Rattle.move_carry.specs.Carries.{carryRefusal, carried, carryCall}
 use Rattle.move_turn.specs.Turns.{turnCall}
 use Rattle.move_undo.specs.Undone.{undoCall}
-use Rattle.report_routes.specs.Routes.{route, routeBy}
+use Rattle.report_routes.specs.Routes.{route, routeIn}
 use Rattle.theorem_keep.proofs.CarriedRoutes.{route-moved, route-kept}
 use Rattle.theorem_cycles.proofs.TurnedRoutes.{route-after}
 use Rattle.solve_next.specs.Choosing.{Act, relocate, augment, judge, acted}
@@ -148,7 +148,7 @@ pub record Follows (text : List ℕ) (ms : List Item) : Type 0 where
 
 module _ (text : List ℕ) (loads : loadText text .answer ≡ 0) where
   follows-none : Follows text []
-  unfolding afresh listedAll callsAgain played answers routeOf route routeBy
+  unfolding afresh listedAll callsAgain played answers routeOf route routeIn
   follows-none = record {
     standing = loaded-standing text loads;
     moves = rw (load-accepted text loads) refl;

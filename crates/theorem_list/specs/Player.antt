@@ -8,7 +8,7 @@ use Rattle.board.specs.Whole.{Board}
 use Rattle.load.specs.Load.{loadText}
 use Rattle.solve_next.specs.declared.Suggestion.{Suggestion}
 use Rattle.solve_next.specs.Choosing.{Act, relocate, augment, judge, acted}
-use Rattle.move_list.specs.Calls.{Call, carry, turn, undo, hint, callFor, hintedBy}
+use Rattle.move_list.specs.Calls.{Call, carry, turn, undo, hint, callFor, hintGiven}
 
 -- what stands in the player's list: a move, that is a carry or a turn with its arguments
 pub data Item : Type 0 where
@@ -58,7 +58,7 @@ module _ (text : List ℕ) where
   -- the hints: each is that of "this player's board at that point"
   unfoldable pub suggests : List Item → List Call → List Suggestion
   suggests ms [] = []
-  suggests ms (c ∷ cs) = hintedBy (afresh ms) c ++ suggests (standingAfter ms c) cs
+  suggests ms (c ∷ cs) = hintGiven (afresh ms) c ++ suggests (standingAfter ms c) cs
 
 -- the edge that an item carries terminal i over; and the player's route of it, "last one first"
 abbrev pub goesOver : ℕ → Item → List ℕ

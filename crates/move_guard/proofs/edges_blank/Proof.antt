@@ -8,12 +8,12 @@ use Rattle.lists.specs.Choice.{both}
 use Rattle.lists.specs.Lists.{all}
 use Rattle.lists.proofs.Laws.{all-hit, all-miss, all-end}
 use Rattle.board.specs.Limits.{maxEdges}
-use Rattle.move_guard.specs.Guard.{edgeBlankAt}
+use Rattle.move_guard.specs.Guard.{edgeBlankIn}
 use Rattle.move_guard.proofs.edges_blank.Statement.{statement}
 use Rattle.move_guard.proofs.edges_blank.Tie as tie
 
 abbrev Inv-loop : tie.InvT-loop
-Inv-loop tails heads texts acyclic flows from i₀ i = all (edgeBlankAt tails heads texts acyclic flows) i (maxEdges - i) ≡ all (edgeBlankAt tails heads texts acyclic flows) from (maxEdges - from)
+Inv-loop tails heads texts acyclic flows from i₀ i = all (edgeBlankIn tails heads texts acyclic flows) i (maxEdges - i) ≡ all (edgeBlankIn tails heads texts acyclic flows) from (maxEdges - from)
 
 abbrev μ-loop : tie.MeasureT-loop
 μ-loop tails heads texts acyclic flows from i₀ i = maxEdges - i

@@ -8,12 +8,12 @@ use Rattle.lists.specs.Choice.{both}
 use Rattle.lists.specs.Lists.{all}
 use Rattle.lists.proofs.Laws.{all-hit, all-miss, all-end}
 use Rattle.board.specs.Limits.{maxTerminals}
-use Rattle.move_guard.specs.Guard.{terminalBlankAt}
+use Rattle.move_guard.specs.Guard.{terminalBlankIn}
 use Rattle.move_guard.proofs.terminals_blank.Statement.{statement}
 use Rattle.move_guard.proofs.terminals_blank.Tie as tie
 
 abbrev Inv-loop : tie.InvT-loop
-Inv-loop homes demands places from j₀ j = all (terminalBlankAt homes demands places) j (maxTerminals - j) ≡ all (terminalBlankAt homes demands places) from (maxTerminals - from)
+Inv-loop homes demands places from j₀ j = all (terminalBlankIn homes demands places) j (maxTerminals - j) ≡ all (terminalBlankIn homes demands places) from (maxTerminals - from)
 
 abbrev μ-loop : tie.MeasureT-loop
 μ-loop homes demands places from j₀ j = maxTerminals - j

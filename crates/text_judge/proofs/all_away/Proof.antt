@@ -4,7 +4,7 @@ use Prim.Native.Nat.{_-_}
 use native.Mathlib.Nat.{sub-zero}
 use Rattle.lists.specs.Lists.{all}
 use Rattle.lists.proofs.Laws.{all-hit, all-miss, all-end}
-use Rattle.text_judge.specs.Sums.{awayAt}
+use Rattle.text_rules.specs.Rules.{awayFromSourceIn}
 use Rattle.text_judge.proofs.Sums.{same-not, other-not}
 use borrow.Author.Needs.{needs}
 use native.Mathlib.Omega.{arith}
@@ -12,10 +12,10 @@ use Rattle.text_judge.proofs.all_away.Statement.{statement}
 use Rattle.text_judge.proofs.all_away.Tie as tie
 
 abbrev Inv-loop : tie.InvT-loop
-Inv-loop xs v n j₀ j = all (awayAt xs v) j (n - j) ≡ all (awayAt xs v) 0 n
+Inv-loop homes source n j₀ j = all (awayFromSourceIn homes source) j (n - j) ≡ all (awayFromSourceIn homes source) 0 n
 
 abbrev μ-loop : tie.MeasureT-loop
-μ-loop xs v n j₀ j = n - j
+μ-loop homes source n j₀ j = n - j
 
 loop-holds : tie.Need-loop-holds Inv-loop μ-loop
 loop-holds c = rw sub-zero

@@ -4,7 +4,7 @@ use Prim.Native.Nat.{_-_}
 use native.Mathlib.Nat.{sub-zero}
 use Rattle.lists.specs.Lists.{all}
 use Rattle.lists.proofs.Laws.{all-hit, all-miss, all-end}
-use Rattle.text_judge.specs.Sums.{differAt}
+use Rattle.text_rules.specs.Rules.{noLoopIn}
 use Rattle.text_judge.proofs.Sums.{same-not, other-not}
 use borrow.Author.Needs.{needs}
 use native.Mathlib.Omega.{arith}
@@ -12,10 +12,10 @@ use Rattle.text_judge.proofs.all_differ.Statement.{statement}
 use Rattle.text_judge.proofs.all_differ.Tie as tie
 
 abbrev Inv-loop : tie.InvT-loop
-Inv-loop xs ys n i₀ i = all (differAt xs ys) i (n - i) ≡ all (differAt xs ys) 0 n
+Inv-loop tails heads n i₀ i = all (noLoopIn tails heads) i (n - i) ≡ all (noLoopIn tails heads) 0 n
 
 abbrev μ-loop : tie.MeasureT-loop
-μ-loop xs ys n i₀ i = n - i
+μ-loop tails heads n i₀ i = n - i
 
 loop-holds : tie.Need-loop-holds Inv-loop μ-loop
 loop-holds c = rw sub-zero

@@ -1,21 +1,28 @@
 -- What is left of the test of every place is the whole test, as long as no place has failed.
 use mathlib.Core.Path.{_≡_, sym, _∙_}
-use Prim.Native.Nat.{_-_}
+use mathlib.Core.Bool.{Bool}
+use mathlib.Core.List.{List}
+use Prim.Native.Nat.{ℕ, _-_}
 use native.Mathlib.Nat.{sub-zero}
+use lib.ListN.{getD}
 use Rattle.lists.specs.Lists.{all}
 use Rattle.lists.proofs.Laws.{all-hit, all-miss, all-end}
 use borrow.Author.Tests.{not-true, not-false}
-use Rattle.text_judge.specs.Sums.{evenAt}
+use Rattle.text_rules.specs.Rules.{balancedIn}
 use borrow.Author.Needs.{needs}
 use native.Mathlib.Omega.{arith}
 use Rattle.text_judge.proofs.all_even.Statement.{statement}
 use Rattle.text_judge.proofs.all_even.Tie as tie
 
+-- v balances by the sums of all vertices
+abbrev even : List ℕ → List ℕ → ℕ → ℕ → Bool
+even enters leaves source = balancedIn (λ v. getD enters v 0) (λ v. getD leaves v 0) source
+
 abbrev Inv-loop : tie.InvT-loop
-Inv-loop xs ys source n v₀ v = all (evenAt xs ys source) v (n - v) ≡ all (evenAt xs ys source) 0 n
+Inv-loop enters leaves source n v₀ v = all (even enters leaves source) v (n - v) ≡ all (even enters leaves source) 0 n
 
 abbrev μ-loop : tie.MeasureT-loop
-μ-loop xs ys source n v₀ v = n - v
+μ-loop enters leaves source n v₀ v = n - v
 
 loop-holds : tie.Need-loop-holds Inv-loop μ-loop
 loop-holds c = rw sub-zero
