@@ -39,10 +39,11 @@ part-put-rows-end c = search needs
 
 put-rows-requires : tie.Need-put-rows-requires
 put-rows-requires c κs =
-    let at-put-line = c .before .before .before .before .put-line in
-    let t = c .before .before .before .before .before .before .before .before .before .before .before .args .t .now in
+    let at-put-line = c .before .before .before .before in
+    let start = at-put-line .before .before .before .before .before .before .before in
+    let t = start .args .t .now in
     let size = ap length (rest-part t 4) in
-    (omega arith, (omega (arith, size, length-drop 4 t), omega (arith, length-take 4 t, at-put-line .ensures .1 .0)))
+    (omega arith, (omega (arith, size, length-drop 4 t), omega (arith, length-take 4 t, at-put-line .put-line .ensures .1 .0)))
 
 mul-put-rows : tie.Need-mul-put-rows
 mul-put-rows c = search needs
@@ -64,24 +65,27 @@ part-put-rows-end-2 c = search needs
 
 put-rows-requires-2 : tie.Need-put-rows-requires-2
 put-rows-requires-2 c κs =
-    let at-put-line = c .before .before .before .before .before .before .before .before .before .put-line in
-    let e = c .before .before .before .before .before .before .before .before .before .before .before .before .before .word-at .result in
-    let t = c .before .before .before .before .before .before .before .before .before .before .before .before .before .before .before .before .args .t .now in
+    let at-put-rows = c .before .before .before .before in
+    let at-put-line = at-put-rows .before .before .before .before .before in
+    let at-word-at = at-put-line .before .before .before .before in
+    let e = at-word-at .word-at .result in
+    let start = at-word-at .before .before .before in
+    let t = start .args .t .now in
     let size = ap length (rest-part t (4 + 3 * e)) in
-    (omega arith, (omega (arith, size, length-drop (4 + 3 * e) t), omega (arith, length-take 4 t, at-put-line .ensures .1 .0)))
+    (omega arith, (omega (arith, size, length-drop (4 + 3 * e) t), omega (arith, length-take 4 t, at-put-line .put-line .ensures .1 .0)))
 
 same-length : tie.Need-same-length
 same-length c = search needs
 
 returns : tie.Need-returns
 returns c =
-    let at-put-rows2 = c .before .before .put-rows2 in
-    let at-put-rows = c .before .before .before .before .before .before .before .put-rows in
-    let at-put-line = c .before .before .before .before .before .before .before .before .before .before .before .before .put-line in
-    let at-word-at2 = c .before .before .before .before .before .before .before .before .before .before .before .before .before .before .before .word-at2 in
-    let at-word-at = c .before .before .before .before .before .before .before .before .before .before .before .before .before .before .before .before .word-at in
-    board-written _ _ _ _ _ _ _ _ _ _ (at-word-at .ensures) (at-word-at2 .ensures) (at-put-line .ensures .0) (at-put-line .ensures .1 .1)
-    (at-put-rows .ensures .0) (at-put-rows .ensures .1 .1) (at-put-rows2 .ensures .0) (at-put-rows2 .ensures .1 .1)
+    let at-put-rows2 = c .before .before in
+    let at-put-rows = at-put-rows2 .before .before .before .before .before in
+    let at-put-line = at-put-rows .before .before .before .before .before in
+    let at-word-at2 = at-put-line .before .before .before in
+    let at-word-at = at-word-at2 .before in
+    board-written _ _ _ _ _ _ _ _ _ _ (at-word-at .word-at .ensures) (at-word-at2 .word-at2 .ensures) (at-put-line .put-line .ensures .0) (at-put-line .put-line .ensures .1 .1)
+    (at-put-rows .put-rows .ensures .0) (at-put-rows .put-rows .ensures .1 .1) (at-put-rows2 .put-rows2 .ensures .0) (at-put-rows2 .put-rows2 .ensures .1 .1)
 
 pub put-board-spec : {M : Type 1} → statement M
 put-board-spec =

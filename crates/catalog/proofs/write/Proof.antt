@@ -46,11 +46,11 @@ put-board-requires c κs =
 returns-2 : tie.Need-returns-2
 unfolding table
 returns-2 c =
-    let at-put-board = c .before .before .put-board in
-    let at-start = c .before .before .before .before .before .before .start in
-    let at-if1 = c .before .before .before .before .before .before .before .before .if1 in
-    let text = board-text _ (at-start .result) (at-if1 .left) (at-start .ensures .1) in
-    call-short _ _ (at-if1 .left) (omega (arith, c .if2 .taken, at-put-board .ensures .0, ap length text))
+    let at-put-board = c .before .before in
+    let at-start = at-put-board .before .before .before .before in
+    let at-if1 = at-start .before .before in
+    let text = board-text _ (at-start .start .result) (at-if1 .if1 .left) (at-start .start .ensures .1) in
+    call-short _ _ (at-if1 .if1 .left) (omega (arith, c .if2 .taken, at-put-board .put-board .ensures .0, ap length text))
 
 mul-put-board-2 : tie.Need-mul-put-board-2
 mul-put-board-2 c = search needs
@@ -67,8 +67,10 @@ part-put-board-end-2 c = search needs
 put-board-requires-2 : tie.Need-put-board-requires-2
 unfolding table
 put-board-requires-2 c κs =
-    let at-start = c .before .before .before .before .before .before .before .before .before .start in
-    board-fits _ (at-start .result) (c .before .before .before .before .before .before .before .before .before .before .before .if1 .left) (at-start .ensures .1)
+    let at-put-board = c .before .before .before .before .before in
+    let at-start = at-put-board .before .before .before .before in
+    let at-if1 = at-start .before .before in
+    board-fits _ (at-start .start .result) (at-if1 .if1 .left) (at-start .start .ensures .1)
 
 same-length : tie.Need-same-length
 same-length c = search needs
@@ -76,17 +78,18 @@ same-length c = search needs
 returns-3 : tie.Need-returns-3
 unfolding table
 returns-3 c =
-    let at-put-board2 = c .before .before .put-board2 in
-    let at-if2 = c .before .before .before .before .before .before .if2 in
-    let at-put-board = c .before .before .before .before .before .before .before .before .put-board in
-    let at-start = c .before .before .before .before .before .before .before .before .before .before .before .before .start in
-    let at-if1 = c .before .before .before .before .before .before .before .before .before .before .before .before .before .before .if1 in
-    let at-args = c .before .before .before .before .before .before .before .before .before .before .before .before .before .before .before .before .args in
+    let at-put-board2 = c .before .before in
+    let at-if2 = at-put-board2 .before .before .before .before in
+    let at-put-board = at-if2 .before .before in
+    let at-start = at-put-board .before .before .before .before in
+    let at-if1 = at-start .before .before in
+    let start = at-if1 .before .before in
+    let at-args = start .args in
     let buf = at-args .buf .now in
-    let text = board-text _ (at-start .result) (at-if1 .left) (at-start .ensures .1) in
-    let fits : length (catalogText (at-args .number)) ≤ length buf = omega (arith, at-if2 .left, at-put-board .ensures .0, ap length text) in
-    call-done _ _ (at-if1 .left) fits _ _ (at-put-board2 .ensures .0 ∙ ap length text)
-    (at-put-board2 .ensures .1 ∙ ap (λ s. sets buf 0 s) text ∙ sets-front (catalogText (at-args .number)) buf fits)
+    let text = board-text _ (at-start .start .result) (at-if1 .if1 .left) (at-start .start .ensures .1) in
+    let fits : length (catalogText (at-args .number)) ≤ length buf = omega (arith, at-if2 .if2 .left, at-put-board .put-board .ensures .0, ap length text) in
+    call-done _ _ (at-if1 .if1 .left) fits _ _ (at-put-board2 .put-board2 .ensures .0 ∙ ap length text)
+    (at-put-board2 .put-board2 .ensures .1 ∙ ap (λ s. sets buf 0 s) text ∙ sets-front (catalogText (at-args .number)) buf fits)
 
 pub write-spec : {M : Type 1} → statement M
 write-spec =

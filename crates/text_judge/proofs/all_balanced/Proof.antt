@@ -38,8 +38,10 @@ all-even-requires c κs = search needs
 returns : tie.Need-returns
 returns c =
     let at-third = c .before .before .before .before in
-    let at-second = at-third .before .before .before .before .before .before .before .before in
-    let at-first = at-second .before .before .before .before .before .before .before .before in
+    let lent-third = at-third .before .before .before .before in
+    let at-second = lent-third .before .before .before .before in
+    let lent-second = at-second .before .before .before .before in
+    let at-first = lent-second .before .before .before .before in
     let start = at-first .before .before .before .before .before .before .before in
     c .all-even .ensures
     ∙ all-balanced (start .args .t1) maxVertices (at-first .add-keyed .last .1 .1 .0) (at-second .add-keyed2 .last .1 .1 .0) (at-third .add-keyed3 .last .1 .1 .0)

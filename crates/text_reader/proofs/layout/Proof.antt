@@ -42,14 +42,14 @@ terminal-lines-requires c κs =
 
 returns-3 : tie.Need-returns-3
 returns-3 c =
-    let at-terminal-lines = c .before .before .terminal-lines in
-    let at-if2 = c .before .before .before .before .if2 in
-    let at-edge-lines = c .before .before .before .before .before .before .edge-lines in
-    let at-if1 = c .before .before .before .before .before .before .before .before .if1 in
-    let at-header = c .before .before .before .before .before .before .before .before .before .before .header in (
-      whole-terminal-stop _ (at-header .result) (at-header .ensures .0) (at-if1 .left) (at-edge-lines .result) (at-edge-lines .ensures .0)
-          (at-if2 .left) (at-terminal-lines .result) (at-terminal-lines .ensures .0) (c .if3 .taken),
-      at-terminal-lines .ensures .1,
+    let at-terminal-lines = c .before .before in
+    let at-if2 = at-terminal-lines .before .before in
+    let at-edge-lines = at-if2 .before .before in
+    let at-if1 = at-edge-lines .before .before in
+    let at-header = at-if1 .before .before in (
+      whole-terminal-stop _ (at-header .header .result) (at-header .header .ensures .0) (at-if1 .if1 .left) (at-edge-lines .edge-lines .result) (at-edge-lines .edge-lines .ensures .0)
+          (at-if2 .if2 .left) (at-terminal-lines .terminal-lines .result) (at-terminal-lines .terminal-lines .ensures .0) (c .if3 .taken),
+      at-terminal-lines .terminal-lines .ensures .1,
     )
 
 refused-requires : tie.Need-refused-requires
@@ -57,30 +57,30 @@ refused-requires c κs = search needs
 
 returns-4 : tie.Need-returns-4
 returns-4 c =
-    let at-if4 = c .before .if4 in
-    let at-if3 = c .before .before .before .if3 in
-    let at-terminal-lines = c .before .before .before .before .before .terminal-lines in
-    let at-if2 = c .before .before .before .before .before .before .before .if2 in
-    let at-edge-lines = c .before .before .before .before .before .before .before .before .before .edge-lines in
-    let at-if1 = c .before .before .before .before .before .before .before .before .before .before .before .if1 in
-    let at-header = c .before .before .before .before .before .before .before .before .before .before .before .before .before .header in (
+    let at-if4 = c .before in
+    let at-if3 = at-if4 .before .before in
+    let at-terminal-lines = at-if3 .before .before in
+    let at-if2 = at-terminal-lines .before .before in
+    let at-edge-lines = at-if2 .before .before in
+    let at-if1 = at-edge-lines .before .before in
+    let at-header = at-if1 .before .before in (
       answer-read-refused _ _ _ _ 1 (ap (λ (p : Part). p .answer) (c .refused .ensures)) (λ e. omega arith)
-          ∙ whole-surplus _ (at-header .result) (at-header .ensures .0) (at-if1 .left) (at-edge-lines .result) (at-edge-lines .ensures .0) (at-if2 .left)
-          (at-terminal-lines .result) (at-terminal-lines .ensures .0) (at-if3 .left) (at-if4 .taken),
+          ∙ whole-surplus _ (at-header .header .result) (at-header .header .ensures .0) (at-if1 .if1 .left) (at-edge-lines .edge-lines .result) (at-edge-lines .edge-lines .ensures .0) (at-if2 .if2 .left)
+          (at-terminal-lines .terminal-lines .result) (at-terminal-lines .terminal-lines .ensures .0) (at-if3 .if3 .left) (at-if4 .if4 .taken),
       (part-used (c .refused .ensures), part-refused (c .refused .ensures)),
     )
 
 returns-5 : tie.Need-returns-5
 returns-5 c =
-    let at-if3 = c .before .before .if3 in
-    let at-terminal-lines = c .before .before .before .before .terminal-lines in
-    let at-if2 = c .before .before .before .before .before .before .if2 in
-    let at-edge-lines = c .before .before .before .before .before .before .before .before .edge-lines in
-    let at-if1 = c .before .before .before .before .before .before .before .before .before .before .if1 in
-    let at-header = c .before .before .before .before .before .before .before .before .before .before .before .before .header in (
-      whole-end _ (at-header .result) (at-header .ensures .0) (at-if1 .left) (at-edge-lines .result) (at-edge-lines .ensures .0) (at-if2 .left)
-          (at-terminal-lines .result) (at-terminal-lines .ensures .0) (at-if3 .left) (c .if4 .left),
-      at-terminal-lines .ensures .1,
+    let at-if3 = c .before .before in
+    let at-terminal-lines = at-if3 .before .before in
+    let at-if2 = at-terminal-lines .before .before in
+    let at-edge-lines = at-if2 .before .before in
+    let at-if1 = at-edge-lines .before .before in
+    let at-header = at-if1 .before .before in (
+      whole-end _ (at-header .header .result) (at-header .header .ensures .0) (at-if1 .if1 .left) (at-edge-lines .edge-lines .result) (at-edge-lines .edge-lines .ensures .0) (at-if2 .if2 .left)
+          (at-terminal-lines .terminal-lines .result) (at-terminal-lines .terminal-lines .ensures .0) (at-if3 .if3 .left) (c .if4 .left),
+      at-terminal-lines .terminal-lines .ensures .1,
     )
 
 pub layout-spec : {M : Type 1} → statement M
