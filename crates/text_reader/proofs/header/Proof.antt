@@ -46,16 +46,15 @@ refused-requires-2 c κs = search needs
 
 returns-2 : tie.Need-returns-2
 returns-2 c =
-    let at-if2 = c .before in
-    let at-if1 = at-if2 .before .before in
-    let at-line = at-if1 .before .before in
-    let at-head-ranges = at-line .before in
-    let start = at-head-ranges .before .before in
-    let at-args = start .args in (
+    let at-if2 = c .before .if2 in
+    let at-if1 = c .before .before .before .if1 in
+    let at-line = c .before .before .before .before .before .line in
+    let at-ranges = c .before .before .before .before .before .before in
+    let at-args = at-ranges .before .before .args in (
       answer-read-refused _ _ _ _ 2 (ap (λ (p : Part). p .answer) (c .refused2 .ensures)) (λ e. omega arith)
-          ∙ head-source _ (at-line .line .result)
-          (at-line .line .ensures .0 ∙ ap (λ (rs : List Range). line 66 (take 4 rs) (at-args .s .now)) (at-head-ranges .head-ranges .ensures)) (at-if1 .if1 .left) (search needs)
-          (at-if2 .if2 .taken),
+          ∙ head-source _ (at-line .result)
+          (at-line .ensures .0 ∙ ap (λ (rs : List Range). line 66 (take 4 rs) (at-args .s .now)) (at-ranges .head-ranges .ensures)) (at-if1 .left) (search needs)
+          (at-if2 .taken),
       (part-used (c .refused2 .ensures), part-refused (c .refused2 .ensures)),
     )
 
@@ -64,16 +63,15 @@ headed-requires c κs = search needs
 
 returns-3 : tie.Need-returns-3
 returns-3 c =
-    let at-if2 = c .before in
-    let at-if1 = at-if2 .before .before in
-    let at-line = at-if1 .before .before in
-    let at-head-ranges = at-line .before in
-    let start = at-head-ranges .before .before in
-    let at-args = start .args in (
+    let at-if2 = c .before .if2 in
+    let at-if1 = c .before .before .before .if1 in
+    let at-line = c .before .before .before .before .before .line in
+    let at-ranges = c .before .before .before .before .before .before in
+    let at-args = at-ranges .before .before .args in (
       answer-read-got _ _ _ _ refl
-          ∙ ap (λ (net : Network). got net (drop (at-line .line .result .used) (at-args .s .now))) (c .headed .ensures)
-          ∙ head-got _ (at-line .line .result) (at-line .line .ensures .0 ∙ ap (λ (rs : List Range). line 66 (take 4 rs) (at-args .s .now)) (at-head-ranges .head-ranges .ensures))
-          (at-if1 .if1 .left) (search needs) (at-if2 .if2 .left),
+          ∙ ap (λ (net : Network). got net (drop (at-line .result .used) (at-args .s .now))) (c .headed .ensures)
+          ∙ head-got _ (at-line .result) (at-line .ensures .0 ∙ ap (λ (rs : List Range). line 66 (take 4 rs) (at-args .s .now)) (at-ranges .head-ranges .ensures))
+          (at-if1 .left) (search needs) (at-if2 .left),
       (omega arith, λ some. absurd (some refl)),
     )
 
