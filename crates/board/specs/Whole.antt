@@ -3,8 +3,8 @@ use mathlib.Core.List.{List}
 use Prim.Native.Nat.{ℕ}
 use Rattle.sets.specs.Sets.{setOf}
 use Rattle.board.specs.declared.Network.{Network}
-use Rattle.board.specs.declared.Augmentation as code-augmentation
 use Rattle.board.specs.declared.Relocation as code-relocation
+use Rattle.board.specs.declared.Augmentation as code-augmentation
 use Rattle.board.specs.declared.Move as code-move
 use Rattle.board.specs.declared.Entry as code-entry
 use Rattle.board.specs.declared.Board as code-board

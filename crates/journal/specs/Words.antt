@@ -10,7 +10,7 @@ use Rattle.board.specs.Limits.{maxMoves}
 use Rattle.board.specs.Record.{blank}
 use Rattle.board.specs.Whole.{Move, Carry, Turn, Entry, Board, Played, Table, Done}
 
--- how many words a place of the journal has
+-- how many words a place of the journal has: the code's `WORDS`
 abbrev pub placeWords : ℕ
 placeWords = 5
 
