@@ -6,10 +6,8 @@ use lib.ListN.{replicate}
 use Rattle.lists.specs.Choice.{both}
 use Rattle.sets.specs.Sets.{none, noWord}
 use Rattle.board.specs.Limits.{maxEdges, maxTerminals, maxMoves}
-use Rattle.board.specs.Whole.{Board, Table}
+use Rattle.board.specs.Whole.{Carry, Entry, Board, Table}
 use Rattle.board.specs.declared.Network.{Network}
-use Rattle.board.specs.declared.Entry.{Entry}
-use Rattle.board.specs.declared.Move.the-variants.{Carry}
 
 -- the stages of a board: no board was loaded, play goes on, a finish was accepted
 abbrev pub closedStage : ℕ

@@ -1,7 +1,9 @@
 // The board record and its limits.
 use sets::EdgeSet;
 ghost use mathlib.Core.Path.{_≡_};
+ghost use Rattle.sets.specs.Sets.{setOf};
 ghost use Rattle.board.specs.Record.{staged, blank, emptyNetwork, closedTable};
+ghost use Rattle.board.specs.Whole.{augmentationOf, entryOf};
 
 // An accepted carry: the terminal was relocated over the edge, to its tail.
 pub struct Relocation {
@@ -130,10 +132,46 @@ impl Network {
     }
 }
 
+impl Augmentation {
+    // A turn by its amount and its sets of edges: those that fell, those that rose and those newly marked.
+    pub fn of(amount: u32, down: EdgeSet, up: EdgeSet, marked: EdgeSet) -> Augmentation
+        ensures { λ r. ⌜ augmentationOf r
+            ≡ record { amount = amount; down = setOf down; up = setOf up; marked = setOf marked } ⌝ }
+    {
+        Augmentation {
+            amount: amount,
+            down: down,
+            up: up,
+            marked: marked,
+        }
+    }
+
+    // The edges that fell.
+    pub fn fell(self) -> EdgeSet
+        ensures { λ r. ⌜ setOf r ≡ augmentationOf self .down ⌝ }
+    {
+        self.down
+    }
+
+    // The edges that rose.
+    pub fn rose(self) -> EdgeSet
+        ensures { λ r. ⌜ setOf r ≡ augmentationOf self .up ⌝ }
+    {
+        self.up
+    }
+
+    // The edges newly marked.
+    pub fn newly_marked(self) -> EdgeSet
+        ensures { λ r. ⌜ setOf r ≡ augmentationOf self .marked ⌝ }
+    {
+        self.marked
+    }
+}
+
 impl Entry {
     // What a place past the standing moves holds: terminal 0 over edge 0.
     pub fn blank() -> Entry
-        ensures { λ r. ⌜ r ≡ blank ⌝ }
+        ensures { λ r. ⌜ entryOf r ≡ blank ⌝ }
     {
         Entry {
             step: Move::Carry(Relocation {

@@ -5,8 +5,7 @@ use Prim.Native.Nat.{ℕ, zero, suc, _+_}
 use native.Mathlib.Omega.{arith}
 use lib.ListN.{getD, take}
 use Rattle.board.specs.Record.{blank}
-use Rattle.board.specs.Whole.{Table}
-use Rattle.board.specs.declared.Entry.{Entry}
+use Rattle.board.specs.Whole.{Entry, Table}
 use Rattle.journal.specs.Words.{packed, unpacked, entriesOf, standing, journalOf, wholeOf, packedOn}
 use Rattle.journal.proofs.Laws.{map-set, keep-standing}
 

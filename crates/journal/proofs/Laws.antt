@@ -10,10 +10,8 @@ use lib.ListN.{length, getD, set, length-map, List·getD-eq-default}
 use lib.Dec.{eqb}
 use Rattle.lists.specs.Choice.{pick, both}
 use Rattle.board.specs.Record.{blank}
-use Rattle.board.specs.declared.Entry.{Entry}
-use Rattle.board.specs.declared.Move.{Move}
-use Rattle.board.specs.declared.Move.the-variants.{Carry, Turn}
-use Rattle.journal.specs.Words.{packed, unpacked, entriesOf, entryOf, standing, blankWords, isZeros, isBlankAt}
+use Rattle.board.specs.Whole.{Move, Carry, Turn, Entry}
+use Rattle.journal.specs.Words.{placeWords, packed, unpacked, entriesOf, entryIn, standing, blankWords, isZeros, isBlankAt}
 
 -- the numbers of a move are numbers of 32 bits
 abbrev pub Fits : Move → Type 0
@@ -30,12 +28,12 @@ map-set f [] i w = refl
 map-set f (x ∷ l) zero w = refl
 map-set f (x ∷ l) (suc i) w = ap (λ (t : List Entry). f x ∷ t) (map-set f l i w)
 
-pub read-inside : (l : List (List ℕ)) (i : ℕ) (d : List ℕ) → i < length l → unpacked (getD l i d) ≡ entryOf l i
+pub read-inside : (l : List (List ℕ)) (i : ℕ) (d : List ℕ) → i < length l → unpacked (getD l i d) ≡ entryIn l i
 read-inside [] i d h = absurd (omega arith)
 read-inside (x ∷ l) zero d h = refl
 read-inside (x ∷ l) (suc i) d h = read-inside l i d (omega arith)
 
-pub read-past : (l : List (List ℕ)) (i : ℕ) → length l ≤ i → blank ≡ entryOf l i
+pub read-past : (l : List (List ℕ)) (i : ℕ) → length l ≤ i → blank ≡ entryIn l i
 read-past l i h = sym (List·getD-eq-default (map unpacked l) blank (omega (arith, h, length-map l unpacked)))
 
 -- a store past the end changes nothing
@@ -101,8 +99,8 @@ unfolding both
 both-end true = refl
 both-end false = refl
 
-pub zeros-five : (w : List ℕ) → length w ≡ 5
-    → both (eqb (getD w 0 0) 0) (both (eqb (getD w 1 0) 0) (both (eqb (getD w 2 0) 0) (both (eqb (getD w 3 0) 0) (eqb (getD w 4 0) 0)))) ≡ isZeros 5 w
+pub zeros-five : (w : List ℕ) → length w ≡ placeWords
+    → both (eqb (getD w 0 0) 0) (both (eqb (getD w 1 0) 0) (both (eqb (getD w 2 0) 0) (both (eqb (getD w 3 0) 0) (eqb (getD w 4 0) 0)))) ≡ isZeros placeWords w
 unfolding isZeros
 zeros-five [] h = absurd (omega (arith, h))
 zeros-five (a ∷ []) h = absurd (omega (arith, h))
@@ -114,7 +112,7 @@ zeros-five (a ∷ b ∷ c ∷ d ∷ e ∷ []) h =
 zeros-five (a ∷ b ∷ c ∷ d ∷ e ∷ f ∷ w) h = absurd (omega (arith, h))
 
 -- a place inside the words, and one past them
-pub blank-inside : (l : List (List ℕ)) (i : ℕ) (d : List ℕ) → i < length l → isZeros 5 (getD l i d) ≡ isBlankAt l i
+pub blank-inside : (l : List (List ℕ)) (i : ℕ) (d : List ℕ) → i < length l → isZeros placeWords (getD l i d) ≡ isBlankAt l i
 unfolding isBlankAt
 blank-inside [] i d h = absurd (omega arith)
 blank-inside (x ∷ l) zero d h = refl
@@ -122,4 +120,4 @@ blank-inside (x ∷ l) (suc i) d h = blank-inside l i d (omega arith)
 
 pub blank-past : (l : List (List ℕ)) (i : ℕ) → length l ≤ i → true ≡ isBlankAt l i
 unfolding isBlankAt isZeros both
-blank-past l i h = ap (isZeros 5) (sym (List·getD-eq-default l blankWords h))
+blank-past l i h = ap (isZeros placeWords) (sym (List·getD-eq-default l blankWords h))

@@ -13,8 +13,8 @@ use borrow.Author.Tests.{eqb-true}
 use Rattle.lists.specs.Choice.{both}
 use Rattle.lists.proofs.Laws.{lt-or-ge, both-left, both-right, both-true}
 use Rattle.board.specs.Record.{blank}
-use Rattle.board.specs.declared.Entry.{Entry}
-use Rattle.journal.specs.Words.{packed, blankWords, standing, isZeros, isBlankAt, blankFrom, packedOn, packedAll}
+use Rattle.board.specs.Whole.{Entry}
+use Rattle.journal.specs.Words.{placeWords, packed, blankWords, standing, isZeros, isBlankAt, blankFrom, packedOn, packedAll}
 
 -- lists of words
 abbrev Words : Type 0
@@ -146,7 +146,7 @@ module _ (at : ℕ) where
           low (inl l) = outside i (inl l)
           low (inr l) = high l (lt-or-ge i (at + k))
 
-blank-zeros : isZeros 5 blankWords ≡ true
+blank-zeros : isZeros placeWords blankWords ≡ true
 unfolding isZeros both
 blank-zeros = refl
 
@@ -156,7 +156,7 @@ unfolding blankFrom isBlankAt
 blank-behind zero m es = refl
 blank-behind (suc k) m es =
     both-true (blankFrom k m (packedAll (standing m es))) _ (blank-behind k m es)
-    (ap (isZeros 5) (packed-at (standing m es) (m + k) ∙ ap packed (standing-behind m es (m + k) (omega arith))) ∙ blank-zeros)
+    (ap (isZeros placeWords) (packed-at (standing m es) (m + k) ∙ ap packed (standing-behind m es (m + k) (omega arith))) ∙ blank-zeros)
 
 -- an empty journal
 pub packed-none : (n : ℕ) → packedAll (replicate n blank) ≡ replicate n blankWords

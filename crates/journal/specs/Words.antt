@@ -8,13 +8,11 @@ use Rattle.lists.specs.Choice.{pick, both}
 use Rattle.sets.specs.Sets.{setOf}
 use Rattle.board.specs.Limits.{maxMoves}
 use Rattle.board.specs.Record.{blank}
-use Rattle.board.specs.Whole.{Board}
-use Rattle.board.specs.Whole.{Played}
-use Rattle.board.specs.declared.Entry.{Entry}
-use Rattle.board.specs.declared.Move.{Move}
-use Rattle.board.specs.declared.Move.the-variants.{Carry, Turn}
-use Rattle.board.specs.Whole.{Table}
-use Rattle.board.specs.Whole.{Done}
+use Rattle.board.specs.Whole.{Move, Carry, Turn, Entry, Board, Played, Table, Done}
+
+-- how many words a place of the journal has: the code's `WORDS`
+abbrev pub placeWords : ℕ
+placeWords = 5
 
 -- a move in words: 0, the terminal, the edge, 0, 0; or 1, the amount, and the sets of edges that fell, rose and were marked
 abbrev pub moveWords : Move → List ℕ
@@ -29,21 +27,21 @@ abbrev pub blankWords : List ℕ
 blankWords = 0 ∷ 0 ∷ 0 ∷ 0 ∷ 0 ∷ []
 
 -- the entry that the words of a place stand for
-abbrev pub carryOf : List ℕ → Entry
-carryOf w = record { step = Carry (record { terminal = getD w 1 0 % 4294967296; edge = getD w 2 0 % 4294967296 }) }
+abbrev pub unpackedCarry : List ℕ → Entry
+unpackedCarry w = record { step = Carry (record { terminal = getD w 1 0 % 4294967296; edge = getD w 2 0 % 4294967296 }) }
 
-abbrev pub turnOf : List ℕ → Entry
-turnOf w = record { step = Turn (record { amount = getD w 1 0 % 4294967296; down = getD w 2 0; up = getD w 3 0; marked = getD w 4 0 }) }
+abbrev pub unpackedTurn : List ℕ → Entry
+unpackedTurn w = record { step = Turn (record { amount = getD w 1 0 % 4294967296; down = getD w 2 0; up = getD w 3 0; marked = getD w 4 0 }) }
 
 unfoldable pub unpacked : List ℕ → Entry
-unpacked w = pick (eqb (getD w 0 0) 0) (carryOf w) (turnOf w)
+unpacked w = pick (eqb (getD w 0 0) 0) (unpackedCarry w) (unpackedTurn w)
 
 -- the entries that words stand for, and the one at a place, or the blank
 abbrev pub entriesOf : List (List ℕ) → List Entry
 entriesOf words = map unpacked words
 
-abbrev pub entryOf : List (List ℕ) → ℕ → Entry
-entryOf words i = getD (entriesOf words) i blank
+abbrev pub entryIn : List (List ℕ) → ℕ → Entry
+entryIn words i = getD (entriesOf words) i blank
 
 -- the first so many entries, and blanks behind them: "places beyond the standing moves all hold the same fixed blank"
 unfoldable pub standing : ℕ → List Entry → List Entry
@@ -86,7 +84,7 @@ isZeros (suc n) (x ∷ w) = both (eqb x 0) (isZeros n w)
 
 -- a place holds the blank; past the end there is nothing else
 unfoldable pub isBlankAt : List (List ℕ) → ℕ → Bool
-isBlankAt words i = isZeros 5 (getD words i blankWords)
+isBlankAt words i = isZeros placeWords (getD words i blankWords)
 
 -- so many places from one on hold the blank
 unfoldable pub blankFrom : ℕ → ℕ → List (List ℕ) → Bool

@@ -10,11 +10,13 @@ ghost use Prim.Native.Nat.{_+_, _-_, _≤_};
 ghost use lib.ListN.{getD, set};
 ghost use Rattle.board.specs.Record.{blank};
 ghost use Rattle.board.specs.Limits.{maxMoves};
+ghost use Rattle.board.specs.Whole.{entryOf};
 ghost use Rattle.journal.specs.Words.{
+  placeWords,
   packed,
   unpacked,
   entriesOf,
-  entryOf,
+  entryIn,
   journalOf,
   noWords,
   isZeros,
@@ -27,8 +29,8 @@ pub const WORDS: usize = 5;
 
 // An entry in words.
 pub fn pack(entry: Entry) -> [u64; WORDS]
-    ensures { λ r. ⌜ r ≡ packed entry ⌝ }
-    ensures { λ r. ⌜ unpacked r ≡ entry ⌝ }
+    ensures { λ r. ⌜ r ≡ packed (entryOf entry) ⌝ }
+    ensures { λ r. ⌜ unpacked r ≡ entryOf entry ⌝ }
 {
     let step = entry.step;
     match step {
@@ -39,7 +41,7 @@ pub fn pack(entry: Entry) -> [u64; WORDS]
 
 // The entry that the words of a place stand for.
 pub fn unpack(w: [u64; WORDS]) -> Entry
-    ensures { λ r. ⌜ r ≡ unpacked w ⌝ }
+    ensures { λ r. ⌜ entryOf r ≡ unpacked w ⌝ }
 {
     if w[0] == 0 {
         return Entry {
@@ -61,7 +63,7 @@ pub fn unpack(w: [u64; WORDS]) -> Entry
 
 // The entry at a place, or the blank.
 pub fn entry_at(journal: &[[u64; WORDS]], i: usize) -> Entry
-    ensures { λ r. ⌜ r ≡ entryOf (now (journal .entry)) i ⌝ }
+    ensures { λ r. ⌜ entryOf r ≡ entryIn (now (journal .entry)) i ⌝ }
 {
     if i < journal.len() {
         let w = journal[i];
@@ -72,7 +74,7 @@ pub fn entry_at(journal: &[[u64; WORDS]], i: usize) -> Entry
 
 // The last of so many moves, or the blank.
 pub fn last_entry(journal: &[[u64; WORDS]], moves: u32) -> Entry
-    ensures { λ r. ⌜ r ≡ getD (journalOf moves (now (journal .entry))) (moves - 1) blank ⌝ }
+    ensures { λ r. ⌜ entryOf r ≡ getD (journalOf moves (now (journal .entry))) (moves - 1) blank ⌝ }
 {
     if moves == 0 {
         return Entry::blank();
@@ -82,8 +84,8 @@ pub fn last_entry(journal: &[[u64; WORDS]], moves: u32) -> Entry
 
 // Stores an entry at a place, and nothing past the end.
 pub fn put_entry(journal: &mut [[u64; WORDS]], i: usize, entry: Entry)
-    ensures { λ _. ⌜ now (journal .exit) ≡ set (now (journal .entry)) i (packed entry) ⌝ }
-    ensures { λ _. ⌜ entriesOf (now (journal .exit)) ≡ set (entriesOf (now (journal .entry))) i entry ⌝ }
+    ensures { λ _. ⌜ now (journal .exit) ≡ set (now (journal .entry)) i (packed (entryOf entry)) ⌝ }
+    ensures { λ _. ⌜ entriesOf (now (journal .exit)) ≡ set (entriesOf (now (journal .entry))) i (entryOf entry) ⌝ }
 {
     let w = pack(entry);
     if i < journal.len() {
@@ -93,7 +95,7 @@ pub fn put_entry(journal: &mut [[u64; WORDS]], i: usize, entry: Entry)
 
 // Whether the words of a place are zeros, as those of the blank are.
 fn is_zero(w: [u64; WORDS]) -> bool
-    ensures { λ r. ⌜ r ≡ isZeros 5 w ⌝ }
+    ensures { λ r. ⌜ r ≡ isZeros placeWords w ⌝ }
 {
     let sets = lists::and(w[2] == 0, lists::and(w[3] == 0, w[4] == 0));
     lists::and(w[0] == 0, lists::and(w[1] == 0, sets))

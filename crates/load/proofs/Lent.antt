@@ -6,11 +6,10 @@ use Prim.Native.Nat.{ℕ, zero, suc}
 use lib.ListN.{replicate}
 use Rattle.board.specs.Limits.{maxMoves}
 use Rattle.board.specs.Record.{blank, closedBoard}
-use Rattle.board.specs.declared.Entry.{Entry}
 use Rattle.board.specs.declared.Network.{Network}
 use Rattle.journal.specs.Words.{blankWords, unpacked, standing, journalOf, wholeOf, noWords, packedAll}
 use Rattle.board.specs.Record.{closedTable}
-use Rattle.board.specs.Whole.{Board, Table}
+use Rattle.board.specs.Whole.{Entry, Board, Table}
 use Rattle.journal.proofs.Places.{packed-none}
 use Rattle.lists.proofs.Laws.{eq-or-ne}
 use Rattle.text.specs.declared.Reading.{Reading}

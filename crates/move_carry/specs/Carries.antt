@@ -5,11 +5,8 @@ use Prim.Native.Nat.{ℕ, _-_}
 use lib.Dec.{ltb}
 use lib.ListN.{getD, set}
 use Rattle.lists.specs.Choice.{both, unless, when}
-use Rattle.board.specs.Whole.{Board}
+use Rattle.board.specs.Whole.{Carry, Entry, Board, Played}
 use Rattle.board.specs.declared.Network.{Network}
-use Rattle.board.specs.declared.Entry.{Entry}
-use Rattle.board.specs.Whole.{Played}
-use Rattle.board.specs.declared.Move.the-variants.{Carry}
 use Rattle.move_guard.specs.Guard.{playing}
 use Rattle.move_carry.specs.Opens.{isHomeIn, entersIn, fitsIn}
 use Rattle.move_guard.specs.Moved.{Change}

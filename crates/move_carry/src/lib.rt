@@ -8,6 +8,7 @@ use journal::WORDS;
 use sets::EdgeSet;
 ghost use mathlib.Core.Path.{_≡_};
 ghost use Rattle.sets.specs.Sets.{setOf};
+ghost use Rattle.board.specs.Whole.{entryOf};
 ghost use Rattle.journal.specs.Words.{wholeOf, givenOf, wordsAfter};
 ghost use mathlib.Core.List.{[]};
 ghost use Rattle.move_carry.specs.Opens.{flowFits};
@@ -71,7 +72,7 @@ pub fn refusal_in<'a>(
 
 // The entry of a carry of terminal i over edge e.
 fn entry_of(i: u32, e: u32) -> Entry
-    ensures { λ r. ⌜ r ≡ carryEntry i e ⌝ }
+    ensures { λ r. ⌜ entryOf r ≡ carryEntry i e ⌝ }
 {
     Entry {
         step: Move::Carry(Relocation {

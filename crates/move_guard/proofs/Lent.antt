@@ -9,11 +9,8 @@ use lib.ListN.{length, getD, set, length-map, List·getD-eq-default}
 use lib.Seq.{set-out, getD-set-same}
 use Rattle.lists.proofs.Laws.{lt-or-ge}
 use Rattle.board.specs.Record.{blank}
-use Rattle.board.specs.Whole.{Board}
-use Rattle.board.specs.declared.Entry.{Entry}
-use Rattle.board.specs.Whole.{Played}
+use Rattle.board.specs.Whole.{Entry, Board, Played, Table}
 use Rattle.journal.specs.Words.{packed, unpacked, entriesOf, wholeOf, wordsAfter}
-use Rattle.board.specs.Whole.{Table}
 use Rattle.journal.proofs.Laws.{length-standing}
 use Rattle.journal.proofs.After.{after-none, after-one, after-back}
 use Rattle.move_guard.specs.Moved.{Change}

@@ -6,8 +6,7 @@ use Rattle.lists.specs.Choice.{both}
 use Rattle.lists.specs.Lists.{all}
 use Rattle.board.specs.Limits.{maxEdges, maxTerminals, maxMoves}
 use Rattle.board.specs.Record.{playStage}
-use Rattle.board.specs.Whole.{Board}
-use Rattle.board.specs.declared.Entry.{Entry}
+use Rattle.board.specs.Whole.{Entry, Board}
 use Rattle.text_rules.specs.Rules.{countsFit}
 use Rattle.move_guard.specs.Moved.{lastEntry}
 use Rattle.move_guard.specs.Guard.{edgeIntact, terminalIntact, moveIntact, intact, playing}

@@ -5,9 +5,7 @@ use mathlib.Core.Logic.{_≢_}
 use Prim.Native.Nat.{ℕ, _+_, _-_}
 use lib.ListN.{set}
 use Rattle.board.specs.Record.{blank}
-use Rattle.board.specs.Whole.{Board}
-use Rattle.board.specs.declared.Entry.{Entry}
-use Rattle.board.specs.Whole.{Played}
+use Rattle.board.specs.Whole.{Entry, Board, Played}
 use Rattle.move_guard.specs.Moved.{Change}
 use Rattle.move_guard.specs.Moved.{moved, changed, changedBack}
 use Rattle.move_guard.proofs.Answers.{answered-yes, answered-no}

@@ -9,10 +9,8 @@ use Rattle.lists.specs.Choice.{pick, both}
 use Rattle.lists.specs.Lists.{all}
 use Rattle.board.specs.Limits.{maxEdges, maxTerminals, maxMoves, maxTotal}
 use Rattle.board.specs.Record.{playStage, staged}
-use Rattle.board.specs.Whole.{Board}
+use Rattle.board.specs.Whole.{Move, Carry, Turn, Board}
 use Rattle.board.specs.declared.Network.{Network}
-use Rattle.board.specs.declared.Move.{Move}
-use Rattle.board.specs.declared.Move.the-variants.{Carry, Turn}
 use Rattle.text_rules.specs.Rules.{edgeNumbersFit, terminalNumbersFit, countsFit}
 use Rattle.move_guard.specs.Moved.{lastEntry}
 

@@ -5,9 +5,7 @@ use lib.Dec.{eqb}
 use lib.ListN.{getD, set}
 use Rattle.lists.specs.Choice.{pick}
 use Rattle.board.specs.Record.{blank}
-use Rattle.board.specs.Whole.{Board}
-use Rattle.board.specs.declared.Entry.{Entry}
-use Rattle.board.specs.Whole.{Played}
+use Rattle.board.specs.Whole.{Entry, Board, Played}
 
 -- what a call would change: its number, and where that is 0 the new flows, marks and places, and the entry of its move
 pub record Change : Type 0 where

@@ -9,6 +9,7 @@ ghost use lib.Dec.{leb, ltb, eqb};
 ghost use Rattle.lists.specs.Choice.{pick};
 ghost use Rattle.lists.specs.Lists.{all};
 ghost use Rattle.board.specs.Limits.{maxEdges, maxTerminals, maxTotal};
+ghost use Rattle.board.specs.Whole.{moveOf};
 ghost use Rattle.move_guard.specs.Guard.{
   edgeNumbersIntact,
   edgeListsIntact,
@@ -72,7 +73,7 @@ fn terminal_intact(is_terminal: bool, home: u32, demand: u32, place: u32, vertic
 
 // Whether a move's amount is one that can be taken back.
 fn move_intact(step: Move) -> bool
-    ensures { λ r. ⌜ r ≡ moveIntact step ⌝ }
+    ensures { λ r. ⌜ r ≡ moveIntact (moveOf step) ⌝ }
 {
     match step {
         Move::Carry(_) => true,

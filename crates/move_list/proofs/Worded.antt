@@ -10,11 +10,7 @@ use lib.Seq.{getD-set-other}
 use Rattle.lists.proofs.Laws.{eq-or-ne, pick-passed, pick-avoided}
 use borrow.Author.Tests.{eqb-false}
 use Rattle.board.specs.Record.{blank}
-use Rattle.board.specs.Whole.{Board}
-use Rattle.board.specs.declared.Entry.{Entry}
-use Rattle.board.specs.Whole.{Played}
-use Rattle.board.specs.declared.Move.{Move}
-use Rattle.board.specs.declared.Move.the-variants.{Carry, Turn}
+use Rattle.board.specs.Whole.{Move, Carry, Turn, Entry, Board, Played}
 use Rattle.journal.specs.Words.{packedOn, packedAll, wordsAfter}
 use Rattle.journal.proofs.Places.{packedOn-all}
 use Rattle.journal.proofs.After.{after-none}

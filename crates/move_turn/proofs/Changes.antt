@@ -10,9 +10,8 @@ use lib.Dec.{leb, eqb}
 use lib.ListN.{length, set}
 use borrow.Author.Tests.{eq-eqb, ne-eqb}
 use Rattle.lists.proofs.Laws.{eq-or-ne, pick-yes, pick-no}
-use Rattle.board.specs.Whole.{Board}
+use Rattle.board.specs.Whole.{Entry, Board}
 use Rattle.board.specs.declared.Network.{Network}
-use Rattle.board.specs.declared.Entry.{Entry}
 use Rattle.graph_flows.specs.Trails.{Step}
 use Rattle.move_guard.specs.Guard.{playing}
 use Rattle.move_guard.specs.Moved.{Change}

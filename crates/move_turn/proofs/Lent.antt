@@ -11,11 +11,8 @@ use Rattle.lists.proofs.Laws.{pick-no, pick-passed}
 use Rattle.sets.specs.Sets.{joined}
 use Rattle.sets.specs.Inner.{setWidth}
 use Rattle.board.specs.Record.{blank}
-use Rattle.board.specs.Whole.{Board}
-use Rattle.board.specs.declared.Entry.{Entry}
-use Rattle.board.specs.declared.Move.the-variants.{Turn}
+use Rattle.board.specs.Whole.{Turn, Entry, Board, Played}
 use Rattle.board.specs.declared.Network.{Network}
-use Rattle.board.specs.Whole.{Played}
 use Rattle.graph_flows.specs.Trails.{Step}
 use Rattle.journal.specs.Words.{packed, wordsAfter}
 use Rattle.move_guard.specs.Guard.{playing}

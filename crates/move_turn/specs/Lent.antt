@@ -5,7 +5,7 @@ use Prim.Native.Nat.{ℕ, _≤_}
 use Rattle.sets.specs.Sets.{none, joined, collect, setOf}
 use Rattle.sets.specs.Inner.{setWidth}
 use Rattle.board.specs.Limits.{maxEdges, maxTotal}
-use Rattle.board.specs.declared.Move.the-variants.{Turn}
+use Rattle.board.specs.Whole.{Turn, entryOf}
 use Rattle.graph_flows.specs.Trails.{Step}
 use Rattle.move_guard.specs.Moved.{Change}
 use Rattle.move_edges.specs.Inner.{ChartedOut}
@@ -19,7 +19,7 @@ use Rattle.move_turn.specs.declared.Augmented.{Augmented}
 
 -- what a turn gave, with the flows and places after it, as a change
 abbrev pub changeOf : Augmented → List ℕ → List ℕ → Change
-changeOf r flows places = record { answer = r .answer; flows = flows; marks = setOf (r .marks); places = places; entry = r .entry }
+changeOf r flows places = record { answer = r .answer; flows = flows; marks = setOf (r .marks); places = places; entry = entryOf (r .entry) }
 
 -- an accepted turn, with the new marks by the sets of edges
 abbrev pub freshOf : Frame → List ℕ → List ℕ → ℕ

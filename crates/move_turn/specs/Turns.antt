@@ -6,10 +6,8 @@ use lib.Dec.{ltb, eqb}
 use lib.ListN.{getD}
 use Rattle.lists.specs.Choice.{pick, unless, when}
 use Rattle.sets.specs.Sets.{none, joined}
-use Rattle.board.specs.Whole.{Board}
+use Rattle.board.specs.Whole.{Turn, Board, Played}
 use Rattle.board.specs.declared.Network.{Network}
-use Rattle.board.specs.Whole.{Played}
-use Rattle.board.specs.declared.Move.the-variants.{Turn}
 use Rattle.graph_flows.specs.Trails.{Step, edgeOf}
 use Rattle.move_guard.specs.Guard.{playing}
 use Rattle.move_guard.specs.Moved.{Change}

@@ -177,18 +177,13 @@ fn augment<'a>(
     let fresh = move_edges::fresh_by(heads, leaving, frame.positive, frame.vertices, frame.marks);
     move_cycle::shift(amount, down, up, flows);
     let marks = sets::joined(frame.marks, fresh);
-    let entry = Entry {
-        step: Move::Turn(Augmentation {
-            amount: amount,
-            down: down,
-            up: up,
-            marked: fresh,
-        }),
-    };
+    let turn = Augmentation::of(amount, down, up, fresh);
     Augmented {
         answer: 0,
         marks: marks,
-        entry: entry,
+        entry: Entry {
+            step: Move::Turn(turn),
+        },
     }
 }
 

@@ -12,14 +12,9 @@ use borrow.Author.Tests.{eqb-false}
 use Rattle.lists.proofs.Laws.{pick-passed, pick-avoided}
 use Rattle.board.specs.Limits.{maxEdges, maxTerminals}
 use Rattle.board.specs.Record.{blank}
-use Rattle.board.specs.Whole.{Board}
-use Rattle.board.specs.declared.Entry.{Entry}
+use Rattle.board.specs.Whole.{Move, Carry, Turn, Entry, Board, Played, Table}
 use Rattle.board.specs.declared.Network.{Network}
-use Rattle.board.specs.declared.Move.{Move}
-use Rattle.board.specs.declared.Move.the-variants.{Carry, Turn}
-use Rattle.board.specs.Whole.{Played}
 use Rattle.journal.specs.Words.{packed, entriesOf, standing, journalOf, wholeOf, wordsAfter}
-use Rattle.board.specs.Whole.{Table}
 use Rattle.journal.proofs.Laws.{back-standing}
 use Rattle.move_guard.specs.Moved.{Change}
 use Rattle.move_guard.specs.Moved.{lastEntry, unchanged, changedBack}

@@ -6,7 +6,7 @@ use Prim.Native.Nat.{ℕ, _≤_}
 use lib.ListN.{getD}
 use Rattle.board.specs.Limits.{maxFlow, maxTotal}
 use Rattle.board.specs.declared.Network.{Network}
-use Rattle.board.specs.declared.Move.{Move}
+use Rattle.board.specs.Whole.{Move}
 use Rattle.move_guard.specs.Parts.{flow, demand}
 use Rattle.move_guard.specs.Guard.{moveIntact}
 

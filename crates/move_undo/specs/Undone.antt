@@ -7,11 +7,8 @@ use lib.ListN.{getD, set}
 use Rattle.lists.specs.Choice.{unless, when}
 use Rattle.sets.specs.Sets.{without}
 use Rattle.board.specs.Record.{blank}
-use Rattle.board.specs.Whole.{Board}
+use Rattle.board.specs.Whole.{Move, Carry, Turn, Board, Played}
 use Rattle.board.specs.declared.Network.{Network}
-use Rattle.board.specs.Whole.{Played}
-use Rattle.board.specs.declared.Move.{Move}
-use Rattle.board.specs.declared.Move.the-variants.{Carry, Turn}
 use Rattle.move_guard.specs.Guard.{playing}
 use Rattle.move_guard.specs.Moved.{Change}
 use Rattle.move_guard.specs.Moved.{lastEntry, afterBack, answered}

@@ -6,7 +6,6 @@ use board::Played;
 use journal::WORDS;
 ghost use mathlib.Core.Path.{_≡_};
 ghost use lib.ListN.{set};
-ghost use Rattle.board.specs.declared.Move.the-variants.{Carry};
 ghost use Rattle.journal.specs.Words.{wholeOf, givenOf, wordsAfter};
 ghost use Rattle.move_undo.specs.Undone.{undoRefusalIn, undoCall};
 
@@ -60,10 +59,13 @@ pub fn undo(mut board: Board, journal: &mut [[u64; WORDS]; Board::JOURNAL]) -> P
                 store_place(&mut board.places, r.terminal as usize, head);
             }
             Move::Turn(a) => {
+                let rose = a.rose();
+                let fell = a.fell();
+                let marked = a.newly_marked();
                 let flows = board.flows;
-                let shifted = move_cycle::shifted(a.amount, a.up, a.down, flows);
+                let shifted = move_cycle::shifted(a.amount, rose, fell, flows);
                 board.flows = shifted;
-                board.marks = sets::without(board.marks, a.marked);
+                board.marks = sets::without(board.marks, marked);
             }
         }
     }

@@ -13,7 +13,7 @@ use Rattle.lists.proofs.Laws.{Known, was-true, was-false, known, lt-or-ge, pick
 use Rattle.board.specs.Limits.{maxMoves}
 use Rattle.board.specs.Whole.{Board}
 use Rattle.board.specs.Whole.{Table}
-use Rattle.journal.specs.Words.{wholeOf, blankWords, isZeros, isBlankAt, blankFrom, packedOn, wordsAfter}
+use Rattle.journal.specs.Words.{placeWords, wholeOf, blankWords, isZeros, isBlankAt, blankFrom, packedOn, wordsAfter}
 use Rattle.journal.proofs.Laws.{blank-past}
 use Rattle.journal.proofs.After.{after-none}
 use Rattle.journal.proofs.Places.{packedOn-length, packedOn-at}
@@ -35,7 +35,7 @@ module _ (m : ℕ) (w : List (List ℕ)) (long : length w ≡ maxMoves) where
   blank-at i h = go (lt-or-ge i maxMoves)
     where
       go : (i < maxMoves) ⊎ (maxMoves ≤ i) → isBlankAt (packedOn (maxMoves - m) m [] w) i ≡ true
-      go (inl l) = ap (isZeros 5) (packedOn-at m (maxMoves - m) [] w i blankWords h (omega arith) (omega (arith, long)))
+      go (inl l) = ap (isZeros placeWords) (packedOn-at m (maxMoves - m) [] w i blankWords h (omega arith) (omega (arith, long)))
       go (inr l) = sym (blank-past (packedOn (maxMoves - m) m [] w) i (omega (arith, long, packedOn-length m (maxMoves - m) [] w)))
 
   pub blank-wiped : (j : ℕ) → blankFrom j m (packedOn (maxMoves - m) m [] w) ≡ true

@@ -13,11 +13,7 @@ use borrow.Author.Tests.{eq-eqb, ne-eqb, eqb-true, eqb-false}
 use Rattle.lists.specs.Choice.{pick}
 use Rattle.lists.proofs.Laws.{Known, was-true, was-false, known, pick-yes, pick-no}
 use Rattle.board.specs.Limits.{maxVertices, maxTerminals, maxMoves}
-use Rattle.board.specs.declared.Entry.{Entry}
-use Rattle.board.specs.declared.Relocation.{Relocation}
-use Rattle.board.specs.declared.Augmentation.{Augmentation}
-use Rattle.board.specs.declared.Move.{Move}
-use Rattle.board.specs.declared.Move.the-variants.{Carry, Turn}
+use Rattle.board.specs.Whole.{Relocation, Augmentation, Move, Carry, Turn, Entry}
 use Rattle.report_routes.specs.Routes.{carriedOver, routeIn}
 use Rattle.report_routes.specs.Inner.{tabulated, rowOf, countsOf, rowsOf}
 use Rattle.report_routes.proofs.Tabulated.{length-tabulated, tabulated-from, set-tabulated, sets-snoc}

@@ -8,7 +8,7 @@ use Rattle.lists.specs.Lists.{total}
 use Rattle.lists.specs.Members.{has}
 use Rattle.sets.specs.Sets.{none, hasBit}
 use Rattle.board.specs.Limits.{maxVertices, maxEdges, maxTerminals, maxFlow}
-use Rattle.board.specs.declared.Entry.{Entry}
+use Rattle.board.specs.Whole.{Entry}
 use Rattle.report_routes.specs.Routes.{routeIn, shareIn}
 
 -- f at i, i + 1, .., i + k - 1

@@ -7,10 +7,7 @@ use lib.ListN.{getD, take}
 use Rattle.lists.specs.Choice.{pick}
 use Rattle.lists.specs.Lists.{total, most}
 use Rattle.lists.specs.Members.{has}
-use Rattle.board.specs.Whole.{Board}
-use Rattle.board.specs.declared.Entry.{Entry}
-use Rattle.board.specs.declared.Move.{Move}
-use Rattle.board.specs.declared.Move.the-variants.{Carry, Turn}
+use Rattle.board.specs.Whole.{Move, Carry, Turn, Entry, Board}
 
 -- the edge that a move carried terminal i over
 abbrev pub carriedOver : ℕ → Move → List ℕ

@@ -12,8 +12,8 @@ use Rattle.lists.specs.Choice.{both}
 use Rattle.lists.proofs.Laws.{lt-or-ge, both-true}
 use Rattle.board.specs.Limits.{maxMoves}
 use Rattle.board.specs.Record.{blank}
-use Rattle.board.specs.declared.Entry.{Entry}
-use Rattle.journal.specs.Words.{packed, unpacked, blankWords, entriesOf, journalOf, standing, isZeros, isBlankAt, blankFrom, packedOn}
+use Rattle.board.specs.Whole.{Entry}
+use Rattle.journal.specs.Words.{placeWords, packed, unpacked, blankWords, entriesOf, journalOf, standing, isZeros, isBlankAt, blankFrom, packedOn}
 use Rattle.solve_finish.specs.Run.{Filled}
 use Rattle.journal.proofs.Laws.{add-standing, length-standing}
 use Rattle.journal.proofs.Places.{packedOn-same, packedOn-other, wiped-back}
@@ -53,8 +53,8 @@ module _ (from moves left : ℕ) (old words : List (List ℕ)) (f : Filled from 
   next-same : isBlankAt words moves ≡ isBlankAt old moves
   unfolding isBlankAt
   next-same =
-      ap (λ (w : List (List ℕ)). isZeros 5 (getD w moves blankWords)) (f .packs)
-      ∙ ap (isZeros 5) (packedOn-other from (moves - from) (journalOf moves words) old moves blankWords (inr (omega (arith, f .behind))))
+      ap (λ (w : List (List ℕ)). isZeros placeWords (getD w moves blankWords)) (f .packs)
+      ∙ ap (isZeros placeWords) (packedOn-other from (moves - from) (journalOf moves words) old moves blankWords (inr (omega (arith, f .behind))))
 
   pub filled-blocked : (n : ℕ) → moves < n → isBlankAt words moves ≡ false → blankFrom (n - from) from old ≡ false
   filled-blocked n more h =

@@ -27,7 +27,7 @@ use Rattle.solve_carry.specs.Inner.{Resumes}
 use Rattle.solve_next.specs.Choosing.{Act, relocate, augment, allHomeIn, nextActIn}
 use Rattle.solve_next.specs.Parts.{Movable}
 use Rattle.solve_finish.specs.declared.Progress.{Progress}
-use Rattle.solve_finish.specs.Run.{allSmall, carryStep, stepFor, stepChange, InPlay, Makes, madeOf, haltedWith, Going}
+use Rattle.solve_finish.specs.Run.{allSmall, carryStep, stepFor, stepChange, InPlay, Makes, madeOf, HaltsWith, Going}
 use Rattle.solve_finish.proofs.Parting.{stop-made}
 use Rattle.solve_finish.proofs.Ready.{ready-small, ready-bounds}
 
@@ -64,8 +64,8 @@ bare-resumes net flows marks places i r = record { inside = r .inside; none-belo
 
 -- no move
 pub halts : (answer : ℕ) (frame : Frame) (flows places : List ℕ) (r : Progress) → PositiveSet flows (frame .positive) → allSmall flows ≡ true
-    → r ≡ haltedWith answer frame → Makes (unchanged answer flows (frame .marks) places) (madeOf r flows places)
-halts answer frame flows places r is-positive small e = rw e (stop-made answer flows (frame .marks) places (frame .positive) blank is-positive small refl)
+    → HaltsWith answer frame r → Makes (unchanged answer flows (frame .marks) places) (madeOf r flows places)
+halts answer frame flows places r is-positive small e = rw (e flows places) (stop-made answer flows (frame .marks) places (frame .positive) blank is-positive small refl)
 
 module _ (frame : Frame) (tails heads demands leaving entering flows places : List ℕ)
     (g : Going frame tails heads demands leaving entering flows places) where

@@ -13,11 +13,8 @@ use Rattle.lists.specs.Choice.{pick, both}
 use Rattle.lists.proofs.Laws.{Known, was-true, was-false, known, eq-or-ne, pick-yes, pick-no, both-left, both-right}
 use Rattle.board.specs.Limits.{maxMoves}
 use Rattle.board.specs.Record.{blank}
-use Rattle.board.specs.Whole.{Board}
-use Rattle.board.specs.declared.Entry.{Entry}
-use Rattle.board.specs.Whole.{Played}
+use Rattle.board.specs.Whole.{Entry, Board, Played, Table}
 use Rattle.journal.specs.Words.{wholeOf, entriesOf, blankFrom, packedOn, wordsAfter, packedAll}
-use Rattle.board.specs.Whole.{Table}
 use Rattle.journal.proofs.Places.{packedOn-all, blank-behind}
 use Rattle.journal.proofs.After.{after-none, after-many}
 use Rattle.move_guard.proofs.Answers.{answered-yes, answered-no}

@@ -18,8 +18,7 @@ use Rattle.sets.proofs.Scan.{has-dropped}
 use Rattle.board.specs.Limits.{maxEdges}
 use Rattle.move_edges.specs.Incidence.{PositiveSet}
 use Rattle.board.specs.Record.{blank}
-use Rattle.board.specs.declared.Entry.{Entry}
-use Rattle.board.specs.declared.Move.the-variants.{Carry}
+use Rattle.board.specs.Whole.{Carry, Entry}
 use Rattle.board.specs.declared.Network.{Network}
 use Rattle.move_guard.specs.Moved.{unchanged}
 use Rattle.move_carry.specs.Carries.{carriedIn}

@@ -13,8 +13,7 @@ use lib.ListN.{length, set, length-set}
 use Rattle.lists.specs.Choice.{pick, both}
 use Rattle.lists.proofs.Laws.{Known, was-true, was-false, known, pick-yes, pick-no}
 use Rattle.board.specs.Limits.{maxEdges, maxTerminals, maxMoves}
-use Rattle.board.specs.Whole.{Board}
-use Rattle.board.specs.declared.Entry.{Entry}
+use Rattle.board.specs.Whole.{Entry, Board}
 use Rattle.board.specs.declared.Network.{Network}
 use Rattle.move_guard.specs.Guard.{playing}
 use Rattle.move_guard.specs.Moved.{moved}

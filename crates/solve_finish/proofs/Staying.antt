@@ -15,8 +15,7 @@ use Rattle.lists.proofs.Laws.{Known, was-true, was-false, known, lt-or-ge, pick
 use Rattle.sets.specs.Sets.{hasBit}
 use Rattle.board.specs.Limits.{maxEdges, maxTerminals, maxMoves, maxTotal}
 use Rattle.board.specs.Record.{playStage, blank}
-use Rattle.board.specs.Whole.{Board}
-use Rattle.board.specs.declared.Entry.{Entry}
+use Rattle.board.specs.Whole.{Entry, Board}
 use Rattle.text_rules.specs.Rules.{countsFit}
 use Rattle.graph_flows.specs.Trails.{Step, edgeOf}
 use Rattle.move_guard.specs.Parts.{flow, tail, demand, place}

@@ -12,9 +12,7 @@ use Rattle.sets.specs.Sets.{none, setOf, hasBit, joined}
 use Rattle.sets.specs.Inner.{dropped}
 use Rattle.move_edges.specs.Incidence.{PositiveSet}
 use Rattle.board.specs.Limits.{maxEdges, maxTerminals, maxMoves, maxTotal}
-use Rattle.board.specs.Whole.{Board}
-use Rattle.board.specs.declared.Move.{Move}
-use Rattle.board.specs.declared.Move.the-variants.{Carry, Turn}
+use Rattle.board.specs.Whole.{Move, Carry, Turn, Board, entryOf, Table}
 use Rattle.board.specs.declared.Network.{Network}
 use Rattle.move_guard.specs.Guard.{playing}
 use Rattle.move_guard.specs.Moved.{unchanged}
@@ -26,9 +24,7 @@ use Rattle.solve_next.specs.Choosing.{Act, relocate, augment, allHomeIn, nextAc
 use Rattle.move_edges.specs.Incidence.{Incident}
 use Rattle.move_carry.specs.declared.Frame.{Frame}
 use Rattle.move_carry.specs.Frames.{netOf, bareOf}
-use Rattle.board.specs.Record.{blank}
 use Rattle.journal.specs.Words.{wholeOf, journalOf, blankFrom, packedOn}
-use Rattle.board.specs.Whole.{Table}
 use Rattle.solve_finish.specs.Finishes.{playedOut}
 use Rattle.solve_finish.specs.declared.Ran.{Ran}
 use Rattle.solve_finish.specs.declared.Progress.{Progress}
@@ -113,14 +109,18 @@ leftAfter left moves small = pick (both (leb moves maxMoves) small) (left - 1) 0
 -- a move on lists that are lent, with the flows and places after it
 abbrev pub madeOf : Progress → List ℕ → List ℕ → Made
 madeOf r flows places = record {
-  change = record { answer = r .answer; flows = flows; marks = setOf (r .marks); places = places; entry = r .entry };
+  change = record { answer = r .answer; flows = flows; marks = setOf (r .marks); places = places; entry = entryOf (r .entry) };
   positive = setOf (r .positive);
   small = r .small;
 }
 
--- no move
-abbrev pub haltedWith : ℕ → Frame → Progress
-haltedWith answer frame = record { answer = answer; entry = blank; marks = frame .marks; positive = frame .positive; small = true }
+-- no move: whatever the flows and places are, nothing changes
+abbrev pub HaltsWith : ℕ → Frame → Progress → Type 0
+HaltsWith answer frame r = (flows places : List ℕ) → madeOf r flows places ≡ record {
+  change = unchanged answer flows (setOf (frame .marks)) places;
+  positive = setOf (frame .positive);
+  small = true;
+}
 
 -- the lists are those of a board in play, the sets those of its network, and the search for an open carry goes on where it may
 pub record Going (frame : Frame) (tails heads demands leaving entering flows places : List ℕ) : Type 0 where

@@ -18,6 +18,7 @@ ghost use Rattle.move_carry.specs.Frames.{netOf};
 ghost use mathlib.Core.List.{[]};
 ghost use lib.ListN.{length};
 ghost use Rattle.board.specs.Limits.{maxEdges};
+ghost use Rattle.board.specs.Whole.{moveOf};
 ghost use Rattle.journal.specs.Words.{wholeOf, wordsAfter};
 ghost use Rattle.move_cycle.specs.Steps.{codeSteps};
 ghost use Rattle.move_turn.specs.Turns.{turnChange};
@@ -35,7 +36,7 @@ ghost use Rattle.solve_finish.specs.Run.{
   Sees,
   leftAfter,
   madeOf,
-  haltedWith,
+  HaltsWith,
   Going,
   RanOut,
 };
@@ -94,17 +95,17 @@ fn positive_after(positive: EdgeSet, rest: u32, e: u32) -> EdgeSet
 
 // The edges whose flows a move shifts: those of a turn.
 fn shifted_edges(step: Move) -> EdgeSet
-    ensures { λ r. ⌜ r ≡ shiftedEdges step ⌝ }
+    ensures { λ r. ⌜ setOf r ≡ shiftedEdges (moveOf step) ⌝ }
 {
     match step {
         Move::Carry(_) => sets::none(),
-        Move::Turn(turn) => sets::joined(turn.down, turn.up),
+        Move::Turn(turn) => sets::joined(turn.fell(), turn.rose()),
     }
 }
 
 // The terminal at which the search for an open carry goes on after a move: that of a carry, the first after a turn.
 fn resumption(step: Move) -> u32
-    ensures { λ r. ⌜ r ≡ resumption step ⌝ }
+    ensures { λ r. ⌜ r ≡ resumption (moveOf step) ⌝ }
 {
     match step {
         Move::Carry(carry) => carry.terminal,
@@ -136,7 +137,7 @@ fn look_again(changed: EdgeSet, positive: EdgeSet, flows: &[u32; Board::MAX_EDGE
 
 // No move.
 fn halted(answer: u32, frame: Frame) -> Progress
-    ensures { λ r. ⌜ r ≡ haltedWith answer frame ⌝ }
+    ensures { λ r. ⌜ HaltsWith answer frame r ⌝ }
 {
     let entry = Entry::blank();
     Progress {

@@ -12,9 +12,7 @@ use Rattle.lists.specs.Members.{has}
 use Rattle.sets.specs.Sets.{hasBit, withBit, collect}
 use Rattle.decimal.specs.Decimal.{numberOf, valueFrom}
 use Rattle.board.specs.Record.{closedBoard}
-use Rattle.board.specs.Whole.{Board}
-use Rattle.board.specs.declared.Move.{Move}
-use Rattle.board.specs.declared.Move.the-variants.{Carry, Turn}
+use Rattle.board.specs.Whole.{Move, Carry, Turn, Board}
 use Rattle.text.specs.Text.{ranged}
 use Rattle.text.specs.Results.{readText}
 use Rattle.graph.specs.Graph.{opens, pass, passes, reached, leads, onward}

@@ -14,9 +14,7 @@ use Rattle.sets.specs.Sets.{hasBit}
 use Rattle.sets.specs.Sets.{joined, without}
 use Rattle.sets.proofs.Apart.{joined-back}
 use Rattle.board.specs.Record.{blank}
-use Rattle.board.specs.Whole.{Board}
-use Rattle.board.specs.declared.Entry.{Entry}
-use Rattle.board.specs.declared.Move.the-variants.{Turn}
+use Rattle.board.specs.Whole.{Turn, Entry, Board}
 use Rattle.graph_flows.specs.Trails.{Step, down, up, edgeOf, edgesOf, In}
 use Rattle.graph_flows.proofs.Change.{in-edges}
 use Rattle.move_guard.specs.Moved.{lastEntry}

@@ -11,9 +11,7 @@ use lib.ListN.{length, getD, set, length-set, List·getD-eq-default}
 use lib.Seq.{getD-set-same, getD-set-other}
 use Rattle.lists.proofs.Laws.{lt-or-ge, eq-or-ne}
 use Rattle.board.specs.Record.{blank}
-use Rattle.board.specs.Whole.{Board}
-use Rattle.board.specs.declared.Entry.{Entry}
-use Rattle.board.specs.declared.Move.the-variants.{Turn}
+use Rattle.board.specs.Whole.{Turn, Entry, Board}
 use Rattle.graph_flows.specs.Trails.{Step}
 use Rattle.move_guard.specs.Parts.{flow, head, demand}
 use Rattle.move_cycle.specs.Steps.{gather}

@@ -7,8 +7,7 @@ use lib.ListN.{set, take}
 use Rattle.lists.specs.Choice.{pick}
 use Rattle.lists.specs.Lists.{total, most}
 use Rattle.lists.specs.Members.{has}
-use Rattle.board.specs.Whole.{Board}
-use Rattle.board.specs.declared.Entry.{Entry}
+use Rattle.board.specs.Whole.{Entry, Board}
 use Rattle.graph_flows.specs.Trails.{Step}
 use Rattle.move_guard.specs.Parts.{demand}
 use Rattle.move_turn.specs.Turns.{turned, turnedIn}

@@ -7,9 +7,7 @@ use lib.ListN.{length, getD}
 use Rattle.lists.specs.Lists.{sumAt}
 use Rattle.lists.specs.Members.{has}
 use Rattle.board.specs.Record.{blank}
-use Rattle.board.specs.Whole.{Board}
-use Rattle.board.specs.declared.Move.{Move}
-use Rattle.board.specs.declared.Move.the-variants.{Carry, Turn}
+use Rattle.board.specs.Whole.{Move, Carry, Turn, Board}
 use Rattle.text_rules.specs.Sound.{Sound, Balanced}
 use Rattle.graph_cancel.specs.Cancelling.{acyclicFlows}
 use Rattle.graph_flows.specs.Trails.{Trail, downs}

@@ -13,9 +13,7 @@ use Rattle.lists.specs.Members.{has}
 use Rattle.lists.proofs.Laws.{eq-or-ne}
 use Rattle.lists.proofs.Pigeon.{has-cases}
 use Rattle.board.specs.Record.{blank}
-use Rattle.board.specs.Whole.{Board}
-use Rattle.board.specs.declared.Entry.{Entry}
-use Rattle.board.specs.declared.Move.the-variants.{Carry}
+use Rattle.board.specs.Whole.{Carry, Entry, Board}
 use Rattle.text_rules.specs.Sound.{Sound}
 use Rattle.graph_flows.specs.Trails.{Trail, go, down, downs}
 use Rattle.graph_flows.proofs.Sums.{keyed-add, sum-set, sum-key}

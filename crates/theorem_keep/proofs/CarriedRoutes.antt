@@ -16,9 +16,7 @@ use Rattle.lists.specs.Members.{has}
 use Rattle.lists.proofs.Laws.{eq-or-ne, pick-yes, pick-no}
 use Rattle.lists.proofs.Pigeon.{has-here}
 use Rattle.lists.proofs.Totals.{total-same, total-raised, most-same, most-at}
-use Rattle.board.specs.Whole.{Board}
-use Rattle.board.specs.declared.Entry.{Entry}
-use Rattle.board.specs.declared.Move.the-variants.{Carry}
+use Rattle.board.specs.Whole.{Carry, Entry, Board}
 use Rattle.move_guard.specs.Parts.{demand}
 use Rattle.move_carry.specs.Carries.{carried, carriedIn}
 use Rattle.report_routes.specs.Routes.{carriedOver, routeIn, route, share, load, largest}

@@ -6,9 +6,7 @@ use native.Mathlib.Omega.{arith}
 use lib.ListN.{length, set}
 use lib.Seq.{getD-set-same, set-set, set-getD}
 use Rattle.board.specs.Record.{blank}
-use Rattle.board.specs.Whole.{Board}
-use Rattle.board.specs.declared.Entry.{Entry}
-use Rattle.board.specs.declared.Move.the-variants.{Carry}
+use Rattle.board.specs.Whole.{Carry, Entry, Board}
 use Rattle.move_guard.specs.Parts.{flow, tail, head, demand}
 use Rattle.move_guard.specs.Moved.{lastEntry}
 use Rattle.move_carry.specs.Carries.{carried, carriedIn}

@@ -12,10 +12,8 @@ use Rattle.lists.specs.Lists.{all}
 use Rattle.lists.proofs.Laws.{Known, was-true, was-false, known, lt-or-ge, pick-yes, pick-no, both-left, both-right, both-true, all-from, all-zero}
 use Rattle.board.specs.Limits.{maxEdges, maxTerminals, maxMoves, maxFlow, maxTotal}
 use Rattle.board.specs.Record.{blank}
-use Rattle.board.specs.Whole.{Board}
+use Rattle.board.specs.Whole.{Move, Carry, Turn, Board}
 use Rattle.board.specs.declared.Network.{Network}
-use Rattle.board.specs.declared.Move.{Move}
-use Rattle.board.specs.declared.Move.the-variants.{Carry, Turn}
 use Rattle.text_rules.specs.Sound.{Sound}
 use Rattle.text_rules.specs.Rules.{edgeFits, terminalFits, countsFit, judged, lawful, Within, Lawful}
 use Rattle.text_rules.proofs.Meaning.{lawful-tested}

@@ -15,8 +15,7 @@ use Rattle.sets.specs.Sets.{hasBit}
 use Rattle.board.specs.Limits.{maxMoves, maxFlow}
 use Rattle.board.specs.Record.{blank}
 use Rattle.board.specs.declared.Network.{Network}
-use Rattle.board.specs.Whole.{Board}
-use Rattle.board.specs.declared.Entry.{Entry}
+use Rattle.board.specs.Whole.{Entry, Board}
 use Rattle.text_rules.specs.Rules.{Lawful}
 use Rattle.graph_flows.specs.Trails.{stay}
 use Rattle.move_guard.specs.Parts.{marked}

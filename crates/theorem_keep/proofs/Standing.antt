@@ -12,8 +12,7 @@ use borrow.Author.Tests.{eq-eqb, ne-eqb}
 use Rattle.lists.proofs.Laws.{pick-yes, pick-no, both-true}
 use Rattle.board.specs.Limits.{maxMoves, maxFlow}
 use Rattle.board.specs.Record.{playStage}
-use Rattle.board.specs.Whole.{Board}
-use Rattle.board.specs.declared.Move.the-variants.{Carry}
+use Rattle.board.specs.Whole.{Carry, Board}
 use Rattle.text_rules.specs.Rules.{Within, Lawful}
 use Rattle.text.specs.Results.{readText}
 use Rattle.load.specs.Load.{acyclicOf, opened, loadText}

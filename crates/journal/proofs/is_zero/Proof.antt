@@ -1,6 +1,7 @@
 -- The tests of the five words, from the last to the first.
 use mathlib.Core.Path.{_≡_, _∙_}
 use lib.ListN.{length}
+use Rattle.journal.specs.Words.{placeWords}
 use Rattle.journal.proofs.Laws.{zeros-five}
 use borrow.Author.Needs.{needs}
 use Rattle.journal.proofs.is_zero.Statement.{statement}
@@ -38,7 +39,7 @@ returns c =
     let last-two = c .before .before .before in
     let last-three = c .before .before in
     let last-four = c .before in
-    let long : length (last-two .before .args .t1) ≡ 5 = search needs in
+    let long : length (last-two .before .args .t1) ≡ placeWords = search needs in
     c .and4 .ensures ∙ rw (last-four .and3 .ensures, last-three .and2 .ensures, last-two .and .ensures) (zeros-five (last-two .before .args .t1) long)
 
 pub is-zero-spec : {M : Type 1} → statement M

@@ -1,7 +1,6 @@
 -- The branch says which move it is.
 use mathlib.Core.Path.{sym, ap, _∙_}
-use Rattle.board.specs.declared.Move.{Move}
-use Rattle.board.specs.declared.Move.the-variants.{Carry, Turn}
+use Rattle.board.specs.Whole.{Move, Carry, Turn, relocationOf, augmentationOf, moveOf}
 use Rattle.journal.proofs.Laws.{unpacked-packed}
 use Rattle.journal.specs.Words.{moveWords}
 use borrow.Author.Needs.{needs}
@@ -25,13 +24,15 @@ cast-t8 c = search needs
 
 returns : tie.Need-returns
 returns c =
-    let is = c .before .before .before .step .given .1 in
-    (sym (ap moveWords is), unpacked-packed (Carry (c .before .before .before .step .given .0 .0)) (search needs, search needs) ∙ ap (λ (m : Move). record { step = m }) (sym is))
+    let step = c .before .before .before .step .given in
+    let is = ap moveOf (step .1) in
+    (sym (ap moveWords is), unpacked-packed (Carry (relocationOf (step .0 .0))) (search needs, search needs) ∙ ap (λ (m : Move). record { step = m }) (sym is))
 
 returns-2 : tie.Need-returns-2
 returns-2 c =
-    let is = c .before .before .step2 .given .1 in
-    (sym (ap moveWords is), unpacked-packed (Turn (c .before .before .step2 .given .0 .0)) (search needs) ∙ ap (λ (m : Move). record { step = m }) (sym is))
+    let step = c .before .before .step2 .given in
+    let is = ap moveOf (step .1) in
+    (sym (ap moveWords is), unpacked-packed (Turn (augmentationOf (step .0 .0))) (search needs) ∙ ap (λ (m : Move). record { step = m }) (sym is))
 
 pub pack-spec : {M : Type 1} → statement M
 pack-spec =

@@ -2,7 +2,7 @@
 use mathlib.Core.Path.{sym}
 use Rattle.lists.proofs.Laws.{pick-yes, pick-no}
 use borrow.Author.Tests.{eq-eqb, ne-eqb}
-use Rattle.journal.specs.Words.{unpacked, carryOf, turnOf}
+use Rattle.journal.specs.Words.{unpacked, unpackedCarry, unpackedTurn}
 use borrow.Author.Needs.{needs}
 use Rattle.journal.proofs.unpack.Statement.{statement}
 use Rattle.journal.proofs.unpack.Tie as tie
@@ -24,7 +24,7 @@ cast-t16 c = search needs
 
 returns : tie.Need-returns
 unfolding unpacked
-returns c = sym (pick-yes _ (carryOf (c .before .args .t1)) (turnOf (c .before .args .t1)) (eq-eqb _ 0 (c .if1 .taken)))
+returns c = sym (pick-yes _ (unpackedCarry (c .before .args .t1)) (unpackedTurn (c .before .args .t1)) (eq-eqb _ 0 (c .if1 .taken)))
 
 array-read-t5 : tie.Need-array-read-t5
 array-read-t5 c = search needs
@@ -43,7 +43,7 @@ array-read-t31 c = search needs
 
 returns-2 : tie.Need-returns-2
 unfolding unpacked
-returns-2 c = sym (pick-no _ (carryOf (c .before .args .t1)) (turnOf (c .before .args .t1)) (ne-eqb _ 0 (c .if1 .left)))
+returns-2 c = sym (pick-no _ (unpackedCarry (c .before .args .t1)) (unpackedTurn (c .before .args .t1)) (ne-eqb _ 0 (c .if1 .left)))
 
 pub unpack-spec : {M : Type 1} → statement M
 unpack-spec =

@@ -6,7 +6,7 @@ use native.Mathlib.Omega.{arith}
 use native.Mathlib.Numerals.{add-one}
 use lib.ListN.{length, set}
 use borrow.Author.Needs.{needs}
-use Rattle.board.specs.declared.Entry.{Entry}
+use Rattle.board.specs.Whole.{Entry}
 use Rattle.journal.specs.Words.{packed, packedOn}
 use Rattle.journal.proofs.Places.{packedOn-length}
 use Rattle.journal.proofs.wipe.Statement.{statement}

@@ -7,8 +7,7 @@ use native.Mathlib.Omega.{arith}
 use denote.Ref.{now}
 use lib.ListN.{set}
 use Rattle.board.specs.Limits.{maxEdges, maxTerminals, maxMoves}
-use Rattle.board.specs.Whole.{Table}
-use Rattle.board.specs.declared.Entry.{Entry}
+use Rattle.board.specs.Whole.{Entry, Table}
 use Rattle.journal.specs.Words.{packed, entriesOf, wholeOf}
 use Rattle.move_carry.specs.Carries.{carryRefusalIn, carryRefusal}
 use Rattle.move_carry.proofs.Makes.{makes-carried}

@@ -28,17 +28,21 @@ shift-requires c κs =
 joined-requires : tie.Need-joined-requires
 joined-requires c κs = search needs
 
+of-requires : tie.Need-of-requires
+of-requires c κs = search needs
+
 same-length : tie.Need-same-length
 same-length c = search needs
 
 returns : tie.Need-returns
 unfolding augmentedBy
 returns c =
-    let shifts = c .before .before .before in
+    let joins = c .before in
+    let shifts = joins .before .before .before in
     let fresh = shifts .before .before in
     let ups = fresh .before in
     let downs = ups .before in
-    rw (c .joined .ensures, shifts .shift .ensures, fresh .fresh-by .ensures, ups .gather2 .ensures, downs .gather .ensures, downs .before .least-allowed .ensures)
+    rw (c .of .ensures, joins .joined .ensures, shifts .shift .ensures, fresh .fresh-by .ensures, ups .gather2 .ensures, downs .gather .ensures, downs .before .least-allowed .ensures)
 
 pub augment-spec : {M : Type 1} → statement M
 augment-spec =
@@ -50,5 +54,6 @@ augment-spec =
     fresh-by-requires
     shift-requires
     joined-requires
+    of-requires
     same-length
     returns)

@@ -7,9 +7,8 @@ use native.Mathlib.Omega.{arith}
 use denote.Ref.{now}
 use borrow.Author.Tests.{not-true, not-false}
 use Rattle.board.specs.Limits.{maxEdges, maxTerminals}
-use Rattle.board.specs.Whole.{Board}
+use Rattle.board.specs.Whole.{Board, entryOf, Table}
 use Rattle.graph_flows.specs.Trails.{Step}
-use Rattle.board.specs.Whole.{Table}
 use Rattle.journal.specs.Words.{wholeOf, entriesOf, standing}
 use Rattle.journal.proofs.Laws.{add-standing}
 use Rattle.move_guard.specs.Guard.{playing}
@@ -195,7 +194,7 @@ returns-3 c =
     let begin = begun (charted (made .before)) in
     let b = given begin in
     let m = b .moves in
-    let journal = ap (standing (m + 1)) (put .put-entry .ensures .1) ∙ sym (add-standing m (m + 1) (entriesOf (old begin)) (made .change .result .entry) (omega arith)) in
+    let journal = ap (standing (m + 1)) (put .put-entry .ensures .1) ∙ sym (add-standing m (m + 1) (entriesOf (old begin)) (entryOf (made .change .result .entry)) (omega arith)) in
     lent-stored b _ _ (made-here made) (old begin) _ _ (found .if2 .left) (whole-long (table begin) (old begin)) journal (put .put-entry .ensures .0)
 
 pub turn-steps-spec : {M : Type 1} → statement M

@@ -6,10 +6,11 @@ use native.Mathlib.Omega.{arith}
 use denote.Ref.{now}
 use lib.ListN.{length, set}
 use borrow.Author.Tests.{leb-true}
+use Rattle.sets.specs.Sets.{without, setOf}
 use Rattle.board.specs.Limits.{maxEdges, maxTerminals}
-use Rattle.board.specs.declared.Entry.{Entry}
-use Rattle.board.specs.Whole.{Table}
+use Rattle.board.specs.Whole.{Entry, moveOf, entryOf, Table}
 use Rattle.move_guard.specs.Guard.{moveIntact}
+use Rattle.move_cycle.specs.Shifts.{shifted}
 use Rattle.move_undo.specs.Inner.{Small}
 use Rattle.move_undo.proofs.Lent.{small, lent-back, lent-refused}
 use borrow.Author.Needs.{needs, length-unmapped}
@@ -17,6 +18,9 @@ use Rattle.move_undo.proofs.undo.Statement.{statement}
 use Rattle.move_undo.proofs.undo.Tie as tie
 use Rattle.move_undo.proofs.undo.Reads as reads
 use Rattle.move_undo.proofs.undo.Lts as lts
+use Rattle.board.proofs.Augmentation.fell.Reads as fell-reads
+use Rattle.board.proofs.Augmentation.newly_marked.Reads as newly-marked-reads
+use Rattle.board.proofs.Augmentation.rose.Reads as rose-reads
 use Rattle.board.proofs.Entry.blank.Reads as blank-reads
 use Rattle.journal.proofs.last_entry.Reads as last-entry-reads
 use Rattle.journal.proofs.put_entry.Reads as put-entry-reads
@@ -49,6 +53,12 @@ cs = (
   store-flow-reads.Learnt,
   store-place-reads.Asked,
   store-place-reads.Learnt,
+  rose-reads.Asked,
+  rose-reads.Learnt,
+  fell-reads.Asked,
+  fell-reads.Learnt,
+  newly-marked-reads.Asked,
+  newly-marked-reads.Learnt,
   shifted-reads.Asked,
   shifted-reads.Learnt,
   without-reads.Asked,
@@ -88,11 +98,11 @@ abbrev start : Blanked → Start
 start c = tested c .before .before
 
 -- what is known there
-small-there : (c : Blanked) → Small (table (start c) .network) (table (start c) .flows) (read c .last-entry .result .step)
+small-there : (c : Blanked) → Small (table (start c) .network) (table (start c) .flows) (moveOf (read c .last-entry .result .step))
 small-there c =
     let s = start c in
     let judged = accepted c .before in
-    small (table s) (words s) _ _ (tested c .playing .ensures) (judged .refusal .ensures) (accepted c .if1 .taken) (read c .last-entry .result) (read c .last-entry .ensures) (many-flows s) (many-demands s)
+    small (table s) (words s) _ _ (tested c .playing .ensures) (judged .refusal .ensures) (accepted c .if1 .taken) (entryOf (read c .last-entry .result)) (read c .last-entry .ensures) (many-flows s) (many-demands s)
 
 playing-requires : tie.Need-playing-requires
 playing-requires c κs = search needs
@@ -161,11 +171,21 @@ store-place-requires c κs = search needs
 enum-known-step-2 : tie.Need-enum-known-step-2
 enum-known-step-2 c = search needs
 
+rose-requires : tie.Need-rose-requires
+rose-requires c κs = search needs
+
+fell-requires : tie.Need-fell-requires
+fell-requires c κs = search needs
+
+newly-marked-requires : tie.Need-newly-marked-requires
+newly-marked-requires c κs = search needs
+
 shifted-requires : tie.Need-shifted-requires
 shifted-requires c κs =
-    let at-step = c .before .before in
+    let at-rose = c .before .before .before in
+    let at-step = at-rose .before .before in
     let small = small-there (at-step .before .before) in
-    (leb-true _ _ (sym (ap moveIntact (at-step .step2 .given .1)) ∙ small .amount), small .flow)
+    (leb-true _ _ (sym (ap moveIntact (ap moveOf (at-step .step2 .given .1))) ∙ small .amount), small .flow)
 
 without-requires : tie.Need-without-requires
 without-requires c κs = search needs
@@ -183,7 +203,7 @@ returns c =
     let r = at-step .step .given .0 .0 in
     let sum = ap₂ (λ (a b : ℕ). a + b) (at-flow .word-at .ensures) (at-demand .word-at2 .ensures) in
     lent-back t (words (start blanked)) _ _ (tested blanked .playing .ensures) (judged .refusal .ensures) (accepted blanked .if1 .taken) _
-    (ap (λ (e : Entry). e .step) (sym (read blanked .last-entry .ensures)) ∙ at-step .step .given .1) _ _ _ _ _ _
+    (ap (λ (e : Entry). e .step) (sym (read blanked .last-entry .ensures)) ∙ ap moveOf (at-step .step .given .1)) _ _ _ _ _ _
     (at-stored .store-flow .ensures ∙ ap (set (t .flows) (r .edge)) sum) refl
     (c .store-place .ensures ∙ ap (set (t .places) (r .terminal)) (at-head .word-at3 .ensures))
     (blanked .before .before .before .minus .ensures) (blanked .before .blank .ensures) (blanked .put-entry .ensures .0) (blanked .put-entry .ensures .1)
@@ -191,12 +211,18 @@ returns c =
 returns-2 : tie.Need-returns-2
 returns-2 c =
     let at-shifted = c .before in
-    let at-step = at-shifted .before .before .before in
+    let at-marked = at-shifted .before .before in
+    let at-fell = at-marked .before in
+    let at-rose = at-fell .before in
+    let at-step = at-rose .before .before in
     let blanked = at-step .before .before in
     let judged = accepted blanked .before in
-    lent-back (table (start blanked)) (words (start blanked)) _ _ (tested blanked .playing .ensures) (judged .refusal .ensures) (accepted blanked .if1 .taken) _
-    (ap (λ (e : Entry). e .step) (sym (read blanked .last-entry .ensures)) ∙ at-step .step2 .given .1) _ _ _ _ _ _
-    (at-shifted .shifted .ensures) (c .without .ensures) refl
+    let t = table (start blanked) in
+    let a = at-step .step2 .given .0 .0 in
+    let ways = ap₂ (λ (up down : ℕ). shifted (a .amount) up down (t .flows)) (at-rose .rose .ensures) (at-fell .fell .ensures) in
+    lent-back t (words (start blanked)) _ _ (tested blanked .playing .ensures) (judged .refusal .ensures) (accepted blanked .if1 .taken) _
+    (ap (λ (e : Entry). e .step) (sym (read blanked .last-entry .ensures)) ∙ ap moveOf (at-step .step2 .given .1)) _ _ _ _ _ _
+    (at-shifted .shifted .ensures ∙ ways) (c .without .ensures ∙ ap (without (setOf (t .marks))) (at-marked .newly-marked .ensures)) refl
     (blanked .before .before .before .minus .ensures) (blanked .before .blank .ensures) (blanked .put-entry .ensures .0) (blanked .put-entry .ensures .1)
 
 returns-3 : tie.Need-returns-3
@@ -230,6 +256,9 @@ undo-spec =
     cast-store-place
     store-place-requires
     enum-known-step-2
+    rose-requires
+    fell-requires
+    newly-marked-requires
     shifted-requires
     without-requires
     returns

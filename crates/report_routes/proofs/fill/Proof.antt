@@ -7,7 +7,7 @@ use Prim.Native.Nat.{_-_}
 use native.Mathlib.Omega.{arith}
 use borrow.Author.Needs.{needs}
 use Rattle.board.specs.Limits.{maxMoves}
-use Rattle.board.specs.declared.Entry.{Entry}
+use Rattle.board.specs.Whole.{Entry, moveOf}
 use Rattle.journal.specs.Words.{entriesOf}
 use Rattle.report_routes.proofs.Filling.{Filled, fill-start, fill-carried, fill-past, fill-turned, fill-short, fill-end}
 use Rattle.report_routes.proofs.Standing.{words-long, filled-standing}
@@ -118,7 +118,7 @@ loop-again c =
     (round .loop .inv)
     _
     (c .if3 .rows)
-    (ap (λ (e : Entry). e .step) (sym (read .entry-at .ensures)) ∙ stepped .step .given .1)
+    (ap (λ (e : Entry). e .step) (sym (read .entry-at .ensures)) ∙ ap moveOf (stepped .step .given .1))
     (c .before .if2 .taken)
     (⊎-elim (λ w. inl (w .0 .taken, w .1)) (λ w. inr (w .0 .left, w .1)) (c .if3 .came))
 
@@ -147,7 +147,7 @@ loop-again-2 c =
     long
     (round .loop .inv)
     _
-    (ap (λ (e : Entry). e .step) (sym (read .entry-at .ensures)) ∙ stepped .step .given .1)
+    (ap (λ (e : Entry). e .step) (sym (read .entry-at .ensures)) ∙ ap moveOf (stepped .step .given .1))
     (c .if2 .left)
 
 enum-told : tie.Need-enum-told Inv-loop μ-loop
@@ -177,7 +177,7 @@ loop-again-3 c =
     long
     (round .loop .inv)
     _
-    (ap (λ (e : Entry). e .step) (sym (read .entry-at .ensures)) ∙ c .enum-told .given .1)
+    (ap (λ (e : Entry). e .step) (sym (read .entry-at .ensures)) ∙ ap moveOf (c .enum-told .given .1))
 
 returns : tie.Need-returns Inv-loop μ-loop
 returns c =

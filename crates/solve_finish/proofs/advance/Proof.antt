@@ -93,7 +93,7 @@ returns c =
     let at-move = tested .before .before in
     let s = start at-move in
     step-none (net s) _ _ _ (few s) (movable s .bounds .all) _ (at-move .next-move .ensures) _ (tested .if1 .taken)
-    (halts 28 (s .args .frame) _ _ _ (s .pre .is-positive) (going-small _ _ _ _ _ _ _ _ (s .pre)) (c .halted .ensures))
+    (halts 28 (s .args .frame) _ _ (c .halted .result) (s .pre .is-positive) (going-small _ _ _ _ _ _ _ _ (s .pre)) (c .halted .ensures))
 
 carry-on-requires : tie.Need-carry-on-requires
 carry-on-requires c κs =

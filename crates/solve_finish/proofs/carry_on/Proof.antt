@@ -17,7 +17,7 @@ returns c =
     let at-place = c .before .before .before in
     let start = at-place .before .before .before in
     carry-stopped _ _ _ _ (start .args .frame .positive) _ _ _ (at-place .word-at .ensures) _ (c .before .if1 .taken)
-    (halts _ (start .args .frame) _ _ _ (start .pre .0) (start .pre .1 .0) (c .halted .ensures))
+    (halts _ (start .args .frame) _ _ (c .halted .result) (start .pre .0) (start .pre .1 .0) (c .halted .ensures))
 
 word-at-requires-2 : tie.Need-word-at-requires-2
 word-at-requires-2 c κs = search needs

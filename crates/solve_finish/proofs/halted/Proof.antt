@@ -7,7 +7,7 @@ blank-requires : tie.Need-blank-requires
 blank-requires c κs = search needs
 
 returns : tie.Need-returns
-returns c = rw (c .blank .ensures)
+returns c = λ flows places. rw (c .blank .ensures)
 
 pub halted-spec : {M : Type 1} → statement M
 halted-spec = tie.close (tie.spec blank-requires returns)

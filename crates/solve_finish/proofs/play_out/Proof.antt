@@ -11,9 +11,8 @@ use denote.Ref.{now}
 use borrow.Author.Needs.{needs, length-unmapped}
 use borrow.Author.Tests.{not-true, not-false}
 use Rattle.board.specs.Limits.{maxEdges, maxTerminals, maxMoves}
-use Rattle.board.specs.Whole.{Board}
+use Rattle.board.specs.Whole.{Board, entryOf, Table}
 use Rattle.board.specs.declared.Network.{Network}
-use Rattle.board.specs.Whole.{Table}
 use Rattle.journal.specs.Words.{wholeOf, entriesOf, journalOf, standing}
 use Rattle.journal.proofs.Laws.{add-standing}
 use Rattle.move_guard.specs.Moved.{Change}
@@ -214,7 +213,7 @@ goes-on c =
     run-made _ _ _ _ _ _ _ _ (loop .inv .0) (within at-move .loop-test .taken) (made at-move) (makes at-move) _ _ (found c .if1 .left) (short-now at-move)
     (ap (journaled (given (started (looping at-move))))
     (ap (standing (m + 1)) (stored c .put-entry .ensures .1)
-    ∙ sym (add-standing m (m + 1) (entriesOf (loop .journal)) (at-move .advance .result .entry) (omega arith))))
+    ∙ sym (add-standing m (m + 1) (entriesOf (loop .journal)) (entryOf (at-move .advance .result .entry)) (omega arith))))
     (c .left-after .ensures)
 
 goes-less : (c : Moved) → c .left-after .result < looping (advanced (found c)) .loop .left
