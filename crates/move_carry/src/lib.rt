@@ -15,8 +15,8 @@ ghost use Rattle.move_carry.specs.Opens.{flowFits};
 ghost use Rattle.move_carry.specs.Carries.{carryCall, carryRefusalIn, carryEntry};
 ghost use Rattle.move_carry.specs.Frames.{netOf};
 
-// The numbers that a move goes by, beside the lists of its board: the counts, the source, the marked edges, the positive
-// ones, and where the search for an open carry goes on: no terminal below `resume` has one.
+// The numbers that a move goes by, beside the lists of its board: the counts, the source, the marked edges, the
+// positive ones, and where the search for an open carry goes on: no terminal below `resume` has one.
 pub struct Frame {
     pub vertices: u32,
     pub edges: u32,

@@ -85,7 +85,7 @@ fn left_after(left: u32, moves: u32, small: bool) -> u32
 
 // The positive edges where edge e has the rest of its flow.
 fn positive_after(positive: EdgeSet, rest: u32, e: u32) -> EdgeSet
-    ensures { λ r. ⌜ r ≡ positiveAfter (setOf positive) rest e ⌝ }
+    ensures { λ r. ⌜ setOf r ≡ positiveAfter (setOf positive) rest e ⌝ }
 {
     if rest == 0 {
         return sets::drop(positive, e);

@@ -1,6 +1,7 @@
 -- The edges of what is left of the two sets have their old flow, and all others their new one. No old flow is large, so the sums do not wrap.
 use mathlib.Core.Path.{sym, ap, _∙_}
 use borrow.Author.Tests.{eqb-true, not-true, not-false}
+use Rattle.sets.specs.Sets.{setOf}
 use Rattle.sets.proofs.Scan.{lowest-in, dropped-less}
 use Rattle.move_cycle.specs.Shifts.{shiftedAt}
 use Rattle.move_cycle.proofs.Shifting.{ShiftedBut, but-both, but-one, but-none}
@@ -12,7 +13,7 @@ abbrev Inv-loop : tie.InvT-loop
 Inv-loop x downs ups flows₀ rest₀ flows rest = ShiftedBut x downs ups flows₀ flows rest
 
 abbrev μ-loop : tie.MeasureT-loop
-μ-loop x downs ups flows₀ rest₀ flows rest = rest
+μ-loop x downs ups flows₀ rest₀ flows rest = setOf rest
 
 joined-requires : tie.Need-joined-requires Inv-loop μ-loop
 joined-requires c κs = search needs

@@ -3,7 +3,7 @@ use mathlib.Core.Path.{sym, _∙_}
 use Prim.Native.Nat.{_<_, _^_}
 use native.Mathlib.Omega.{arith}
 use borrow.Author.Tests.{eqb-true, not-true, not-false}
-use Rattle.sets.specs.Sets.{none, collect}
+use Rattle.sets.specs.Sets.{none, collect, setOf}
 use Rattle.sets.specs.Inner.{setWidth}
 use Rattle.sets.proofs.Scan.{has-inside, lowest-in, dropped-less}
 use Rattle.move_edges.specs.Marking.{singularBy, isFreshBy}
@@ -17,7 +17,7 @@ Inv-loop heads leaving positive vertices marks rest₀ m₀ rest m =
     (rest < 2 ^ setWidth) × FoundOrLeft (singularBy heads leaving positive vertices) m rest (collect (isFreshBy heads leaving positive vertices marks) none 0 setWidth)
 
 abbrev μ-loop : tie.MeasureT-loop
-μ-loop heads leaving positive vertices marks rest₀ m₀ rest m = rest
+μ-loop heads leaving positive vertices marks rest₀ m₀ rest m = setOf rest
 
 without-requires : tie.Need-without-requires Inv-loop μ-loop
 without-requires c κs = search needs

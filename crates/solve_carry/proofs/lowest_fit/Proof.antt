@@ -5,6 +5,7 @@ use Prim.Native.Nat.{ℕ, _<_, _^_}
 use native.Mathlib.Omega.{arith}
 use borrow.Author.Needs.{needs}
 use borrow.Author.Tests.{not-true, not-false}
+use Rattle.sets.specs.Sets.{setOf}
 use Rattle.sets.specs.Inner.{setWidth, isEmpty}
 use Rattle.sets.proofs.Scan.{lowest-in, dropped-less}
 use Rattle.solve_carry.specs.Inner.{lowestFitBy}
@@ -22,7 +23,7 @@ abbrev Inv-loop : tie.InvT-loop
 Inv-loop flows marks demand set rest₀ rest = (rest < 2 ^ setWidth) × (lowestFitBy flows marks demand rest ≡ lowestFitBy flows marks demand set)
 
 abbrev μ-loop : tie.MeasureT-loop
-μ-loop flows marks demand set rest₀ rest = rest
+μ-loop flows marks demand set rest₀ rest = setOf rest
 
 abbrev cs : lts.Claims
 cs = (is-empty-reads.Asked, is-empty-reads.Learnt, lowest-reads.Asked, lowest-reads.Learnt, fits-reads.Asked, fits-reads.Learnt, drop-reads.Asked, drop-reads.Learnt)

@@ -1,6 +1,7 @@
 -- What is seen of the flows is right but for the edges that are left to look at.
 use mathlib.Core.Path.{sym, _∙_}
 use borrow.Author.Tests.{eqb-true, not-true, not-false}
+use Rattle.sets.specs.Sets.{setOf}
 use Rattle.sets.proofs.Scan.{has-inside, lowest-in, dropped-less}
 use Rattle.solve_finish.proofs.Looking.{LookedBut, look-all, look-one, look-none}
 use borrow.Author.Needs.{needs}
@@ -11,7 +12,7 @@ abbrev Inv-loop : tie.InvT-loop
 Inv-loop changed positive flows rest₀ after₀ small₀ rest after small = LookedBut flows rest after small
 
 abbrev μ-loop : tie.MeasureT-loop
-μ-loop changed positive flows rest₀ after₀ small₀ rest after small = rest
+μ-loop changed positive flows rest₀ after₀ small₀ rest after small = setOf rest
 
 loop-holds : tie.Need-loop-holds Inv-loop μ-loop
 loop-holds c = look-all _ _ _ (search needs) (c .pre)
