@@ -1,6 +1,6 @@
 -- One vertex of the walk, case by case in the code's shape: the walk w stops at v, where none is left to see or v was met before; or takes one step down, or one
 -- step up.
-use mathlib.Core.Path.{_≡_, refl, sym, ap, _∙_}
+use mathlib.Core.Path.{_≡_, refl, sym, ap, _∙_, subst}
 use mathlib.Core.Bool.{Bool, true, false}
 use mathlib.Core.List.{List, [], _∷_, _++_}
 use Prim.Native.Nat.{ℕ, zero, suc, _+_, _-_, _<_, _≤_}
@@ -15,8 +15,7 @@ use Rattle.sets.specs.Sets.{hasBit}
 use Rattle.sets.specs.Inner.{setWidth}
 use Rattle.graph_flows.specs.Trails.{Step, down, up}
 use Rattle.move_cycle.specs.Steps.{codeUp, codeSteps}
-use Rattle.solve_walk.specs.declared.Walk.{Walk}
-use Rattle.solve_walk.specs.Walk.{another, parts, startsOf, firstMet, downWalk, upWalk, packed}
+use Rattle.solve_walk.specs.Walk.{another, parts, startsOf, firstMet, downWalk, upWalk}
 use Rattle.solve_walk.proofs.Packed.{another-most}
 use Rattle.solve_walk.proofs.Loops.{steps-held, starts-length}
 
@@ -54,26 +53,26 @@ module _ (tails heads flows : List ℕ) where
   abbrev pub ups : ℕ → List Step → ℕ → ℕ → List Step
   ups = upWalk tails heads flows (another tails flows) (another heads flows)
 
-  module _ (left : ℕ) (w : List Step) (x v seen : ℕ) (stop : Bool) (r : Walk) (met : hasBit seen v ≡ ltb (firstMet tails heads w v) (length w))
+  module _ (left : ℕ) (w : List Step) (x v seen : ℕ) (stop : Bool) (P : List Step → Type 0) (met : hasBit seen v ≡ ltb (firstMet tails heads w v) (length w))
       (stops : stop ≡ either (eqb left 0) (hasBit seen v)) where
     -- with a vertex left, the walk stops where v was met before
     before : (k : ℕ) → left ≡ suc k → stop ≡ true → ltb (firstMet tails heads w v) (length w) ≡ true
     unfolding either
     before k one t = sym met ∙ (rw (ne-eqb left 0 (λ z. omega (arith, z, one))) at (sym stops ∙ t))
 
-    pub down-stops : stop ≡ true → r ≡ packed (drop (firstMet tails heads w v) w) → r ≡ packed (downs left w x v)
+    pub down-stops : stop ≡ true → P (drop (firstMet tails heads w v) w) → P (downs left w x v)
     unfolding downWalk
-    down-stops t e = e ∙ go left refl
+    down-stops t e = subst P (go left refl) e
       where
-        go : (k : ℕ) → left ≡ k → packed (drop (firstMet tails heads w v) w) ≡ packed (downs k w x v)
+        go : (k : ℕ) → left ≡ k → drop (firstMet tails heads w v) w ≡ downs k w x v
         go zero one = refl
         go (suc k) one = rw (before k one t, downWalk)
 
-    pub up-stops : stop ≡ true → r ≡ packed (drop (firstMet tails heads w v) w) → r ≡ packed (ups left w x v)
+    pub up-stops : stop ≡ true → P (drop (firstMet tails heads w v) w) → P (ups left w x v)
     unfolding downWalk
-    up-stops t e = e ∙ go left refl
+    up-stops t e = subst P (go left refl) e
       where
-        go : (k : ℕ) → left ≡ k → packed (drop (firstMet tails heads w v) w) ≡ packed (ups k w x v)
+        go : (k : ℕ) → left ≡ k → drop (firstMet tails heads w v) w ≡ ups k w x v
         go zero one = refl
         go (suc k) one = rw (before k one t, upWalk)
 
@@ -95,39 +94,39 @@ module _ (tails heads flows : List ℕ) where
       climbed k i l g = rw (l, g, i)
 
       pub down-falls : e ≡ another tails flows v x → e < length flows → longer ≡ w ++ (down e ∷ []) → next ≡ getD heads e 0
-          → r ≡ packed (downs (left - 1) longer e next) → r ≡ packed (downs left w x v)
+          → P (downs (left - 1) longer e next) → P (downs left w x v)
       unfolding downWalk
       down-falls i h l g q =
           let leaves : ltb (another tails flows v x) (length flows) ≡ true = rw i at (lt-ltb e (length flows) h) in
           let turn : downs (suc (left - 1)) w x v
           ≡ downs (left - 1) (w ++ (down (another tails flows v x) ∷ [])) (another tails flows v x) (getD heads (another tails flows v x) 0) =
           rw (fresh, leaves, downWalk) in
-          q ∙ ap packed (fallen (left - 1) i l g ∙ sym turn ∙ ap (λ (k : ℕ). downs k w x v) (sym one))
+          subst P (fallen (left - 1) i l g ∙ sym turn ∙ ap (λ (k : ℕ). downs k w x v) (sym one)) q
 
       pub down-climbs : (b : ℕ) → b ≡ another tails flows v x → length flows ≤ b → e ≡ another heads flows v x → longer ≡ w ++ (up e ∷ [])
-          → next ≡ getD tails e 0 → r ≡ packed (ups (left - 1) longer e next) → r ≡ packed (downs left w x v)
+          → next ≡ getD tails e 0 → P (ups (left - 1) longer e next) → P (downs left w x v)
       unfolding downWalk
       down-climbs b j h i l g q =
           let stuck : ltb (another tails flows v x) (length flows) ≡ false = rw j at (le-ltb b (length flows) h) in
           let turn : downs (suc (left - 1)) w x v
           ≡ ups (left - 1) (w ++ (up (another heads flows v x) ∷ [])) (another heads flows v x) (getD tails (another heads flows v x) 0) =
           rw (fresh, stuck, downWalk) in
-          q ∙ ap packed (climbed (left - 1) i l g ∙ sym turn ∙ ap (λ (k : ℕ). downs k w x v) (sym one))
+          subst P (climbed (left - 1) i l g ∙ sym turn ∙ ap (λ (k : ℕ). downs k w x v) (sym one)) q
 
       pub up-falls : parts tails flows v ≡ true → e ≡ another tails flows v x → longer ≡ w ++ (down e ∷ []) → next ≡ getD heads e 0
-          → r ≡ packed (downs (left - 1) longer e next) → r ≡ packed (ups left w x v)
+          → P (downs (left - 1) longer e next) → P (ups left w x v)
       unfolding downWalk
       up-falls p i l g q =
           let turn : ups (suc (left - 1)) w x v
           ≡ downs (left - 1) (w ++ (down (another tails flows v x) ∷ [])) (another tails flows v x) (getD heads (another tails flows v x) 0) =
           rw (fresh, p, upWalk) in
-          q ∙ ap packed (fallen (left - 1) i l g ∙ sym turn ∙ ap (λ (k : ℕ). ups k w x v) (sym one))
+          subst P (fallen (left - 1) i l g ∙ sym turn ∙ ap (λ (k : ℕ). ups k w x v) (sym one)) q
 
       pub up-climbs : parts tails flows v ≡ false → e ≡ another heads flows v x → longer ≡ w ++ (up e ∷ []) → next ≡ getD tails e 0
-          → r ≡ packed (ups (left - 1) longer e next) → r ≡ packed (ups left w x v)
+          → P (ups (left - 1) longer e next) → P (ups left w x v)
       unfolding downWalk
       up-climbs p i l g q =
           let turn : ups (suc (left - 1)) w x v
           ≡ ups (left - 1) (w ++ (up (another heads flows v x) ∷ [])) (another heads flows v x) (getD tails (another heads flows v x) 0) =
           rw (fresh, p, upWalk) in
-          q ∙ ap packed (climbed (left - 1) i l g ∙ sym turn ∙ ap (λ (k : ℕ). ups k w x v) (sym one))
+          subst P (climbed (left - 1) i l g ∙ sym turn ∙ ap (λ (k : ℕ). ups k w x v) (sym one)) q

@@ -12,7 +12,7 @@ ghost use Rattle.sets.specs.Sets.{withBit, setOf};
 ghost use Rattle.sets.specs.Inner.{wordWidth, setsOf};
 ghost use Rattle.move_cycle.specs.Steps.{codeUp, stride};
 ghost use Rattle.solve_walk.specs.Walk.{another, firstMet, downWalk, upWalk, cycleOf, packed};
-ghost use Rattle.solve_walk.specs.Inner.{gone};
+ghost use Rattle.solve_walk.specs.Inner.{gone, StopsWith};
 ghost use Rattle.solve_walk.specs.Chart.{Charted, Seen, anotherBy, partsBy};
 
 // The steps of a walk, from the first on; 0 in the places past them.
@@ -24,6 +24,13 @@ pub struct Walk {
 // The steps of a walk so far, from the first on: no more than there are vertices.
 pub struct Way {
     pub count: u32,
+    pub steps: [StepCode; Board::MAX_VERTICES],
+}
+
+// Where a walk stopped: its steps, and how many of them came before the vertex that it met again.
+pub struct Stop {
+    pub count: u32,
+    pub from: u32,
     pub steps: [StepCode; Board::MAX_VERTICES],
 }
 
@@ -123,14 +130,19 @@ fn walk_from(walk: Way, k: u32) -> Walk
     }
 }
 
-// The steps since v was first met.
-fn since_met<'a>(tails: &'a [u32], heads: &'a [u32], walk: Way, v: u32) -> Walk
+// The walk that stops at v.
+fn stopped<'a>(tails: &'a [u32], heads: &'a [u32], walk: Way, v: u32) -> Stop
     requires { ⌜ walk .count ≤ maxVertices ⌝ }
-    ensures { λ r. ⌜ r ≡ packed (drop (firstMet (now (tails .entry)) (now (heads .entry)) (gone walk) v)
-        (gone walk)) ⌝ }
+    ensures { λ r. ⌜ StopsWith (drop (firstMet (now (tails .entry)) (now (heads .entry)) (gone walk) v)
+        (gone walk)) r ⌝ }
 {
     let k = first_met(tails, heads, walk, v);
-    walk_from(walk, k)
+    let steps = walk.steps;
+    Stop {
+        count: walk.count,
+        from: k,
+        steps: steps,
+    }
 }
 
 // The walk came over edge x to v: down by the lowest edge; up where none leaves.
@@ -146,18 +158,18 @@ fn down_walk<'a>(
     walk: Way,
     x: u32,
     v: u32,
-) -> Walk
+) -> Stop
     requires { ⌜ walk .count + left ≤ maxVertices ⌝ }
     requires { ⌜ Charted (now tails) (now heads) (now flows) (setsOf (now leaving)) (setsOf (now entering))
         (setOf positive) ⌝ }
     requires { ⌜ Seen (now tails) (now heads) (gone walk) seen ⌝ }
     requires { ⌜ v < maxVertices ⌝ }
-    ensures { λ r. ⌜ r ≡ packed (downWalk (now (tails .entry)) (now (heads .entry)) (now (flows .entry))
+    ensures { λ r. ⌜ StopsWith (downWalk (now (tails .entry)) (now (heads .entry)) (now (flows .entry))
         (another (now (tails .entry)) (now (flows .entry))) (another (now (heads .entry)) (now (flows .entry))) left
-        (gone walk) x v) ⌝ }
+        (gone walk) x v) r ⌝ }
 {
     if lists::or(left == 0, sets::word::has(seen, v as usize)) {
-        return since_met(tails, heads, walk, v);
+        return stopped(tails, heads, walk, v);
     }
     let e = fall(leaving, positive, v, x);
     if (e as usize) < flows.len() {
@@ -210,18 +222,18 @@ fn up_walk<'a>(
     walk: Way,
     x: u32,
     v: u32,
-) -> Walk
+) -> Stop
     requires { ⌜ walk .count + left ≤ maxVertices ⌝ }
     requires { ⌜ Charted (now tails) (now heads) (now flows) (setsOf (now leaving)) (setsOf (now entering))
         (setOf positive) ⌝ }
     requires { ⌜ Seen (now tails) (now heads) (gone walk) seen ⌝ }
     requires { ⌜ v < maxVertices ⌝ }
-    ensures { λ r. ⌜ r ≡ packed (upWalk (now (tails .entry)) (now (heads .entry)) (now (flows .entry))
+    ensures { λ r. ⌜ StopsWith (upWalk (now (tails .entry)) (now (heads .entry)) (now (flows .entry))
         (another (now (tails .entry)) (now (flows .entry))) (another (now (heads .entry)) (now (flows .entry))) left
-        (gone walk) x v) ⌝ }
+        (gone walk) x v) r ⌝ }
 {
     if lists::or(left == 0, sets::word::has(seen, v as usize)) {
-        return since_met(tails, heads, walk, v);
+        return stopped(tails, heads, walk, v);
     }
     if parts(leaving, positive, v) {
         let e = fall(leaving, positive, v, x);
@@ -285,7 +297,7 @@ pub fn cycle<'a>(
     };
     let none = flows.len() as u32;
     let unseen = sets::word::none();
-    down_walk(
+    let stop = down_walk(
         tails,
         heads,
         flows,
@@ -297,5 +309,11 @@ pub fn cycle<'a>(
         walk,
         none,
         source,
-    )
+    );
+    let steps = stop.steps;
+    let way = Way {
+        count: stop.count,
+        steps: steps,
+    };
+    walk_from(way, stop.from)
 }

@@ -8,6 +8,7 @@ use Rattle.sets.specs.Sets.{hasBit}
 use Rattle.board.specs.Limits.{maxVertices}
 use Rattle.graph_flows.specs.Trails.{down, up}
 use Rattle.solve_walk.specs.Walk.{another, parts}
+use Rattle.solve_walk.specs.Inner.{StopsWith}
 use Rattle.solve_walk.proofs.Charts.{falls-in, climbs-in, parting-in, seen-more}
 use Rattle.solve_walk.proofs.Walks.{room-now, room-step, room-on, left-some, vertex-bit}
 use Rattle.solve_walk.proofs.Walks.{down-stops, up-stops, down-falls, down-climbs, up-falls, up-climbs}
@@ -27,7 +28,7 @@ use Rattle.solve_walk.proofs.climb.Reads as climb-reads
 use Rattle.solve_walk.proofs.fall.Reads as fall-reads
 use Rattle.solve_walk.proofs.meet.Reads as meet-reads
 use Rattle.solve_walk.proofs.parts.Reads as parts-reads
-use Rattle.solve_walk.proofs.since_met.Reads as since-met-reads
+use Rattle.solve_walk.proofs.stopped.Reads as stopped-reads
 use Rattle.solve_walk.proofs.with_step.Reads as with-step-reads
 use Rattle.solve_walk.proofs.+down_walk+up_walk.{statement}
 use Rattle.solve_walk.proofs.+down_walk+up_walk.Tie.{close}
@@ -58,8 +59,8 @@ down-calls t = (
   has-reads.Learnt,
   or-reads.Asked,
   or-reads.Learnt,
-  since-met-reads.Asked,
-  since-met-reads.Learnt,
+  stopped-reads.Asked,
+  stopped-reads.Learnt,
   fall-reads.Asked,
   fall-reads.Learnt,
   with-step-reads.Asked,
@@ -82,8 +83,8 @@ up-calls t = (
   has-reads.Learnt,
   or-reads.Asked,
   or-reads.Learnt,
-  since-met-reads.Asked,
-  since-met-reads.Learnt,
+  stopped-reads.Asked,
+  stopped-reads.Learnt,
   parts-reads.Asked,
   parts-reads.Learnt,
   fall-reads.Asked,
@@ -138,14 +139,14 @@ down-walk-has-requires t c κs = search needs
 down-walk-or-requires : (t : ℕ) → down-walk-lts.Need-or-requires (down-calls t) (down-walk-at t) down-walk.Post
 down-walk-or-requires t c κs = search needs
 
-down-walk-since-met-requires : (t : ℕ) → down-walk-lts.Need-since-met-requires (down-calls t) (down-walk-at t) down-walk.Post
-down-walk-since-met-requires t c κs = let s = down-start t (c .before) in room-now _ _ (s .pre .1 .0)
+down-walk-stopped-requires : (t : ℕ) → down-walk-lts.Need-stopped-requires (down-calls t) (down-walk-at t) down-walk.Post
+down-walk-stopped-requires t c κs = let s = down-start t (c .before) in room-now _ _ (s .pre .1 .0)
 
 down-walk-returns : (t : ℕ) → down-walk-lts.Need-returns (down-calls t) (down-walk-at t) down-walk.Post
 down-walk-returns t c =
     let stops = c .before in
     let s = down-start t (stops .before) in
-    down-stops _ _ _ _ _ _ _ _ _ _ (s .pre .1 .1 .1 .0 _ (s .pre .1 .1 .1 .1)) (down-stop t (stops .before)) (stops .if1 .taken) (c .since-met .ensures)
+    down-stops _ _ _ _ _ _ _ _ _ (λ w. StopsWith w (c .stopped .result)) (s .pre .1 .1 .1 .0 _ (s .pre .1 .1 .1 .1)) (down-stop t (stops .before)) (stops .if1 .taken) (c .stopped .ensures)
 
 down-walk-fall-requires : (t : ℕ) → down-walk-lts.Need-fall-requires (down-calls t) (down-walk-at t) down-walk.Post
 down-walk-fall-requires t c κs = search needs
@@ -204,7 +205,7 @@ down-walk-returns-2 t c =
     let fell = forks .before in
     let goes = fell .before in
     let s = down-from t goes in
-    down-falls _ _ _ _ _ _ _ _ _ _ (s .pre .1 .1 .1 .0 _ (s .pre .1 .1 .1 .1)) (down-stop t (goes .before)) (goes .if1 .left) _ _ _ (down-fell t fell) (forks .if2 .taken)
+    down-falls _ _ _ _ _ _ _ _ _ (λ w. StopsWith w (c .down-walk .result)) (s .pre .1 .1 .1 .0 _ (s .pre .1 .1 .1 .1)) (down-stop t (goes .before)) (goes .if1 .left) _ _ _ (down-fell t fell) (forks .if2 .taken)
     (steps .with-step .ensures .0) (next .word-at .ensures) (c .down-walk .ensures)
 
 down-walk-climb-requires : (t : ℕ) → down-walk-lts.Need-climb-requires (down-calls t) (down-walk-at t) down-walk.Post
@@ -259,7 +260,7 @@ down-walk-returns-3 t c =
     let s = down-from t goes in
     let forks = climbed .before in
     let fell = forks .before in
-    down-climbs _ _ _ _ _ _ _ _ _ _ (s .pre .1 .1 .1 .0 _ (s .pre .1 .1 .1 .1)) (down-stop t (goes .before)) (goes .if1 .left) _ _ _ _ (down-fell t fell) (forks .if2 .left) (down-climbed t climbed)
+    down-climbs _ _ _ _ _ _ _ _ _ (λ w. StopsWith w (c .up-walk .result)) (s .pre .1 .1 .1 .0 _ (s .pre .1 .1 .1 .1)) (down-stop t (goes .before)) (goes .if1 .left) _ _ _ _ (down-fell t fell) (forks .if2 .left) (down-climbed t climbed)
     (steps .with-step2 .ensures .0) (next .word-at2 .ensures) (c .up-walk .ensures)
 
 -- ---- the walk came up
@@ -305,14 +306,14 @@ up-walk-has-requires t c κs = search needs
 up-walk-or-requires : (t : ℕ) → up-walk-lts.Need-or-requires (up-calls t) (up-walk-at t) up-walk.Post
 up-walk-or-requires t c κs = search needs
 
-up-walk-since-met-requires : (t : ℕ) → up-walk-lts.Need-since-met-requires (up-calls t) (up-walk-at t) up-walk.Post
-up-walk-since-met-requires t c κs = let s = up-start t (c .before) in room-now _ _ (s .pre .1 .0)
+up-walk-stopped-requires : (t : ℕ) → up-walk-lts.Need-stopped-requires (up-calls t) (up-walk-at t) up-walk.Post
+up-walk-stopped-requires t c κs = let s = up-start t (c .before) in room-now _ _ (s .pre .1 .0)
 
 up-walk-returns : (t : ℕ) → up-walk-lts.Need-returns (up-calls t) (up-walk-at t) up-walk.Post
 up-walk-returns t c =
     let stops = c .before in
     let s = up-start t (stops .before) in
-    up-stops _ _ _ _ _ _ _ _ _ _ (s .pre .1 .1 .1 .0 _ (s .pre .1 .1 .1 .1)) (up-stop t (stops .before)) (stops .if1 .taken) (c .since-met .ensures)
+    up-stops _ _ _ _ _ _ _ _ _ (λ w. StopsWith w (c .stopped .result)) (s .pre .1 .1 .1 .0 _ (s .pre .1 .1 .1 .1)) (up-stop t (stops .before)) (stops .if1 .taken) (c .stopped .ensures)
 
 up-walk-parts-requires : (t : ℕ) → up-walk-lts.Need-parts-requires (up-calls t) (up-walk-at t) up-walk.Post
 up-walk-parts-requires t c κs = search needs
@@ -368,7 +369,7 @@ up-walk-returns-2 t c =
     let goes = fell .before .before .before in
     let s = up-from t goes in
     let forks = fell .before in
-    up-falls _ _ _ _ _ _ _ _ _ _ (s .pre .1 .1 .1 .0 _ (s .pre .1 .1 .1 .1)) (up-stop t (goes .before)) (goes .if1 .left) _ _ _ (sym (up-parted t (forks .before)) ∙ forks .if2 .taken) (up-fell t fell)
+    up-falls _ _ _ _ _ _ _ _ _ (λ w. StopsWith w (c .down-walk .result)) (s .pre .1 .1 .1 .0 _ (s .pre .1 .1 .1 .1)) (up-stop t (goes .before)) (goes .if1 .left) _ _ _ (sym (up-parted t (forks .before)) ∙ forks .if2 .taken) (up-fell t fell)
     (steps .with-step .ensures .0) (next .word-at .ensures) (c .down-walk .ensures)
 
 up-walk-climb-requires : (t : ℕ) → up-walk-lts.Need-climb-requires (up-calls t) (up-walk-at t) up-walk.Post
@@ -422,7 +423,7 @@ up-walk-returns-3 t c =
     let goes = climbed .before .before .before in
     let s = up-from t goes in
     let forks = climbed .before in
-    up-climbs _ _ _ _ _ _ _ _ _ _ (s .pre .1 .1 .1 .0 _ (s .pre .1 .1 .1 .1)) (up-stop t (goes .before)) (goes .if1 .left) _ _ _ (sym (up-parted t (forks .before)) ∙ forks .if2 .left) (up-climbed t climbed)
+    up-climbs _ _ _ _ _ _ _ _ _ (λ w. StopsWith w (c .up-walk .result)) (s .pre .1 .1 .1 .0 _ (s .pre .1 .1 .1 .1)) (up-stop t (goes .before)) (goes .if1 .left) _ _ _ (sym (up-parted t (forks .before)) ∙ forks .if2 .left) (up-climbed t climbed)
     (steps .with-step2 .ensures .0) (next .word-at2 .ensures) (c .up-walk .ensures)
 
 pub +down-walk+up-walk-spec : {M : Type 1} → statement M
@@ -431,7 +432,7 @@ pub +down-walk+up-walk-spec : {M : Type 1} → statement M
     down-walk.Post
     (down-walk-has-requires t)
     (down-walk-or-requires t)
-    (down-walk-since-met-requires t)
+    (down-walk-stopped-requires t)
     (down-walk-returns t)
     (down-walk-fall-requires t)
     (down-walk-cast-if2 t)
@@ -455,7 +456,7 @@ pub +down-walk+up-walk-spec : {M : Type 1} → statement M
     up-walk.Post
     (up-walk-has-requires t)
     (up-walk-or-requires t)
-    (up-walk-since-met-requires t)
+    (up-walk-stopped-requires t)
     (up-walk-returns t)
     (up-walk-parts-requires t)
     (up-walk-fall-requires t)

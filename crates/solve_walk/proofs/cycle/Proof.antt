@@ -1,7 +1,8 @@
--- A walk of no steps has met no vertex, and the walk down from the source that starts so is the definition.
+-- A walk of no steps has met no vertex, and the walk down from the source that starts so is the definition; the cycle is the part of it since the vertex met again.
+use mathlib.Core.Path.{ap, _∙_}
 use native.Mathlib.Omega.{arith}
 use Rattle.move_cycle.specs.Steps.{codeSteps}
-use Rattle.solve_walk.specs.Walk.{cycleOf}
+use Rattle.solve_walk.specs.Walk.{cycleOf, packed}
 use Rattle.solve_walk.proofs.Charts.{seen-none}
 use borrow.Author.Needs.{needs}
 use Rattle.solve_walk.proofs.cycle.Statement.{statement}
@@ -19,9 +20,12 @@ down-walk-requires c κs =
     let s = c .before .before .before .before .before .before in
     (omega arith, (s .pre .1 .0, (rw (c .none .ensures) (seen-none _ _), s .pre .1 .1)))
 
+walk-from-requires : tie.Need-walk-from-requires
+walk-from-requires c κs = let stop = c .before .down-walk .ensures in (stop .inside, stop .short)
+
 returns : tie.Need-returns
 unfolding cycleOf codeSteps
-returns c = c .down-walk .ensures
+returns c = c .walk-from .ensures ∙ ap packed (c .before .before .down-walk .ensures .cycle)
 
 pub cycle-spec : {M : Type 1} → statement M
-cycle-spec = tie.close (tie.spec cast-none none-requires down-walk-requires returns)
+cycle-spec = tie.close (tie.spec cast-none none-requires down-walk-requires walk-from-requires returns)
