@@ -5,7 +5,7 @@ use Prim.Native.Nat.{ℕ, _-_, _^_}
 use lib.Dec.{eqb}
 use Rattle.lists.specs.Choice.{pick}
 use Rattle.lists.specs.Lists.{lowest}
-use Rattle.sets.specs.Sets.{none, hasBit}
+use Rattle.sets.specs.Sets.{none, EdgeWord, hasBit}
 
 -- how many numbers a word has room for, and how many a set of edges
 abbrev pub wordWidth : ℕ
@@ -15,7 +15,7 @@ abbrev pub setWidth : ℕ
 setWidth = wordWidth
 
 -- the sets that a list of the code's `EdgeSet` stands for (`setOf`)
-abbrev pub setsOf : List ℕ → List ℕ
+abbrev pub setsOf : List EdgeWord → List ℕ
 setsOf ms = ms
 
 -- whether a set is empty

@@ -9,11 +9,14 @@ use Rattle.lists.specs.Choice.{pick}
 abbrev pub none : ℕ
 none = 0
 
--- the set that the code's `EdgeSet` stands for: its one word; and the code's empty set
-abbrev pub setOf : ℕ → ℕ
+-- what the code's `EdgeSet` is to the definitions: its one word; the set that it stands for; and the code's empty set
+abbrev pub EdgeWord : Type 0
+EdgeWord = ℕ
+
+abbrev pub setOf : EdgeWord → ℕ
 setOf m = m
 
-abbrev pub noWord : ℕ
+abbrev pub noWord : EdgeWord
 noWord = none
 
 -- whether c is in the set

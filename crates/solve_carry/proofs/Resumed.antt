@@ -14,7 +14,7 @@ use Rattle.lists.specs.Choice.{pick, both}
 use Rattle.lists.specs.Lists.{lowest}
 use Rattle.lists.proofs.Laws.{Known, was-true, was-false, known, lt-or-ge, eq-or-ne, pick-yes, pick-no, both-left, both-right}
 use Rattle.lists.proofs.Lowest.{Least, lowest-least}
-use Rattle.sets.specs.Sets.{hasBit}
+use Rattle.sets.specs.Sets.{noWord, hasBit}
 use Rattle.sets.proofs.Scan.{lowest-is}
 use Rattle.board.specs.declared.Network.{Network}
 use Rattle.move_carry.specs.Opens.{flowFits, entersIn, fitsIn, isOpenIn, openEdgeIn, hasOpenIn, openTerminalIn, someOpenIn}
@@ -171,7 +171,7 @@ carry-resumes net flows marks places needs long some =
 
 -- no search looks at the tails, the text's flows or the homes
 pub resumes-bare : (net : Network) (flows : List ℕ) (marks : ℕ) (places : List ℕ) (i : ℕ) → Resumes net flows marks places i
-    → Resumes (netOf (frameOf net 0 0 0) [] (net .heads) (net .demands)) flows marks places i
+    → Resumes (netOf (frameOf net noWord noWord 0) [] (net .heads) (net .demands)) flows marks places i
 unfolding hasOpenIn openEdgeIn isOpenIn entersIn
 resumes-bare net flows marks places i r = record { inside = r .inside; none-below = r .none-below }
 
