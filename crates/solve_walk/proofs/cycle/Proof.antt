@@ -21,7 +21,7 @@ down-walk-requires c κs =
     (omega arith, (s .pre .1 .0, (rw (c .none .ensures) (seen-none _ _), s .pre .1 .1)))
 
 walk-from-requires : tie.Need-walk-from-requires
-walk-from-requires c κs = let stop = c .before .down-walk .ensures in (stop .inside, stop .short)
+walk-from-requires c κs = let stop = c .before .down-walk .ensures in (omega (arith, stop .inside), stop .short)
 
 returns : tie.Need-returns
 unfolding cycleOf codeSteps
