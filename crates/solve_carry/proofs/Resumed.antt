@@ -2,7 +2,7 @@
 -- unmarked edge that was too low for a lower terminal stays too low, and a marked edge, whose flow was the demand, is empty now. All else is as it was for them.
 use mathlib.Core.Path.{_≡_, refl, sym, ap, _∙_}
 use mathlib.Core.Bool.{Bool, true, false, true≢false}
-use mathlib.Core.List.{List, []}
+use mathlib.Core.List.{List}
 use mathlib.Core.Logic.{_⊎_, inl, inr}
 use Prim.Native.Nat.{ℕ, _-_, _+_, _<_, _≤_}
 use native.Mathlib.Omega.{arith}
@@ -170,10 +170,10 @@ carry-resumes net flows marks places needs long some =
     resumes-after net flows marks places needs long _ _ (chosen net flows marks places some) (lower-none net flows marks places some)
 
 -- no search looks at the tails, the text's flows or the homes
-pub resumes-bare : (net : Network) (flows : List ℕ) (marks : ℕ) (places : List ℕ) (i : ℕ) → Resumes net flows marks places i
-    → Resumes (netOf (frameOf net noWord noWord 0) [] (net .heads) (net .demands)) flows marks places i
+pub resumes-bare : (net : Network) (tails flows : List ℕ) (marks : ℕ) (places : List ℕ) (i : ℕ) → Resumes net flows marks places i
+    → Resumes (netOf (frameOf net noWord noWord 0) tails (net .heads) (net .demands)) flows marks places i
 unfolding hasOpenIn openEdgeIn isOpenIn entersIn
-resumes-bare net flows marks places i r = record { inside = r .inside; none-below = r .none-below }
+resumes-bare net tails flows marks places i r = record { inside = r .inside; none-below = r .none-below }
 
 -- a search from the first terminal on
 pub resumes-first : (net : Network) (flows : List ℕ) (marks : ℕ) (places : List ℕ) → Resumes net flows marks places 0

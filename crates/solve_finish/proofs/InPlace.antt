@@ -24,6 +24,7 @@ use Rattle.move_turn.proofs.Changes.{change-accepted, change-refused, change-pl
 use Rattle.move_turn.proofs.Lent.{bounds-turnable, turn-of-bare}
 use Rattle.solve_carry.specs.Search.{markedOpenIn, markedEdgeIn, chosenEdgeIn}
 use Rattle.solve_carry.specs.Inner.{Resumes}
+use Rattle.solve_carry.proofs.Resumed.{resumes-bare}
 use Rattle.solve_next.specs.Choosing.{Act, relocate, augment, allHomeIn, nextActIn}
 use Rattle.solve_next.specs.Parts.{Movable}
 use Rattle.solve_finish.specs.declared.Progress.{Progress}
@@ -58,10 +59,6 @@ bare-bounds net flows places bounds = record {
   needs = bounds .needs;
 }
 
-bare-resumes : (net : Network) (flows : List ℕ) (marks : ℕ) (places : List ℕ) (i : ℕ) → Resumes net flows marks places i → Resumes (bareOf net) flows marks places i
-unfolding hasOpenIn openEdgeIn isOpenIn entersIn
-bare-resumes net flows marks places i r = record { inside = r .inside; none-below = r .none-below }
-
 -- no move
 pub halts : (answer : ℕ) (frame : Frame) (flows places : List ℕ) (r : Progress) → PositiveSet flows (frame .positive) → allSmall flows ≡ true
     → HaltsWith answer frame r → Makes (unchanged answer flows (frame .marks) places) (madeOf r flows places)
@@ -86,7 +83,7 @@ module _ (frame : Frame) (tails heads demands leaving entering flows places : Li
     leave = subst (λ (n : Network). Incident (n .tails) leaving) (g .bare) (g .leave);
     enter = subst (λ (n : Network). Incident (n .heads) entering) (g .bare) (g .enter);
     is-positive = g .is-positive;
-    resumes = subst (λ (n : Network). Resumes n flows (frame .marks) places (frame .resume)) (g .bare) (bare-resumes (g .net) flows (frame .marks) places (frame .resume) (g .resumes));
+    resumes = subst (λ (n : Network). Resumes n flows (frame .marks) places (frame .resume)) (g .bare) (resumes-bare (g .net) (g .net .tails) flows (frame .marks) places (frame .resume) (g .resumes));
   }
 
 -- a change whose number is not 0 keeps flows, marks and places

@@ -131,7 +131,7 @@ module _ (frame : Frame) (tails heads demands leaving entering flows places : Li
   movable-searched = bounds-searched (netOf frame tails heads demands) flows places entering (frame .marks) (frame .positive) (m .bounds) (m .enter) (m .is-positive)
 
   pub movable-resumes : Resumes (netOf frame [] heads demands) flows (frame .marks) places (frame .resume)
-  movable-resumes = resumes-bare (netOf frame tails heads demands) flows (frame .marks) places (frame .resume) (m .resumes)
+  movable-resumes = resumes-bare (netOf frame tails heads demands) [] flows (frame .marks) places (frame .resume) (m .resumes)
 
   pub movable-charted : Charted tails heads flows leaving entering (frame .positive)
   movable-charted = record {
