@@ -1,5 +1,5 @@
 -- Places of the journal that are packed anew, one behind the other: what each place holds then; that blanking them again gives back the words of before where
--- they were blank; and that the words stay those of the journal, place by place, where the rest of it is as it was.
+-- they were blank; that they hold what was packed last; and that the words stay those of the journal, place by place, where the rest of it is as it was.
 use mathlib.Core.Path.{_≡_, refl, sym, ap, _∙_}
 use mathlib.Core.Bool.{true, false≢true}
 use mathlib.Core.List.{List, [], _∷_}
@@ -11,10 +11,11 @@ use lib.ListN.{length, getD, set, replicate, length-set, length-map}
 use lib.Seq.{getD-set-same, getD-set-other, ext-getD}
 use borrow.Author.Tests.{eqb-true}
 use Rattle.lists.specs.Choice.{both}
-use Rattle.lists.proofs.Laws.{lt-or-ge, both-left, both-right, both-true}
+use Rattle.lists.proofs.Laws.{lt-or-ge, both-left, both-right}
 use Rattle.board.specs.Record.{blank}
 use Rattle.board.specs.Whole.{Entry}
-use Rattle.journal.specs.Words.{placeWords, packed, blankWords, standing, isZeros, isBlankAt, blankFrom, packedOn, packedAll}
+use Rattle.journal.specs.Words.{placeWords, packed, blankWords, isZeros, isBlankAt, packedOn, packedAll}
+use Rattle.journal.proofs.Laws.{blank-past}
 
 -- lists of words
 abbrev Words : Type 0
@@ -51,15 +52,6 @@ pub packed-at : (es : List Entry) (i : ℕ) → getD (packedAll es) i blankWords
 packed-at [] i = refl
 packed-at (e ∷ es) zero = refl
 packed-at (e ∷ es) (suc i) = packed-at es i
-
--- a place behind the standing moves
-pub standing-behind : (m : ℕ) (es : List Entry) (i : ℕ) → m ≤ i → getD (standing m es) i blank ≡ blank
-unfolding standing
-standing-behind m [] i h = refl
-standing-behind zero (e ∷ es) zero h = refl
-standing-behind zero (e ∷ es) (suc i) h = standing-behind zero es i (omega arith)
-standing-behind (suc m) (e ∷ es) zero h = absurd (omega arith)
-standing-behind (suc m) (e ∷ es) (suc i) h = standing-behind m es i (omega arith)
 
 module _ (at : ℕ) where
   pub packedOn-length : (k : ℕ) (es : List Entry) (w : Words) → length (packedOn k at es w) ≡ length w
@@ -115,14 +107,53 @@ module _ (at : ℕ) where
           rw e (getD-set-same (packedOn k at es w) (at + k) (packed (getD es (at + k) blank)) d (omega (arith, packedOn-length k es w)))
 
   -- blank places that were packed, and are blanked again
-  pub wiped-back : (k : ℕ) (es : List Entry) (w : Words) → blankFrom k at w ≡ true → packedOn k at [] (packedOn k at es w) ≡ w
-  unfolding packedOn blankFrom isBlankAt
+  pub wiped-back : (k : ℕ) (es : List Entry) (w : Words) → ((i : ℕ) → at ≤ i → i < at + k → isBlankAt w i ≡ true)
+      → packedOn k at [] (packedOn k at es w) ≡ w
+  unfolding packedOn isBlankAt
   wiped-back zero es w h = refl
   wiped-back (suc k) es w h =
       ap (λ (t : Words). set t (at + k) blankWords) (packedOn-behind k [] (packedOn k at es w) (at + k) (packed (getD es (at + k) blank)) (omega arith))
       ∙ set-twice (packedOn k at [] (packedOn k at es w)) (at + k) (packed (getD es (at + k) blank)) blankWords
-      ∙ ap (λ (t : Words). set t (at + k) blankWords) (wiped-back k es w (both-left _ _ h))
-      ∙ set-there w (at + k) blankWords (zeros-blank 5 (getD w (at + k) blankWords) (both-right (blankFrom k at w) _ h))
+      ∙ ap (λ (t : Words). set t (at + k) blankWords) (wiped-back k es w (λ i low high. h i low (omega arith)))
+      ∙ set-there w (at + k) blankWords (zeros-blank 5 (getD w (at + k) blankWords) (h (at + k) (omega arith) (omega arith)))
+
+  -- places that were blanked
+  pub wiped-blank : (k : ℕ) (w : Words) (i : ℕ) → at ≤ i → i < at + k → isBlankAt (packedOn k at [] w) i ≡ true
+  unfolding isBlankAt isZeros both
+  wiped-blank k w i low high = go (lt-or-ge i (length w))
+    where
+      go : (i < length w) ⊎ (length w ≤ i) → isBlankAt (packedOn k at [] w) i ≡ true
+      go (inl h) = ap (isZeros placeWords) (packedOn-at k [] w i blankWords low high h)
+      go (inr h) = sym (blank-past (packedOn k at [] w) i (omega (arith, h, packedOn-length k [] w)))
+
+  -- places that were packed twice
+  pub packedOn-over : (k n : ℕ) (es fs : List Entry) (w : Words) → k ≤ n → packedOn n at fs (packedOn k at es w) ≡ packedOn n at fs w
+  packedOn-over k n es fs w less =
+      ext-getD blankWords (packedOn n at fs (packedOn k at es w)) (packedOn n at fs w)
+      (packedOn-length n fs (packedOn k at es w) ∙ packedOn-length k es w ∙ sym (packedOn-length n fs w))
+      (λ i h. each i (omega (arith, h, packedOn-length n fs (packedOn k at es w), packedOn-length k es w)))
+    where
+      outside : (i : ℕ) → (i < at) ⊎ (at + n ≤ i) → (i < at) ⊎ (at + k ≤ i)
+      outside i (inl l) = inl l
+      outside i (inr l) = inr (omega arith)
+
+      other : (i : ℕ) → (i < at) ⊎ (at + n ≤ i) → getD (packedOn n at fs (packedOn k at es w)) i blankWords ≡ getD (packedOn n at fs w) i blankWords
+      other i h =
+          packedOn-other n fs (packedOn k at es w) i blankWords h ∙ packedOn-other k es w i blankWords (outside i h)
+          ∙ sym (packedOn-other n fs w i blankWords h)
+
+      each : (i : ℕ) → i < length w → getD (packedOn n at fs (packedOn k at es w)) i blankWords ≡ getD (packedOn n at fs w) i blankWords
+      each i inside = low (lt-or-ge i at)
+        where
+          high : at ≤ i → (i < at + n) ⊎ (at + n ≤ i) → getD (packedOn n at fs (packedOn k at es w)) i blankWords ≡ getD (packedOn n at fs w) i blankWords
+          high l (inl h) =
+              packedOn-at n fs (packedOn k at es w) i blankWords l h (omega (arith, inside, packedOn-length k es w))
+              ∙ sym (packedOn-at n fs w i blankWords l h inside)
+          high l (inr h) = other i (inr h)
+
+          low : (i < at) ⊎ (at ≤ i) → getD (packedOn n at fs (packedOn k at es w)) i blankWords ≡ getD (packedOn n at fs w) i blankWords
+          low (inl l) = other i (inl l)
+          low (inr l) = high l (lt-or-ge i (at + n))
 
   -- the words stay those of the journal where the other places are as they were
   pub packedOn-all : (k : ℕ) (es fs : List Entry) → length es ≡ length fs → ((i : ℕ) → (i < at) ⊎ (at + k ≤ i) → getD es i blank ≡ getD fs i blank)
@@ -145,18 +176,6 @@ module _ (at : ℕ) where
           low : (i < at) ⊎ (at ≤ i) → getD (packedOn k at fs (packedAll es)) i blankWords ≡ getD (packedAll fs) i blankWords
           low (inl l) = outside i (inl l)
           low (inr l) = high l (lt-or-ge i (at + k))
-
-blank-zeros : isZeros placeWords blankWords ≡ true
-unfolding isZeros both
-blank-zeros = refl
-
--- the places behind the standing moves are blank
-pub blank-behind : (k m : ℕ) (es : List Entry) → blankFrom k m (packedAll (standing m es)) ≡ true
-unfolding blankFrom isBlankAt
-blank-behind zero m es = refl
-blank-behind (suc k) m es =
-    both-true (blankFrom k m (packedAll (standing m es))) _ (blank-behind k m es)
-    (ap (isZeros placeWords) (packed-at (standing m es) (m + k) ∙ ap packed (standing-behind m es (m + k) (omega arith))) ∙ blank-zeros)
 
 -- an empty journal
 pub packed-none : (n : ℕ) → packedAll (replicate n blank) ≡ replicate n blankWords

@@ -86,11 +86,6 @@ isZeros (suc n) (x ∷ w) = both (eqb x 0) (isZeros n w)
 unfoldable pub isBlankAt : List (List ℕ) → ℕ → Bool
 isBlankAt words i = isZeros placeWords (getD words i blankWords)
 
--- so many places from one on hold the blank
-unfoldable pub blankFrom : ℕ → ℕ → List (List ℕ) → Bool
-blankFrom zero at words = true
-blankFrom (suc k) at words = both (blankFrom k at words) (isBlankAt words (at + k))
-
 -- the words where so many places from one on hold the entries of a journal
 unfoldable pub packedOn : ℕ → ℕ → List Entry → List (List ℕ) → List (List ℕ)
 packedOn zero at es words = words

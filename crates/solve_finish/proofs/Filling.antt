@@ -1,102 +1,79 @@
 -- The words of a finish that has come so far: each place that it filled was blank before and holds the entry of its move, so blanking them again gives back
--- the words of before; and a place behind them that is not blank now was not blank before.
+-- the words of before; and the place behind them is as it was.
 use mathlib.Core.Path.{_≡_, refl, sym, ap, _∙_}
-use mathlib.Core.Bool.{Bool, true, false, false≢true}
+use mathlib.Core.Bool.{true}
 use mathlib.Core.List.{List, []}
 use mathlib.Core.Logic.{_⊎_, inl, inr}
-use Prim.Native.Nat.{ℕ, zero, suc, _+_, _-_, _<_, _≤_}
+use Prim.Native.Nat.{ℕ, suc, _+_, _-_, _<_, _≤_}
 use native.Mathlib.Omega.{arith}
 use lib.ListN.{length, getD, set, length-map}
 use lib.Seq.{getD-set-same, getD-set-other, set-out}
-use Rattle.lists.specs.Choice.{both}
-use Rattle.lists.proofs.Laws.{lt-or-ge, both-true}
-use Rattle.board.specs.Limits.{maxMoves}
+use Rattle.lists.proofs.Laws.{lt-or-ge}
 use Rattle.board.specs.Record.{blank}
 use Rattle.board.specs.Whole.{Entry}
-use Rattle.journal.specs.Words.{placeWords, packed, unpacked, blankWords, entriesOf, journalOf, standing, isZeros, isBlankAt, blankFrom, packedOn}
+use Rattle.journal.specs.Words.{placeWords, packed, unpacked, blankWords, entriesOf, journalOf, standing, isZeros, isBlankAt, packedOn}
 use Rattle.solve_finish.specs.Run.{Filled}
 use Rattle.journal.proofs.Laws.{add-standing, length-standing}
 use Rattle.journal.proofs.Places.{packedOn-same, packedOn-other, wiped-back}
 
--- one place that is not blank
-both-not : (a b : Bool) → (a ≡ false) ⊎ (b ≡ false) → both a b ≡ false
-unfolding both
-both-not true b (inl h) = absurd (false≢true (sym h))
-both-not true b (inr h) = h
-both-not false b h = refl
-
-pub not-blank : (k j at : ℕ) (w : List (List ℕ)) → j < k → isBlankAt w (at + j) ≡ false → blankFrom k at w ≡ false
-unfolding blankFrom
-not-blank zero j at w h n = absurd (omega arith)
-not-blank (suc k) j at w h n = both-not (blankFrom k at w) (isBlankAt w (at + k)) (go (lt-or-ge j k) (λ l. not-blank k j at w l n))
-  where
-    go : (j < k) ⊎ (k ≤ j) → (j < k → blankFrom k at w ≡ false) → (blankFrom k at w ≡ false) ⊎ (isBlankAt w (at + k) ≡ false)
-    go (inl l) ih = inl (ih l)
-    go (inr l) ih = let e : j ≡ k = omega arith in inr (rw e at n)
-
-pub filled-none : (from : ℕ) (w : List (List ℕ)) → Filled from from maxMoves w w
-unfolding blankFrom packedOn
+pub filled-none : (from : ℕ) (w : List (List ℕ)) → Filled from from w w
+unfolding packedOn
 filled-none from w =
     let z : from - from ≡ 0 = omega arith in
-    record { behind = omega arith; few = omega (arith, z); blanks = rw z refl; packs = rw z refl }
+    record { behind = omega arith; blanks = λ i low high. absurd (omega arith); packs = rw z refl }
 
-module _ (from moves left : ℕ) (old words : List (List ℕ)) (f : Filled from moves left old words) where
-  -- fewer may be left
-  pub filled-less : (left' : ℕ) → left' ≤ left → Filled from moves left' old words
-  filled-less left' h = record { behind = f .behind; few = omega (arith, f .few, h); blanks = f .blanks; packs = f .packs }
-
-  pub filled-back : (new : List (List ℕ)) → new ≡ packedOn (moves - from) from [] words → new ≡ old
+module _ (from filled : ℕ) (old words : List (List ℕ)) (f : Filled from filled old words) where
+  pub filled-back : (new : List (List ℕ)) → new ≡ packedOn (filled - from) from [] words → new ≡ old
   filled-back new e =
-      e ∙ ap (packedOn (moves - from) from []) (f .packs) ∙ wiped-back from (moves - from) (journalOf moves words) old (f .blanks)
+      e ∙ ap (packedOn (filled - from) from []) (f .packs)
+      ∙ wiped-back from (filled - from) (journalOf filled words) old (λ i low high. f .blanks i low (omega (arith, high, f .behind)))
 
   -- the next place is as it was
-  next-same : isBlankAt words moves ≡ isBlankAt old moves
+  pub next-same : isBlankAt words filled ≡ isBlankAt old filled
   unfolding isBlankAt
   next-same =
-      ap (λ (w : List (List ℕ)). isZeros placeWords (getD w moves blankWords)) (f .packs)
-      ∙ ap (isZeros placeWords) (packedOn-other from (moves - from) (journalOf moves words) old moves blankWords (inr (omega (arith, f .behind))))
+      ap (λ (w : List (List ℕ)). isZeros placeWords (getD w filled blankWords)) (f .packs)
+      ∙ ap (isZeros placeWords) (packedOn-other from (filled - from) (journalOf filled words) old filled blankWords (inr (omega (arith, f .behind))))
 
-  pub filled-blocked : (n : ℕ) → moves < n → isBlankAt words moves ≡ false → blankFrom (n - from) from old ≡ false
-  filled-blocked n more h =
-      let e : from + (moves - from) ≡ moves = omega (arith, f .behind) in
-      not-blank (n - from) (moves - from) from old (omega (arith, f .behind, more)) (rw e (sym next-same ∙ h))
+  module _ (entry : Entry) (new : List (List ℕ)) (stored : new ≡ set words filled (packed entry))
+      (listed : entriesOf new ≡ set (entriesOf words) filled entry) where
+    pub journal-more : journalOf (filled + 1) new ≡ set (journalOf filled words) filled entry
+    journal-more = ap (standing (filled + 1)) listed ∙ sym (add-standing filled (filled + 1) (entriesOf words) entry (omega arith))
 
-  module _ (entry : Entry) (new : List (List ℕ)) (stored : new ≡ set words moves (packed entry))
-      (listed : entriesOf new ≡ set (entriesOf words) moves entry) where
-    journal-more : journalOf (moves + 1) new ≡ set (journalOf moves words) moves entry
-    journal-more = ap (standing (moves + 1)) listed ∙ sym (add-standing moves (moves + 1) (entriesOf words) entry (omega arith))
+    long : length (journalOf filled words) ≡ length words
+    long = length-standing filled (entriesOf words) ∙ length-map words unpacked
 
-    long : length (journalOf moves words) ≡ length words
-    long = length-standing moves (entriesOf words) ∙ length-map words unpacked
-
-    there : set words moves (packed entry) ≡ set words moves (packed (getD (set (journalOf moves words) moves entry) moves blank))
-    there = go (lt-or-ge moves (length words))
+    there : set words filled (packed entry) ≡ set words filled (packed (getD (set (journalOf filled words) filled entry) filled blank))
+    there = go (lt-or-ge filled (length words))
       where
-        go : (moves < length words) ⊎ (length words ≤ moves)
-            → set words moves (packed entry) ≡ set words moves (packed (getD (set (journalOf moves words) moves entry) moves blank))
-        go (inl h) = ap (λ (x : Entry). set words moves (packed x)) (sym (getD-set-same (journalOf moves words) moves entry blank (omega (arith, h, long))))
-        go (inr h) = set-out words moves (packed entry) h ∙ sym (set-out words moves (packed (getD (set (journalOf moves words) moves entry) moves blank)) h)
+        go : (filled < length words) ⊎ (length words ≤ filled)
+            → set words filled (packed entry) ≡ set words filled (packed (getD (set (journalOf filled words) filled entry) filled blank))
+        go (inl h) = ap (λ (x : Entry). set words filled (packed x)) (sym (getD-set-same (journalOf filled words) filled entry blank (omega (arith, h, long))))
+        go (inr h) = set-out words filled (packed entry) h ∙ sym (set-out words filled (packed (getD (set (journalOf filled words) filled entry) filled blank)) h)
 
-    pub filled-more : (left' : ℕ) → isBlankAt words moves ≡ true → left' < left → Filled from (moves + 1) left' old new
-    unfolding blankFrom packedOn
-    filled-more left' empty less = record {
+    pub filled-more : isBlankAt words filled ≡ true → Filled from (filled + 1) old new
+    unfolding packedOn
+    filled-more empty = record {
       behind = omega (arith, f .behind);
-      few = omega (arith, f .behind, f .few, less);
-      blanks = rw e (both-true _ _ (f .blanks) (rw at (sym next-same ∙ empty)));
-      packs = rw (e, journal-more) (rw at (stored ∙ there ∙ ap (λ (w : List (List ℕ)). set w moves (packed (getD es moves blank))) before));
+      blanks = λ i low high. below i low (lt-or-ge i filled) high;
+      packs = rw (e, journal-more) (rw at (stored ∙ there ∙ ap (λ (w : List (List ℕ)). set w filled (packed (getD es filled blank))) before));
     }
       where
         es : List Entry
-        es = set (journalOf moves words) moves entry
+        es = set (journalOf filled words) filled entry
 
-        e : moves + 1 - from ≡ suc (moves - from)
+        e : filled + 1 - from ≡ suc (filled - from)
         e = omega (arith, f .behind)
 
-        at : from + (moves - from) ≡ moves
+        at : from + (filled - from) ≡ filled
         at = omega (arith, f .behind)
 
-        before : words ≡ packedOn (moves - from) from es old
+        below : (i : ℕ) → from ≤ i → (i < filled) ⊎ (filled ≤ i) → i < filled + 1 → isBlankAt old i ≡ true
+        below i low (inl h) high = f .blanks i low h
+        below i low (inr h) high = let own : i ≡ filled = omega arith in rw own (sym next-same ∙ empty)
+
+        before : words ≡ packedOn (filled - from) from es old
         before =
             f .packs
-            ∙ packedOn-same from (moves - from) (journalOf moves words) es old
-            (λ i h. sym (getD-set-other (journalOf moves words) moves i entry blank (λ q. omega (arith, q, h, at))))
+            ∙ packedOn-same from (filled - from) (journalOf filled words) es old
+            (λ i h. sym (getD-set-other (journalOf filled words) filled i entry blank (λ q. omega (arith, q, h, at))))

@@ -1,5 +1,5 @@
 -- A finish over lent words. The moves of a run fill the places behind the standing moves and change no other; so a finish of words that are those of the
--- board's journal, place by place, is that of the board, and leaves such words. And the answer on any words, by its tests one after the other.
+-- board's journal, place by place, leaves such words. And the answer by how the run ended.
 use mathlib.Core.Path.{_≡_, refl, sym, ap, _∙_}
 use mathlib.Core.Bool.{Bool, true, false}
 use mathlib.Core.List.{List}
@@ -9,22 +9,20 @@ use native.Mathlib.Omega.{arith}
 use lib.Dec.{eqb}
 use lib.ListN.{length, getD, set, length-set}
 use lib.Seq.{getD-set-other}
-use Rattle.lists.specs.Choice.{pick, both}
-use Rattle.lists.proofs.Laws.{Known, was-true, was-false, known, eq-or-ne, pick-yes, pick-no, both-left, both-right}
+use Rattle.lists.proofs.Laws.{Known, was-true, was-false, known, eq-or-ne, pick-yes, pick-no}
 use Rattle.board.specs.Limits.{maxMoves}
 use Rattle.board.specs.Record.{blank}
 use Rattle.board.specs.Whole.{Entry, Board, Played, Table}
-use Rattle.journal.specs.Words.{wholeOf, entriesOf, blankFrom, packedOn, wordsAfter, packedAll}
-use Rattle.journal.proofs.Places.{packedOn-all, blank-behind}
+use Rattle.journal.specs.Words.{wholeOf, packedOn, wordsAfter, packedAll}
+use Rattle.journal.proofs.Places.{packedOn-all}
 use Rattle.journal.proofs.After.{after-none, after-many}
 use Rattle.move_guard.proofs.Answers.{answered-yes, answered-no}
 use Rattle.solve_next.specs.Choosing.{Act, relocate, augment, allHome, judge, acted, nextAct, allHomeIn}
 use Rattle.move_guard.specs.Guard.{playing}
 use Rattle.solve_finish.specs.declared.Ran.{Ran}
-use Rattle.solve_finish.specs.Run.{ranTo, RanOut}
+use Rattle.solve_finish.specs.Run.{ranTo, RanOut, RanFull}
 use Rattle.solve_finish.specs.Finishes.{Finished}
 use Rattle.solve_finish.specs.Finishes.{stepped, steppedOn, playedOut, finishRefusal, ended, finishCall}
-use Rattle.solve_finish.specs.Lent.{finishOn}
 use Rattle.solve_finish.proofs.Stepping.{away, finish-stuck, finish-made}
 use Rattle.solve_finish.proofs.Making.{home-stops, on-stops}
 use Rattle.move_carry.specs.Carries.{carriedIn}
@@ -87,17 +85,6 @@ pub further-out : (b : Board) → Further b (playedOut b)
 unfolding playedOut
 further-out b = further-on maxMoves b
 
--- a run that goes on comes to a board with more moves
-pub run-further : (n : ℕ) (next last : Board) → steppedOn n next ≡ last → next .moves ≤ last .moves
-run-further n next last e = omega (arith, further-on n next .moves, ap (λ (b : Board). b .moves) e)
-
--- words that are those of the journal
-pub finish-on-packed : (t : Table) (w : List (List ℕ)) → w ≡ packedAll (wholeOf t w .journal) → finishOn t w ≡ finishCall (wholeOf t w)
-unfolding finishOn
-finish-on-packed t w e =
-    let b = wholeOf t w in
-    pick-yes _ _ _ (ap (blankFrom (playedOut b .moves - b .moves) (b .moves)) e ∙ blank-behind (playedOut b .moves - b .moves) (b .moves) (entriesOf w))
-
 pub finish-packed : (b : Board) (w : List (List ℕ)) → w ≡ packedAll (b .journal)
     → wordsAfter (b .moves) (finishCall b .board) w ≡ packedAll (finishCall b .board .journal)
 unfolding finishCall
@@ -126,71 +113,30 @@ finish-packed b w e = go (known (eqb (finishRefusal b) 0))
         let s : finishCall b ≡ record { answer = finishRefusal b; count = 0; board = b } = pick-no {A = Finished} _ _ _ t in
         rw s (after-none (b .moves) b w refl ∙ e)
 
--- the answer on any words, and the words that it leaves
+-- the words that an answer leaves
 module _ (t : Table) (w : List (List ℕ)) where
-  abbrev whole : Board
-  whole = wholeOf t w
+  pub words-refused : record { answer = 20; count = 0; board = wholeOf t w } ≡ finishCall (wholeOf t w)
+      → w ≡ wordsAfter (t .moves) (finishCall (wholeOf t w) .board) w
+  words-refused e = rw (← e) (sym (after-none (t .moves) (wholeOf t w) w refl))
 
-  abbrev refused : Finished
-  refused = record { answer = 20; count = 0; board = wholeOf t w }
-
-  pub on-refused : record { answer = 20; count = 0; board = wholeOf t w } ≡ finishCall (wholeOf t w)
-      → record { answer = 20; count = 0; board = wholeOf t w } ≡ finishOn t w
-  unfolding finishOn
-  on-refused e = go (known (blankFrom (playedOut whole .moves - t .moves) (t .moves) w))
-    where
-      go : Known (blankFrom (playedOut whole .moves - t .moves) (t .moves) w)
-          → refused ≡ pick (blankFrom (playedOut whole .moves - t .moves) (t .moves) w) (finishCall whole) refused
-      go (was-true y) = e ∙ sym (pick-yes _ _ _ y)
-      go (was-false n) = sym (pick-no _ _ _ n)
-
-  pub on-blocked : blankFrom (playedOut (wholeOf t w) .moves - t .moves) (t .moves) w ≡ false
-      → record { answer = 20; count = 0; board = wholeOf t w } ≡ finishOn t w
-  unfolding finishOn
-  on-blocked n = sym (pick-no _ _ _ n)
-
-  pub on-made : (r : Finished) → blankFrom (playedOut (wholeOf t w) .moves - t .moves) (t .moves) w ≡ true → r ≡ finishCall (wholeOf t w) → r ≡ finishOn t w
-  unfolding finishOn
-  on-made r y e = e ∙ sym (pick-yes _ _ _ y)
-
-  pub words-refused : record { answer = 20; count = 0; board = wholeOf t w } ≡ finishOn t w → w ≡ wordsAfter (t .moves) (finishOn t w .board) w
-  words-refused e = rw (← e) (sym (after-none (t .moves) whole w refl))
-
-  pub words-made : (r : Finished) (v : List (List ℕ)) → r ≡ finishOn t w → t .moves ≤ r .board .moves
-      → v ≡ packedOn (r .board .moves - t .moves) (t .moves) (r .board .journal) w → v ≡ wordsAfter (t .moves) (finishOn t w .board) w
+  words-made : (r : Finished) (v : List (List ℕ)) → r ≡ finishCall (wholeOf t w) → t .moves ≤ r .board .moves
+      → v ≡ packedOn (r .board .moves - t .moves) (t .moves) (r .board .journal) w → v ≡ wordsAfter (t .moves) (finishCall (wholeOf t w) .board) w
   words-made r v e more h = rw (← e) (h ∙ sym (after-many (t .moves) (r .board) w more))
 
--- the answer by how the run ended, and whether every terminal is at the source then
+-- the answer by whether every terminal is at the source at the end of the run
 module _ (t : Table) (w words : List (List ℕ)) (flows places : List ℕ) (ran : Ran) (r : RanOut t w words flows places ran) (play : playing (wholeOf t w) ≡ true)
     (home : Bool) (h : home ≡ allHomeIn (t .network .terminals) (t .network .source) places) where
-  abbrev last : Board
-  last = ranTo t words flows (ran .marks) places (ran .moves)
+  pub ran-refused : home ≡ false → record { answer = 20; count = 0; board = wholeOf t w } ≡ finishCall (wholeOf t w)
+  ran-refused away = finish-stuck (wholeOf t w) play (sym (r .homes) ∙ sym h ∙ away)
 
-  at-home : home ≡ allHome last
-  at-home = h
-
-  pub ran-refused : (good : Bool) → good ≡ both (ran .blank) home → good ≡ false → record { answer = 20; count = 0; board = wholeOf t w } ≡ finishOn t w
-  unfolding both
-  ran-refused good g f = go (known (ran .blank))
+  pub ran-made : (new : List (List ℕ)) (flows' places' : List ℕ) (whole : Ran) (count : ℕ) → RanFull t w new flows' places' whole → home ≡ true
+      → count ≡ whole .moves - t .moves
+      → (record { answer = 0; count = count; board = ended (t .moves) (ranTo t new flows' (whole .marks) places' (whole .moves)) } ≡ finishCall (wholeOf t w))
+      × (new ≡ wordsAfter (t .moves) (finishCall (wholeOf t w) .board) w)
+  ran-made new flows' places' whole count full there c = (e, words-made t w _ new e (full .behind) (full .packs))
     where
-      go : Known (ran .blank) → record { answer = 20; count = 0; board = wholeOf t w } ≡ finishOn t w
-      go (was-false n) = on-blocked t w (r .blocked n)
-      go (was-true y) =
-          let away : home ≡ false = (rw y at (sym g)) ∙ f in
-          on-refused t w (finish-stuck (wholeOf t w) play (ap allHome (sym (r .over y)) ∙ sym at-home ∙ away))
+      at-home : allHome (ranTo t new flows' (whole .marks) places' (whole .moves)) ≡ true
+      at-home = ap allHome (full .over) ∙ sym (r .homes) ∙ sym h ∙ there
 
-  pub ran-made : (good : Bool) (count : ℕ) → good ≡ both (ran .blank) home → good ≡ true → count ≡ ran .moves - t .moves
-      → (record { answer = 0; count = count; board = ended (t .moves) (ranTo t words flows (ran .marks) places (ran .moves)) } ≡ finishOn t w)
-      × (words ≡ wordsAfter (t .moves) (finishOn t w .board) w)
-  ran-made good count g y c = (e, words-made t w _ words e (r .fills .behind) (r .fills .packs))
-    where
-      over : last ≡ playedOut (wholeOf t w)
-      over = r .over (both-left (ran .blank) home (sym g ∙ y))
-
-      moves : ran .moves ≡ playedOut (wholeOf t w) .moves
-      moves = ap (λ (b : Board). b .moves) over
-
-      e : record { answer = 0; count = count; board = ended (t .moves) (ranTo t words flows (ran .marks) places (ran .moves)) } ≡ finishOn t w
-      e =
-          on-made t w _ (rw moves at (r .fills .blanks))
-          (finish-made (wholeOf t w) last _ count play over (sym at-home ∙ both-right (ran .blank) home (sym g ∙ y)) c refl)
+      e : record { answer = 0; count = count; board = ended (t .moves) (ranTo t new flows' (whole .marks) places' (whole .moves)) } ≡ finishCall (wholeOf t w)
+      e = finish-made (wholeOf t w) (ranTo t new flows' (whole .marks) places' (whole .moves)) _ count play (full .over) at-home c refl

@@ -2,7 +2,7 @@
 -- the whole run does. A move that is refused ends the run, so nothing is left; an accepted one leaves one move fewer, and none where the board is not in play
 -- after it, for then the next one is refused. So where nothing is left the parts make up the board at the end of the run, and the answer of the finish is read off
 -- it.
-use mathlib.Core.Path.{_≡_, refl, sym, _∙_}
+use mathlib.Core.Path.{_≡_, refl, sym, ap, _∙_}
 use mathlib.Core.Bool.{Bool, true}
 use mathlib.Core.Logic.{_≢_}
 use mathlib.Core.List.{List}
@@ -133,11 +133,13 @@ module _ (whole : Board) (net : Network) (last : Board) (flows : List ℕ) (mark
 
 -- nothing is left of the run
 module _ (whole : Board) (net : Network) (last : Board) (flows : List ℕ) (marks : ℕ) (places : List ℕ) (moves left : ℕ)
-    (r : Run whole net last flows marks places moves left) (z : left ≡ 0) (play : playing whole ≡ true) (home : Bool)
-    (h : home ≡ allHomeIn (net .terminals) (net .source) places) where
+    (r : Run whole net last flows marks places moves left) (z : left ≡ 0) where
   pub over : standing last flows marks places moves ≡ playedOut whole
   unfolding steppedOn
   over = rw z at (r .run)
 
-  at-home : home ≡ allHome (standing last flows marks places moves)
-  at-home = h ∙ rw (← r .network) refl
+  at-home : allHomeIn (net .terminals) (net .source) places ≡ allHome (standing last flows marks places moves)
+  at-home = rw (← r .network) refl
+
+  pub home-over : allHomeIn (net .terminals) (net .source) places ≡ allHome (playedOut whole)
+  home-over = at-home ∙ ap allHome over

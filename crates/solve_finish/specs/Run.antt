@@ -5,14 +5,14 @@ use mathlib.Core.Bool.{Bool, true, false}
 use mathlib.Core.List.{List}
 use Prim.Native.Nat.{ℕ, _+_, _-_, _≤_, _<_}
 use lib.Dec.{leb, ltb, eqb}
-use lib.ListN.{length, getD}
+use lib.ListN.{length, getD, set}
 use Rattle.lists.specs.Choice.{pick, both}
 use Rattle.lists.specs.Lists.{all}
 use Rattle.sets.specs.Sets.{none, setOf, hasBit, joined}
 use Rattle.sets.specs.Inner.{dropped}
 use Rattle.move_edges.specs.Incidence.{PositiveSet}
 use Rattle.board.specs.Limits.{maxEdges, maxTerminals, maxMoves, maxTotal}
-use Rattle.board.specs.Whole.{Move, Carry, Turn, Board, entryOf, Table}
+use Rattle.board.specs.Whole.{Move, Carry, Turn, Entry, Board, entryOf, Table}
 use Rattle.board.specs.declared.Network.{Network}
 use Rattle.move_guard.specs.Guard.{playing}
 use Rattle.move_guard.specs.Moved.{unchanged}
@@ -20,11 +20,11 @@ use Rattle.move_guard.specs.Moved.{Change}
 use Rattle.move_carry.specs.Carries.{carriedIn}
 use Rattle.move_turn.specs.Turns.{turnChange}
 use Rattle.solve_carry.specs.Inner.{Resumes}
-use Rattle.solve_next.specs.Choosing.{Act, relocate, augment, allHomeIn, nextActIn}
+use Rattle.solve_next.specs.Choosing.{Act, relocate, augment, allHome, allHomeIn, nextActIn}
 use Rattle.move_edges.specs.Incidence.{Incident}
 use Rattle.move_carry.specs.declared.Frame.{Frame}
 use Rattle.move_carry.specs.Frames.{netOf, bareOf}
-use Rattle.journal.specs.Words.{wholeOf, journalOf, blankFrom, packedOn}
+use Rattle.journal.specs.Words.{packed, entriesOf, wholeOf, journalOf, isBlankAt, packedOn}
 use Rattle.solve_finish.specs.Finishes.{playedOut}
 use Rattle.solve_finish.specs.declared.Ran.{Ran}
 use Rattle.solve_finish.specs.declared.Progress.{Progress}
@@ -132,12 +132,17 @@ pub record Going (frame : Frame) (tails heads demands leaving entering flows pla
   pub is-positive : PositiveSet flows (setOf (frame .positive))
   pub resumes : Resumes net flows (setOf (frame .marks)) places (frame .resume)
 
--- so many moves stand, of them those from `from` on made by this finish, and so many may be left of its run
-pub record Filled (from moves left : ℕ) (old words : List (List ℕ)) : Type 0 where
-  pub behind : from ≤ moves
-  pub few : (moves - from) + left ≤ maxMoves
-  pub blanks : blankFrom (moves - from) from old ≡ true
-  pub packs : words ≡ packedOn (moves - from) from (journalOf moves words) old
+-- the words hold the moves of a finish that began at `from`, up to so many; their places were blank
+pub record Filled (from filled : ℕ) (old words : List (List ℕ)) : Type 0 where
+  pub behind : from ≤ filled
+  pub blanks : (i : ℕ) → from ≤ i → i < filled → isBlankAt old i ≡ true
+  pub packs : words ≡ packedOn (filled - from) from (journalOf filled words) old
+
+-- the entry of one more move was stored, at a blank place behind moves that the words hold all; or it was not, and the words stayed
+pub data Stores (filled moves : ℕ) (entry : Entry) (old words : List (List ℕ)) (after : ℕ) : Type 0 where
+  stored : filled ≡ moves → isBlankAt old filled ≡ true → words ≡ set old filled (packed entry) → entriesOf words ≡ set (entriesOf old) filled entry
+      → after ≡ filled + 1 → Stores filled moves entry old words after
+  passed : (filled ≡ moves → isBlankAt old filled ≡ false) → words ≡ old → after ≡ filled → Stores filled moves entry old words after
 
 -- the board of a table that a run has come to
 abbrev pub ranTo : Table → List (List ℕ) → List ℕ → ℕ → List ℕ → ℕ → Board
@@ -153,9 +158,19 @@ ranTo t words flows marks places moves = record {
   «finish_from» = t .«finish_from»;
 }
 
--- a run that found every place blank has come to the end of the board; one that did not has come before a place that was not blank
+-- a run to the end of the board: its words hold all the moves, or those before a place that was not blank
 pub record RanOut (t : Table) (old words : List (List ℕ)) (flows places : List ℕ) (r : Ran) : Type 0 where
-  pub fills : Filled (t .moves) (r .moves) 0 old words
+  pub fills : Filled (t .moves) (r .filled) old words
+  pub within : r .filled ≤ r .moves
+  pub few : r .moves - t .moves ≤ maxMoves
   pub short : length places ≡ maxTerminals
-  pub over : r .blank ≡ true → ranTo t words flows (setOf (r .marks)) places (r .moves) ≡ playedOut (wholeOf t old)
-  pub blocked : r .blank ≡ false → blankFrom (playedOut (wholeOf t old) .moves - t .moves) (t .moves) old ≡ false
+  pub counts : r .moves ≡ playedOut (wholeOf t old) .moves
+  pub homes : allHomeIn (t .network .terminals) (t .network .source) places ≡ allHome (playedOut (wholeOf t old))
+  pub over : r .filled ≡ r .moves → ranTo t words flows (setOf (r .marks)) places (r .moves) ≡ playedOut (wholeOf t old)
+  pub blocked : r .filled < r .moves → isBlankAt old (r .filled) ≡ false
+
+-- a run to the end of the board whose words hold all the moves
+pub record RanFull (t : Table) (old words : List (List ℕ)) (flows places : List ℕ) (r : Ran) : Type 0 where
+  pub behind : t .moves ≤ r .moves
+  pub packs : words ≡ packedOn (r .moves - t .moves) (t .moves) (journalOf (r .moves) words) old
+  pub over : ranTo t words flows (setOf (r .marks)) places (r .moves) ≡ playedOut (wholeOf t old)

@@ -15,15 +15,17 @@ ghost use Rattle.sets.specs.Inner.{setsOf};
 ghost use Rattle.move_edges.specs.Incidence.{PositiveSet};
 ghost use Rattle.move_guard.specs.Guard.{playing};
 ghost use Rattle.move_carry.specs.Frames.{netOf};
-ghost use mathlib.Core.List.{[]};
+ghost use mathlib.Core.List.{List, []};
+ghost use Prim.Native.Nat.{ℕ, _-_, _≤_};
 ghost use lib.ListN.{length};
-ghost use Rattle.board.specs.Limits.{maxEdges};
-ghost use Rattle.board.specs.Whole.{moveOf};
+ghost use Rattle.board.specs.Limits.{maxEdges, maxMoves};
+ghost use Rattle.board.specs.Whole.{moveOf, entryOf};
 ghost use Rattle.journal.specs.Words.{wholeOf, wordsAfter};
 ghost use Rattle.move_cycle.specs.Steps.{codeSteps};
 ghost use Rattle.move_turn.specs.Turns.{turnChange};
 ghost use Rattle.move_turn.specs.Lent.{Turnable};
-ghost use Rattle.solve_finish.specs.Lent.{endedOf, finishOn};
+ghost use Rattle.solve_finish.specs.Finishes.{finishCall};
+ghost use Rattle.solve_finish.specs.Lent.{endedOf};
 ghost use Rattle.solve_finish.specs.Run.{
   allSmall,
   positiveAfter,
@@ -38,7 +40,9 @@ ghost use Rattle.solve_finish.specs.Run.{
   madeOf,
   HaltsWith,
   Going,
+  Stores,
   RanOut,
+  RanFull,
 };
 
 // What a finish gives: 0, how many moves it made, and the board at the end; or the number that it is refused with, and
@@ -65,9 +69,10 @@ pub struct Seen {
     pub small: bool,
 }
 
-// How a run ended: whether every place that it came to was blank, and the marks and the count of moves then.
+// How a run ended: the marks and the count of moves then, and how many of these the journal holds: all of them, or
+// those before the first place that was not blank.
 pub struct Ran {
-    pub blank: bool,
+    pub filled: u32,
     pub marks: EdgeSet,
     pub moves: u32,
 }
@@ -283,7 +288,24 @@ fn advance<'a>(
     )
 }
 
-// Plays on as long as a move is accepted and the place of the journal for it is blank.
+// Stores the entry of a move where the journal holds all the moves before it and its place is blank; answers how many
+// moves the journal holds then.
+fn store(journal: &mut [[u64; WORDS]; Board::JOURNAL], filled: u32, moves: u32, entry: Entry) -> u32
+    requires { ⌜ moves ≤ maxMoves ⌝ }
+    ensures { λ r. ⌜ Stores filled moves (entryOf entry) (now (journal .entry)) (now (journal .exit)) r ⌝ }
+{
+    if filled != moves {
+        return filled;
+    }
+    let m = moves as usize;
+    if !journal::is_blank(journal, m) {
+        return filled;
+    }
+    journal::put_entry(journal, m, entry);
+    moves + 1
+}
+
+// Plays on as long as a move is accepted. Behind a place that is not blank nothing is stored any more.
 fn play_out(
     board: Board,
     journal: &mut [[u64; WORDS]; Board::JOURNAL],
@@ -304,6 +326,7 @@ fn play_out(
     let mut marks = board.marks;
     let mut positive = move_edges::positive(flows);
     let mut moves = board.moves;
+    let mut filled = board.moves;
     let mut resume: u32 = 0;
     let mut left = Board::JOURNAL as u32;
     while left != 0 {
@@ -330,17 +353,9 @@ fn play_out(
             left = 0;
             continue;
         }
-        let m = moves as usize;
-        if !journal::is_blank(journal, m) {
-            return Ran {
-                blank: false,
-                marks: marks,
-                moves: moves,
-            };
-        }
         let entry = made.entry;
         let step = entry.step;
-        journal::put_entry(journal, m, entry);
+        filled = store(journal, filled, moves, entry);
         resume = resumption(step);
         marks = made.marks;
         positive = made.positive;
@@ -348,18 +363,46 @@ fn play_out(
         left = left_after(left, moves, made.small);
     }
     Ran {
-        blank: true,
+        filled: filled,
         marks: marks,
         moves: moves,
     }
 }
 
-// Plays to the end, and answers how many moves that took. Where a place of the journal is not blank, or the run ends
-// with a terminal away, the places that were filled are blanked again.
+// Plays once more where the journal does not hold all the moves of a run, since one of the places that they need was
+// not blank: all of these are blanked first.
+fn play_again(
+    ran: Ran,
+    board: Board,
+    journal: &mut [[u64; WORDS]; Board::JOURNAL],
+    flows: &mut [u32; Board::MAX_EDGES],
+    places: &mut [u32; Board::MAX_TERMINALS],
+) -> Ran
+    requires { ⌜ playing (wholeOf board (now journal)) ≡ true ⌝ }
+    requires { ⌜ ran .moves - board .moves ≤ maxMoves ⌝ }
+    ensures { λ r. ⌜ ((old : List (List ℕ)) →
+        RanOut board old (now (journal .entry)) (now (flows .entry)) (now (places .entry)) ran →
+        RanFull board old (now (journal .exit)) (now (flows .exit)) (now (places .exit)) r) ⌝ }
+{
+    if ran.filled == ran.moves {
+        return ran;
+    }
+    let from = board.moves;
+    let count = lists::minus(ran.moves, from);
+    journal::wipe(journal, from as usize, count as usize);
+    let first_flows = board.flows;
+    let first_places = board.places;
+    *flows = first_flows;
+    *places = first_places;
+    play_out(board, journal, flows, places)
+}
+
+// Plays to the end, and answers how many moves that took. Where the run ends with a terminal away, the places that were
+// filled are blanked again.
 pub fn finish(board: Board, journal: &mut [[u64; WORDS]; Board::JOURNAL]) -> Finished
-    ensures { λ r. ⌜ endedOf r (now (journal .exit)) ≡ finishOn board (now (journal .entry)) ⌝ }
+    ensures { λ r. ⌜ endedOf r (now (journal .exit)) ≡ finishCall (wholeOf board (now (journal .entry))) ⌝ }
     ensures { λ _. ⌜ now (journal .exit) ≡
-        wordsAfter (board .moves) (finishOn board (now (journal .entry)) .board) (now (journal .entry)) ⌝ }
+        wordsAfter (board .moves) (finishCall (wholeOf board (now (journal .entry))) .board) (now (journal .entry)) ⌝ }
 {
     if !move_guard::playing(board, journal) {
         return Finished {
@@ -373,21 +416,22 @@ pub fn finish(board: Board, journal: &mut [[u64; WORDS]; Board::JOURNAL]) -> Fin
     let mut flows = board.flows;
     let mut places = board.places;
     let ran = play_out(board, journal, &mut flows, &mut places);
-    let home = solve_next::all_home(&places, net.terminals, net.source);
-    let count = lists::minus(ran.moves, from);
-    if !lists::and(ran.blank, home) {
-        journal::wipe(journal, from as usize, count as usize);
+    if !solve_next::all_home(&places, net.terminals, net.source) {
+        let filled = lists::minus(ran.filled, from);
+        journal::wipe(journal, from as usize, filled as usize);
         return Finished {
             answer: 20,
             count: 0,
             board: board,
         };
     }
+    let whole = play_again(ran, board, journal, &mut flows, &mut places);
+    let count = lists::minus(whole.moves, from);
     let mut last = board;
     last.flows = flows;
-    last.marks = ran.marks;
+    last.marks = whole.marks;
     last.places = places;
-    last.moves = ran.moves;
+    last.moves = whole.moves;
     last.stage = Board::FINISHED;
     last.finish_from = from;
     Finished {

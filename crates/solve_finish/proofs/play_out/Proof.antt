@@ -1,20 +1,16 @@
--- The loop plays a run on the board that the table and the words stand for (proofs/Running.antt), and each place that it fills was blank before
--- (proofs/Filling.antt). The search for an open carry goes on where it may (proofs/Resuming.antt). A move that is refused keeps flows and places, and ends the run.
+-- The loop plays a run on the board that the table and the words stand for, and stores its moves as long as their places are blank (proofs/Storing.antt). The
+-- search for an open carry goes on where it may (proofs/Resuming.antt). A move that is refused keeps flows and places, and ends the run.
 use mathlib.Core.Path.{_≡_, refl, sym, ap, _∙_, subst}
-use mathlib.Core.Bool.{true, false≢true}
 use mathlib.Core.List.{List}
-use mathlib.Core.Logic.{_≢_}
 use Prim.Native.Nat.{ℕ, _+_, _<_, _≤_}
 use native.Mathlib.Omega.{arith}
 use lib.ListN.{length}
 use denote.Ref.{now}
 use borrow.Author.Needs.{needs, length-unmapped}
-use borrow.Author.Tests.{not-true, not-false}
 use Rattle.board.specs.Limits.{maxEdges, maxTerminals, maxMoves}
-use Rattle.board.specs.Whole.{Board, entryOf, Table}
+use Rattle.board.specs.Whole.{Board, Table}
 use Rattle.board.specs.declared.Network.{Network}
-use Rattle.journal.specs.Words.{wholeOf, entriesOf, journalOf, standing}
-use Rattle.journal.proofs.Laws.{add-standing}
+use Rattle.journal.specs.Words.{wholeOf}
 use Rattle.move_guard.specs.Moved.{Change}
 use Rattle.move_guard.proofs.Facts.{playing-moves}
 use Rattle.move_edges.specs.Incidence.{PositiveSet}
@@ -22,77 +18,40 @@ use Rattle.move_guard.specs.Bounds.{InBounds}
 use Rattle.solve_carry.specs.Inner.{Resumes}
 use Rattle.solve_carry.proofs.Resumed.{resumes-first}
 use Rattle.solve_finish.specs.Run.{Made}
-use Rattle.solve_finish.specs.Finishes.{playedOut}
-use Rattle.solve_finish.specs.Run.{PartsSized, stepChange, Makes, madeOf, Filled}
+use Rattle.solve_finish.specs.Run.{PartsSized, stepChange, Makes, madeOf}
 use Rattle.solve_finish.proofs.Ready.{ready-bounds}
 use Rattle.solve_finish.proofs.Resuming.{resumes-made, resumes-same}
 use Rattle.solve_finish.proofs.InPlace.{step-of-bare, Keeps, step-keeps, step-long}
-use Rattle.solve_finish.proofs.Running.{Run, journaled, run-starts, run-same, run-plays, run-refused, run-rest, run-made, over, left-less}
-use Rattle.solve_finish.proofs.Filling.{filled-none, filled-less, filled-blocked, filled-more}
-use Rattle.solve_finish.proofs.Lent.{run-further}
+use Rattle.solve_finish.proofs.Running.{Run, run-starts, run-plays, left-less}
+use Rattle.solve_finish.proofs.Storing.{Kept, kept-starts, kept-refused, kept-made, kept-over}
 use Rattle.solve_finish.proofs.play_out.Statement.{statement}
 use Rattle.solve_finish.proofs.play_out.Tie as tie
-use Rattle.solve_finish.proofs.play_out.Reads as reads
-use Rattle.solve_finish.proofs.play_out.Lts as lts
-use Rattle.journal.proofs.is_blank.Reads as is-blank-reads
-use Rattle.journal.proofs.put_entry.Reads as put-entry-reads
-use Rattle.move_edges.proofs.at_vertices.Reads as at-vertices-reads
-use Rattle.move_edges.proofs.positive.Reads as positive-reads
-use Rattle.solve_finish.proofs.advance.Reads as advance-reads
-use Rattle.solve_finish.proofs.left_after.Reads as left-after-reads
-use Rattle.solve_finish.proofs.resumption.Reads as resumption-reads
-
--- the board at the start, with the journal of the words now
-abbrev reached : Table → List (List ℕ) → List (List ℕ) → ℕ → Board
-reached t words₀ words moves = journaled (wholeOf t words₀) (journalOf moves words)
 
 abbrev Inv-loop : tie.InvT-loop
-Inv-loop board journal₀ flows₀ places₀ tails heads demands leaving entering marks₀ positive₀ moves₀ resume₀ left₀ journal flows places marks positive moves resume left =
-    Run (wholeOf board journal₀) (board .network) (reached board journal₀ journal moves) flows marks places moves left × PositiveSet flows positive
-    × Filled (board .moves) moves left journal₀ journal × Resumes (board .network) flows marks places resume
+Inv-loop board journal₀ flows₀ places₀ tails heads demands leaving entering marks₀ positive₀ moves₀ filled₀ resume₀ left₀ journal flows places marks positive moves filled resume left =
+    Kept board journal₀ journal flows marks places moves filled left × PositiveSet flows positive × Resumes (board .network) flows marks places resume
 
 abbrev μ-loop : tie.MeasureT-loop
-μ-loop board journal₀ flows₀ places₀ tails heads demands leaving entering marks₀ positive₀ moves₀ resume₀ left₀ journal flows places marks positive moves resume left =
+μ-loop board journal₀ flows₀ places₀ tails heads demands leaving entering marks₀ positive₀ moves₀ filled₀ resume₀ left₀ journal flows places marks positive moves filled resume left =
     left
 
-abbrev cs : lts.Claims
-cs = (
-  at-vertices-reads.Asked,
-  at-vertices-reads.Learnt,
-  positive-reads.Asked,
-  positive-reads.Learnt,
-  advance-reads.Asked,
-  advance-reads.Learnt,
-  is-blank-reads.Asked,
-  is-blank-reads.Learnt,
-  put-entry-reads.Asked,
-  put-entry-reads.Learnt,
-  resumption-reads.Asked,
-  resumption-reads.Learnt,
-  left-after-reads.Asked,
-  left-after-reads.Learnt,
-)
-
--- the places in the code at the start, at the loop, after a move, where it is accepted, and where it is stored
+-- the places in the code at the start, at the loop, after a move, where it is accepted, and where it was counted
 abbrev Started : Type 0
-Started = lts.Start cs reads.Pre reads.Post Inv-loop μ-loop
+Started = tie.Start Inv-loop μ-loop
 
 abbrev Looping : Type 0
-Looping = lts.At-loop cs reads.Pre reads.Post Inv-loop μ-loop
+Looping = tie.At-loop Inv-loop μ-loop
 
 abbrev Advanced : Type 0
-Advanced = lts.After-advance cs reads.Pre reads.Post Inv-loop μ-loop
+Advanced = tie.After-advance Inv-loop μ-loop
 
 abbrev Found : Type 0
-Found = lts.Else1 cs reads.Pre reads.Post Inv-loop μ-loop
+Found = tie.Else1 Inv-loop μ-loop
 
 abbrev Moved : Type 0
-Moved = lts.After-left-after cs reads.Pre reads.Post Inv-loop μ-loop
+Moved = tie.After-left-after Inv-loop μ-loop
 
-abbrev Stored : Type 0
-Stored = lts.After-put-entry cs reads.Pre reads.Post Inv-loop μ-loop
-
-abbrev begun : lts.After-positive cs reads.Pre reads.Post Inv-loop μ-loop → Started
+abbrev begun : tie.After-positive Inv-loop μ-loop → Started
 begun c =
     let at-leaving = c .before .before .before in
     at-leaving .before .before .before .before .before
@@ -100,7 +59,7 @@ begun c =
 abbrev started : Looping → Started
 started c = begun (c .before)
 
-abbrev within : Advanced → lts.In-loop cs reads.Pre reads.Post Inv-loop μ-loop
+abbrev within : Advanced → tie.In-loop Inv-loop μ-loop
 within c =
     let at-leaving = c .before .before .before .before in
     at-leaving .before .before .before .before
@@ -160,36 +119,41 @@ keeps c =
 short-now : (c : Advanced) → length (places-now c) ≡ maxTerminals
 short-now c =
     let loop = looping c .loop in
-    ap (λ (k : Change). length (k .places)) (makes c .changes) ∙ step-long (network c) (loop .flows) (loop .marks) (loop .places) ∙ loop .inv .0 .short
+    ap (λ (k : Change). length (k .places)) (makes c .changes) ∙ step-long (network c) (loop .flows) (loop .marks) (loop .places) ∙ loop .inv .0 .run .short
 
 few : (c : Advanced) → looping c .loop .moves ≤ maxMoves
-few c = playing-moves _ (looping c .loop .inv .0 .play (within c .loop-test .taken))
-
--- an accepted move was found, so the run comes to a board with more moves
-abbrev advanced : Found → Advanced
-advanced c = c .before .before
-
-goes-past : (c : Found) → looping (advanced c) .loop .moves < playedOut (given (started (looping (advanced c)))) .moves
-goes-past c =
-    let loop = looping (advanced c) .loop in
-    omega
-    (arith, run-further _ _ _ (run-rest _ _ _ _ _ _ _ _ (loop .inv .0) (within (advanced c) .loop-test .taken) (made (advanced c)) (makes (advanced c)) (c .if1 .left)))
+few c = playing-moves _ (looping c .loop .inv .0 .run .play (within c .loop-test .taken))
 
 -- what the next move leans on, of the lists of the board
 bounds : (c : Advanced) → let loop = looping c .loop in InBounds (network c) (loop .flows) (loop .places)
-bounds c = ready-bounds _ _ _ _ (run-plays _ _ _ _ _ _ _ _ (looping c .loop .inv .0) (within c .loop-test .taken))
+bounds c = ready-bounds _ _ _ _ (run-plays _ _ _ _ _ _ _ _ (looping c .loop .inv .0 .run) (within c .loop-test .taken))
 
--- the place after an accepted move: the run has gone on, fewer moves are left, one more place is filled, and the search goes on where it may
-abbrev stored : Moved → Stored
-stored c = c .before .before
-
-abbrev found-stored : Stored → Found
-found-stored c =
-    let blank = c .before .before .before in
-    blank .before .before .before .before
+-- after an accepted move: fewer moves are left, the run has gone on, and the search goes on where it may
+abbrev advanced : Found → Advanced
+advanced c = c .before .before
 
 abbrev found : Moved → Found
-found c = found-stored (stored c)
+found c =
+    let at-store = c .before .before in
+    at-store .before .before .before
+
+goes-less : (c : Moved) → c .left-after .result < looping (advanced (found c)) .loop .left
+goes-less c =
+    let at-move = advanced (found c) in
+    let loop = looping at-move .loop in
+    omega (arith, c .left-after .ensures, left-less (loop .left) (loop .moves + 1) (at-move .advance .result .small) (within at-move .loop-test .taken))
+
+goes-on : (c : Moved)
+    → let at-move = advanced (found c) in
+    let start = started (looping at-move) in
+    let at-store = c .before .before in
+    Kept (table start) (old start) (at-store .store .last .0) (flows-now at-move) (at-move .advance .result .marks) (places-now at-move)
+    (looping at-move .loop .moves + 1) (at-store .store .result) (c .left-after .result)
+goes-on c =
+    let at-move = advanced (found c) in
+    let at-store = c .before .before in
+    kept-made _ _ _ _ _ _ _ _ _ (looping at-move .loop .inv .0) (within at-move .loop-test .taken) (made at-move) (makes at-move) (found c .if1 .left)
+    (short-now at-move) _ _ _ (c .left-after .ensures) (at-store .store .ensures)
 
 resumes-on : (c : Moved)
     → let at-move = advanced (found c) in
@@ -199,37 +163,6 @@ resumes-on c =
     let loop = looping at-move .loop in
     resumes-made (network at-move) (loop .flows) (loop .marks) (loop .places) (bounds at-move) (made at-move .change) _ (makes at-move .changes) (found c .if1 .left)
     (c .before .resumption .ensures)
-
-goes-on : (c : Moved)
-    → let at-move = advanced (found c) in
-    let start = started (looping at-move) in
-    let m = looping at-move .loop .moves + 1 in
-    Run (given start) (given start .network) (reached (table start) (old start) (stored c .put-entry .last .0) m) (flows-now at-move)
-    (at-move .advance .result .marks) (places-now at-move) m (c .left-after .result)
-goes-on c =
-    let at-move = advanced (found c) in
-    let loop = looping at-move .loop in
-    let m = loop .moves in
-    run-made _ _ _ _ _ _ _ _ (loop .inv .0) (within at-move .loop-test .taken) (made at-move) (makes at-move) _ _ (found c .if1 .left) (short-now at-move)
-    (ap (journaled (given (started (looping at-move))))
-    (ap (standing (m + 1)) (stored c .put-entry .ensures .1)
-    ∙ sym (add-standing m (m + 1) (entriesOf (loop .journal)) (entryOf (at-move .advance .result .entry)) (omega arith))))
-    (c .left-after .ensures)
-
-goes-less : (c : Moved) → c .left-after .result < looping (advanced (found c)) .loop .left
-goes-less c =
-    let at-move = advanced (found c) in
-    let loop = looping at-move .loop in
-    omega (arith, c .left-after .ensures, left-less (loop .left) (loop .moves + 1) (at-move .advance .result .small) (within at-move .loop-test .taken))
-
-fills-on : (c : Moved)
-    → let at-loop = looping (advanced (found c)) in
-    Filled (table (started at-loop) .moves) (at-loop .loop .moves + 1) (c .left-after .result) (old (started at-loop)) (stored c .put-entry .last .0)
-fills-on c =
-    let at-put = stored c in
-    let at-else = at-put .before .before .before in
-    filled-more _ _ _ _ _ (looping (advanced (found c)) .loop .inv .2) _ _ (at-put .put-entry .ensures .0) (at-put .put-entry .ensures .1) _
-    (sym (at-else .before .is-blank .ensures) ∙ not-false _ (at-else .if2 .left)) (goes-less c)
 
 at-vertices-requires : tie.Need-at-vertices-requires Inv-loop μ-loop
 at-vertices-requires c κs = search needs
@@ -245,9 +178,8 @@ cast-left c = search needs
 
 loop-holds : tie.Need-loop-holds Inv-loop μ-loop
 loop-holds c =
-    let at-leaving = c .before .before .before in
-    let start = at-leaving .before .before .before .before .before in
-    (rw (start .pre .1 .0, start .pre .1 .1) (starts start), c .positive .ensures, filled-none (table start .moves) (old start), resumes-first _ _ _ _)
+    let start = begun c in
+    (kept-starts _ _ _ _ (start .pre .1 .0) (start .pre .1 .1) (starts start), c .positive .ensures, resumes-first _ _ _ _)
 
 slice-aggregate-advance : tie.Need-slice-aggregate-advance Inv-loop μ-loop
 slice-aggregate-advance c = search needs
@@ -263,11 +195,11 @@ advance-requires c κs =
     record {
       net = table (started at-loop) .network;
       bare = refl;
-      in-play = run-plays _ _ _ _ _ _ _ _ (at-loop .loop .inv .0) (at-test .loop-test .taken);
+      in-play = run-plays _ _ _ _ _ _ _ _ (at-loop .loop .inv .0 .run) (at-test .loop-test .taken);
       leave = at-sets .before .at-vertices .ensures;
       enter = at-sets .at-vertices2 .ensures;
       is-positive = at-loop .loop .inv .1;
-      resumes = at-loop .loop .inv .3;
+      resumes = at-loop .loop .inv .2;
     }
 
 loop-less : tie.Need-loop-less Inv-loop μ-loop
@@ -278,41 +210,24 @@ loop-again c =
     let at-move = c .before .before in
     let loop = looping at-move .loop in
     let kept = keeps at-move (c .if1 .taken) in (
-      run-same _ _ _ _ _ _ _ _ _ _ (kept .0) (kept .2)
-          (run-refused _ _ _ _ _ _ _ _ (loop .inv .0) (within at-move .loop-test .taken) (made at-move) (makes at-move) (c .if1 .taken)),
+      kept-refused _ _ _ _ _ _ _ _ _ (loop .inv .0) (within at-move .loop-test .taken) (made at-move) (makes at-move) _ _ (c .if1 .taken) (kept .0) (kept .2),
       subst (λ (f : List ℕ). PositiveSet f (loop .positive)) (sym (kept .0)) (loop .inv .1),
-      filled-less _ _ _ _ _ (loop .inv .2) 0 (omega arith),
-      resumes-same _ _ _ _ _ _ _ (kept .0) (kept .2) (loop .inv .3),
+      resumes-same _ _ _ _ _ _ _ (kept .0) (kept .2) (loop .inv .2),
     )
 
-cast-m : tie.Need-cast-m Inv-loop μ-loop
-cast-m c = record { fits = omega (arith, few (advanced c)) }
-
-is-blank-requires : tie.Need-is-blank-requires Inv-loop μ-loop
-is-blank-requires c κs = search needs
-
-returns : tie.Need-returns Inv-loop μ-loop
-returns c =
-    let at-blank = c .before in
-    let at-found = at-blank .before .before .before in
-    let loop = looping (advanced at-found) .loop in
-    record {
-      fills = filled-less _ _ _ _ _ (loop .inv .2) 0 (omega arith);
-      short = short-now (advanced at-found);
-      over = λ t. absurd (false≢true t);
-      blocked = λ f. filled-blocked _ _ _ _ _ (loop .inv .2) _ (goes-past at-found) (sym (at-blank .is-blank .ensures) ∙ not-true _ (c .if2 .taken));
-    }
-
-put-entry-requires : tie.Need-put-entry-requires Inv-loop μ-loop
-put-entry-requires c κs = search needs
-
-add-moves : tie.Need-add-moves Inv-loop μ-loop
-add-moves c =
-    let at-found = found-stored (c .before) in
-    record { fits = omega (arith, few (advanced at-found)) }
+store-requires : tie.Need-store-requires Inv-loop μ-loop
+store-requires c κs =
+    let at-found = c .before .before in
+    few (advanced at-found)
 
 resumption-requires : tie.Need-resumption-requires Inv-loop μ-loop
 resumption-requires c κs = search needs
+
+add-moves : tie.Need-add-moves Inv-loop μ-loop
+add-moves c =
+    let at-store = c .before in
+    let at-found = at-store .before .before .before in
+    record { fits = omega (arith, few (advanced at-found)) }
 
 left-after-requires : tie.Need-left-after-requires Inv-loop μ-loop
 left-after-requires c κs = search needs
@@ -321,17 +236,10 @@ loop-less-2 : tie.Need-loop-less-2 Inv-loop μ-loop
 loop-less-2 c = goes-less c
 
 loop-again-2 : tie.Need-loop-again-2 Inv-loop μ-loop
-loop-again-2 c = (goes-on c, makes (advanced (found c)) .is-positive, fills-on c, resumes-on c)
+loop-again-2 c = (goes-on c, makes (advanced (found c)) .is-positive, resumes-on c)
 
-returns-2 : tie.Need-returns-2 Inv-loop μ-loop
-returns-2 c =
-    let loop = c .before .loop in
-    record {
-      fills = filled-less _ _ _ _ _ (loop .inv .2) 0 (omega arith);
-      short = loop .inv .0 .short;
-      over = λ t. over _ _ _ _ _ _ _ _ (loop .inv .0) (c .loop-test .left) (started (c .before) .pre .0) _ refl;
-      blocked = λ f. absurd (false≢true (sym f));
-    }
+returns : tie.Need-returns Inv-loop μ-loop
+returns c = kept-over _ _ _ _ _ _ _ (c .before .loop .inv .0) (c .loop-test .left)
 
 pub play-out-spec : {M : Type 1} → statement M
 play-out-spec =
@@ -349,13 +257,10 @@ play-out-spec =
     advance-requires
     loop-less
     loop-again
-    cast-m
-    is-blank-requires
-    returns
-    put-entry-requires
+    store-requires
     resumption-requires
     add-moves
     left-after-requires
     loop-less-2
     loop-again-2
-    returns-2)
+    returns)
