@@ -11,7 +11,8 @@ use lib.Dec.{eqb}
 use Rattle.lists.specs.Choice.{pick, both}
 use Rattle.board.specs.Record.{blank}
 use Rattle.board.specs.Whole.{Move, Carry, Turn, Entry}
-use Rattle.journal.specs.Words.{placeWords, packed, unpacked, entriesOf, entryIn, standing, blankWords, isZeros, isBlankAt}
+use Rattle.journal.specs.Words.{packed, unpacked, entriesOf, entryIn, standing, blankWords}
+use Rattle.journal.specs.Inner.{placeWords, isZeros, isBlankAt}
 
 -- the numbers of a move are numbers of 32 bits
 abbrev pub Fits : Move → Type 0

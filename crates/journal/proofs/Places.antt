@@ -14,7 +14,8 @@ use Rattle.lists.specs.Choice.{both}
 use Rattle.lists.proofs.Laws.{lt-or-ge, both-left, both-right}
 use Rattle.board.specs.Record.{blank}
 use Rattle.board.specs.Whole.{Entry}
-use Rattle.journal.specs.Words.{placeWords, packed, blankWords, isZeros, isBlankAt, packedOn, packedAll}
+use Rattle.journal.specs.Words.{packed, blankWords, packedOn, packedAll}
+use Rattle.journal.specs.Inner.{placeWords, isZeros, isBlankAt}
 use Rattle.journal.proofs.Laws.{blank-past}
 
 -- lists of words

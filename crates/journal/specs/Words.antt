@@ -1,18 +1,13 @@
 -- The journal as words, and the board that a table and its words stand for.
-use mathlib.Core.Bool.{Bool, true, false}
 use mathlib.Core.List.{List, [], _∷_, map}
 use Prim.Native.Nat.{ℕ, zero, suc, _+_, _-_, _%_}
 use lib.Dec.{eqb}
 use lib.ListN.{getD, set, replicate}
-use Rattle.lists.specs.Choice.{pick, both}
+use Rattle.lists.specs.Choice.{pick}
 use Rattle.sets.specs.Sets.{setOf}
 use Rattle.board.specs.Limits.{maxMoves}
 use Rattle.board.specs.Record.{blank}
 use Rattle.board.specs.Whole.{Move, Carry, Turn, Entry, Board, Played, Table, Done}
-
--- how many words a place of the journal has: the code's `WORDS`
-abbrev pub placeWords : ℕ
-placeWords = 5
 
 -- a move in words: 0, the terminal, the edge, 0, 0; or 1, the amount, and the sets of edges that fell, rose and were marked
 abbrev pub moveWords : Move → List ℕ
@@ -74,17 +69,6 @@ givenOf d words = record { answer = d .answer; board = wholeOf (d .board) words 
 -- the words of an empty journal
 abbrev pub noWords : List (List ℕ)
 noWords = replicate maxMoves blankWords
-
--- just so many zeros
-unfoldable pub isZeros : ℕ → List ℕ → Bool
-isZeros zero [] = true
-isZeros zero (x ∷ w) = false
-isZeros (suc n) [] = false
-isZeros (suc n) (x ∷ w) = both (eqb x 0) (isZeros n w)
-
--- a place holds the blank; past the end there is nothing else
-unfoldable pub isBlankAt : List (List ℕ) → ℕ → Bool
-isBlankAt words i = isZeros placeWords (getD words i blankWords)
 
 -- the words where so many places from one on hold the entries of a journal
 unfoldable pub packedOn : ℕ → ℕ → List Entry → List (List ℕ) → List (List ℕ)

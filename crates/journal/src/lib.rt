@@ -11,18 +11,8 @@ ghost use lib.ListN.{getD, set};
 ghost use Rattle.board.specs.Record.{blank};
 ghost use Rattle.board.specs.Limits.{maxMoves};
 ghost use Rattle.board.specs.Whole.{entryOf};
-ghost use Rattle.journal.specs.Words.{
-  placeWords,
-  packed,
-  unpacked,
-  entriesOf,
-  entryIn,
-  journalOf,
-  noWords,
-  isZeros,
-  isBlankAt,
-  packedOn,
-};
+ghost use Rattle.journal.specs.Words.{packed, unpacked, entriesOf, entryIn, journalOf, noWords, packedOn};
+ghost use Rattle.journal.specs.Inner.{placeWords, isZeros, isBlankAt};
 
 // How many words a place of the journal has.
 pub const WORDS: usize = 5;

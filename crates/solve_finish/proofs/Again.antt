@@ -8,7 +8,8 @@ use Prim.Native.Nat.{ℕ, _+_, _-_, _<_, _≤_}
 use native.Mathlib.Omega.{arith}
 use Rattle.lists.proofs.Laws.{lt-or-ge}
 use Rattle.board.specs.Whole.{Entry, Board, Table}
-use Rattle.journal.specs.Words.{wholeOf, journalOf, isBlankAt, packedOn}
+use Rattle.journal.specs.Words.{wholeOf, journalOf, packedOn}
+use Rattle.journal.specs.Inner.{isBlankAt}
 use Rattle.journal.proofs.Places.{wiped-blank, packedOn-over}
 use Rattle.journal.proofs.Behind.{whole-behind}
 use Rattle.move_guard.specs.Guard.{playing}

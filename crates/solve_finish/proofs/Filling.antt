@@ -11,7 +11,8 @@ use lib.Seq.{getD-set-same, getD-set-other, set-out}
 use Rattle.lists.proofs.Laws.{lt-or-ge}
 use Rattle.board.specs.Record.{blank}
 use Rattle.board.specs.Whole.{Entry}
-use Rattle.journal.specs.Words.{placeWords, packed, unpacked, blankWords, entriesOf, journalOf, standing, isZeros, isBlankAt, packedOn}
+use Rattle.journal.specs.Words.{packed, unpacked, blankWords, entriesOf, journalOf, standing, packedOn}
+use Rattle.journal.specs.Inner.{placeWords, isZeros, isBlankAt}
 use Rattle.solve_finish.specs.Run.{Filled}
 use Rattle.journal.proofs.Laws.{add-standing, length-standing}
 use Rattle.journal.proofs.Places.{packedOn-same, packedOn-other, wiped-back}

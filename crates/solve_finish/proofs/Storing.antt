@@ -11,7 +11,8 @@ use lib.ListN.{length, set}
 use Rattle.lists.proofs.Laws.{lt-or-ge}
 use Rattle.board.specs.Limits.{maxTerminals, maxMoves}
 use Rattle.board.specs.Whole.{Entry, Board, Table}
-use Rattle.journal.specs.Words.{wholeOf, journalOf, isBlankAt}
+use Rattle.journal.specs.Words.{wholeOf, journalOf}
+use Rattle.journal.specs.Inner.{isBlankAt}
 use Rattle.solve_finish.specs.declared.Ran.{Ran}
 use Rattle.solve_finish.specs.Run.{Made, stepChange, Makes, leftAfter, Filled, Stores, stored, passed, RanOut}
 use Rattle.solve_finish.proofs.Running.{Run, standing, journaled, run-same, run-refused, run-made, over, home-over, left-less}

@@ -24,7 +24,8 @@ use Rattle.solve_next.specs.Choosing.{Act, relocate, augment, allHome, allHomeI
 use Rattle.move_edges.specs.Incidence.{Incident}
 use Rattle.move_carry.specs.declared.Frame.{Frame}
 use Rattle.move_carry.specs.Frames.{netOf, bareOf}
-use Rattle.journal.specs.Words.{packed, entriesOf, wholeOf, journalOf, isBlankAt, packedOn}
+use Rattle.journal.specs.Words.{packed, entriesOf, wholeOf, journalOf, packedOn}
+use Rattle.journal.specs.Inner.{isBlankAt}
 use Rattle.solve_finish.specs.Finishes.{playedOut}
 use Rattle.solve_finish.specs.declared.Ran.{Ran}
 use Rattle.solve_finish.specs.declared.Progress.{Progress}

@@ -1,7 +1,7 @@
 -- The tests of the five words, from the last to the first.
 use mathlib.Core.Path.{_≡_, _∙_}
 use lib.ListN.{length}
-use Rattle.journal.specs.Words.{placeWords}
+use Rattle.journal.specs.Inner.{placeWords}
 use Rattle.journal.proofs.Laws.{zeros-five}
 use borrow.Author.Needs.{needs}
 use Rattle.journal.proofs.is_zero.Statement.{statement}

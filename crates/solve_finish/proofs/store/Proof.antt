@@ -9,7 +9,8 @@ use denote.Ref.{now}
 use borrow.Author.Tests.{not-true, not-false}
 use borrow.Author.Needs.{needs}
 use Rattle.board.specs.Whole.{entryOf}
-use Rattle.journal.specs.Words.{packed, entriesOf, isBlankAt}
+use Rattle.journal.specs.Words.{packed, entriesOf}
+use Rattle.journal.specs.Inner.{isBlankAt}
 use Rattle.solve_finish.specs.Run.{stored, passed}
 use Rattle.solve_finish.proofs.store.Statement.{statement}
 use Rattle.solve_finish.proofs.store.Tie as tie
