@@ -1,4 +1,4 @@
--- A load and a finish over lent words: the load leaves the words of an empty journal, so that the finish is that of the board, and leaves the words of its journal.
+-- A load and a finish over lent words: the load leaves the words of an empty journal, so that the finish leaves the words of the board's journal.
 use mathlib.Core.Path.{_≡_, refl, sym, ap, _∙_}
 use mathlib.Core.Bool.{false}
 use mathlib.Core.List.{List}
@@ -15,12 +15,10 @@ use Rattle.load.specs.Lent.{loadedOf}
 use Rattle.load.proofs.Loads.{load-refused}
 use Rattle.load.proofs.Lent.{loaded-words}
 use Rattle.move_guard.specs.Guard.{loaded, playing}
-use Rattle.solve_finish.specs.Lent.{Ended}
 use Rattle.solve_finish.specs.Finishes.{Finished}
 use Rattle.solve_finish.specs.Finishes.{finishCall}
-use Rattle.solve_finish.specs.Lent.{endedOf, finishOn}
 use Rattle.solve_finish.proofs.Stepping.{finish-closed}
-use Rattle.solve_finish.proofs.Lent.{finish-on-packed, finish-packed}
+use Rattle.solve_finish.proofs.Lent.{finish-packed}
 
 -- a finish of the closed board leaves it
 closed-out : playing closedBoard ≡ false
@@ -40,11 +38,7 @@ module _ (s : List ℕ) (l : Opened) (w : List (List ℕ)) (loads : loadedOf l w
       empty ∙ loaded-words s
       ∙ ap (λ (b : Board). packedAll (b .journal)) (refused ∙ ap (λ (f : Finished). f .board) (finish-closed closedBoard closed-out) ∙ ap (λ (b : Board). finishCall b .board) (sym refused))
 
-  pub finish-loaded : (e : Ended) (v : List (List ℕ)) → endedOf e v ≡ finishOn (l .board) w → endedOf e v ≡ finishCall (wholeOf (l .board) w)
-  finish-loaded e v ends = ends ∙ finish-on-packed (l .board) w kept
-
-  pub finish-words : (v : List (List ℕ)) → v ≡ wordsAfter (l .board .moves) (finishOn (l .board) w .board) w
+  pub finish-words : (v : List (List ℕ)) → v ≡ wordsAfter (l .board .moves) (finishCall (wholeOf (l .board) w) .board) w
       → v ≡ packedAll (finishCall (loadText s .board) .board .journal)
   finish-words v stores =
-      stores ∙ ap (λ (f : Finished). wordsAfter (l .board .moves) (f .board) w) (finish-on-packed (l .board) w kept)
-      ∙ finish-packed (wholeOf (l .board) w) w kept ∙ ap (λ (b : Board). packedAll (finishCall b .board .journal)) board
+      stores ∙ finish-packed (wholeOf (l .board) w) w kept ∙ ap (λ (b : Board). packedAll (finishCall b .board .journal)) board

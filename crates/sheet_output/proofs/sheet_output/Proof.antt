@@ -1,4 +1,5 @@
--- The number of the load, the number of the finish, or the report. The words that the load emptied are those of its board, so the finish is the board's own.
+-- The number of the load, the number of the finish, or the report. The words that the load emptied are those of its board, and so are those that the finish
+-- leaves.
 use mathlib.Core.Path.{ap, _∙_}
 use mathlib.Core.List.{List}
 use Prim.Native.Nat.{ℕ}
@@ -8,7 +9,7 @@ use lib.Seq.{sets}
 use Rattle.load.specs.Lent.{loadedOf}
 use Rattle.solve_finish.specs.Lent.{endedOf}
 use Rattle.sheet_output.proofs.Prints.{sheet-refused, sheet-unfinished, sheet-reported}
-use Rattle.sheet_output.proofs.Lent.{refused-words, finish-loaded, finish-words}
+use Rattle.sheet_output.proofs.Lent.{refused-words, finish-words}
 use borrow.Author.Needs.{needs}
 use Rattle.sheet_output.proofs.sheet_output.Statement.{statement}
 use Rattle.sheet_output.proofs.sheet_output.Tie as tie
@@ -65,8 +66,7 @@ returns-2 c =
     let ended = finishing .finish .result in
     let last = finishing .finish .last .1 .0 in
     let made = finishing .finish .ensures in
-    let finished = finish-loaded text opened words (gave .0) (gave .1) ended last (made .0) in
-    let e = sheet-unfinished _ (loadedOf opened words) (gave .0) (accepting .if1 .left) (endedOf ended last) finished (refusing .if2 .taken) in (
+    let e = sheet-unfinished _ (loadedOf opened words) (gave .0) (accepting .if1 .left) (endedOf ended last) (made .0) (refusing .if2 .taken) in (
       omega (arith, ap length e),
       (
         omega arith,
@@ -98,8 +98,7 @@ returns-3 c =
     let ended = finishing .finish .result in
     let last = finishing .finish .last .1 .0 in
     let made = finishing .finish .ensures in
-    let finished = finish-loaded text opened words (gave .0) (gave .1) ended last (made .0) in
-    let e = sheet-reported _ (loadedOf opened words) (gave .0) (accepting .if1 .left) (endedOf ended last) finished (finished-so .if2 .left) in (
+    let e = sheet-reported _ (loadedOf opened words) (gave .0) (accepting .if1 .left) (endedOf ended last) (made .0) (finished-so .if2 .left) in (
       omega (arith, ap length e),
       (
         omega arith,
