@@ -7,5 +7,4 @@ pub mod BoardParts
 pub mod Prints
 pub mod Replying
 pub mod Keeping
-pub mod Wiped
 pub mod Feeding

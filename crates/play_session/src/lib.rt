@@ -8,16 +8,14 @@ use play_lines::Scan;
 use solve_next::Suggestion;
 ghost use mathlib.Core.Path.{_≡_};
 ghost use mathlib.Core.Bool.{true, false};
-ghost use mathlib.Core.List.{List, []};
-ghost use Prim.Native.Nat.{ℕ, min, _+_, _-_, _≤_};
+ghost use mathlib.Core.List.{List};
+ghost use Prim.Native.Nat.{ℕ, min, _+_, _≤_};
 ghost use lib.Dec.{leb, eqb};
 ghost use lib.ListN.{length};
 ghost use lib.Seq.{sets};
 ghost use Rattle.lists.specs.Choice.{pick};
-ghost use Rattle.board.specs.Limits.{maxMoves};
-ghost use Rattle.journal.specs.Words.{wholeOf, givenOf, noWords, blankFrom, packedOn};
+ghost use Rattle.journal.specs.Words.{wholeOf, givenOf, noWords};
 ghost use Rattle.solve_next.specs.Hints.{hintRefusal, hintCall};
-ghost use Rattle.solve_finish.specs.Finishes.{finishCall};
 ghost use Rattle.load.specs.Load.{loadText};
 ghost use Rattle.load.specs.Lent.{loadedOf};
 ghost use Rattle.play_lines.specs.Scans.{hintForm, scanned};
@@ -126,50 +124,6 @@ fn turn_replied(board: Board, journal: &mut [[u64; WORDS]; Board::JOURNAL], form
     move_turn::turn_steps(board, journal, &steps[..form.count as usize])
 }
 
-// Where the places behind so many moves begin.
-fn behind(moves: u32) -> usize
-    ensures { λ r. ⌜ r ≡ min moves maxMoves ⌝ }
-{
-    if moves < Board::JOURNAL as u32 {
-        moves as usize
-    } else {
-        Board::JOURNAL
-    }
-}
-
-// Blanks the places behind so many moves.
-fn wipe_behind(moves: u32, journal: &mut [[u64; WORDS]; Board::JOURNAL])
-    ensures { λ _. ⌜ now (journal .exit) ≡ packedOn (maxMoves - moves) moves [] (now (journal .entry)) ⌝ }
-    ensures { λ _. ⌜ ((k : ℕ) → blankFrom k moves (now (journal .exit)) ≡ true) ⌝ }
-{
-    let from = behind(moves);
-    journal::wipe(journal, from, Board::JOURNAL - from);
-}
-
-// A finish: its number, and the board after it. Places behind the moves are no part of a board: where a finish is
-// refused they are blanked, should one of them hold something, which no load leaves, and it is tried once more.
-fn finish_replied(board: Board, journal: &mut [[u64; WORDS]; Board::JOURNAL]) -> Played
-    ensures { λ r. ⌜ r .answer ≡ finishCall (wholeOf board (now (journal .entry))) .answer ⌝ }
-    ensures { λ r. ⌜ wholeOf (r .board) (now (journal .exit)) ≡
-        finishCall (wholeOf board (now (journal .entry))) .board ⌝ }
-{
-    let tried = solve_finish::finish(board, journal);
-    if tried.answer == 0 {
-        let last = tried.board;
-        return Played {
-            answer: 0,
-            board: last,
-        };
-    }
-    wipe_behind(board.moves, journal);
-    let finished = solve_finish::finish(board, journal);
-    let last = finished.board;
-    Played {
-        answer: finished.answer,
-        board: last,
-    }
-}
-
 // What a line that asks for no hint is answered with, and the board after it.
 fn form_replied(board: Board, journal: &mut [[u64; WORDS]; Board::JOURNAL], form: Form) -> Played
     requires { ⌜ eqb (form .kind) hintForm ≡ false ⌝ }
@@ -185,7 +139,12 @@ fn form_replied(board: Board, journal: &mut [[u64; WORDS]; Board::JOURNAL], form
         return move_undo::undo(board, journal);
     }
     if form.kind == Form::FINISH {
-        return finish_replied(board, journal);
+        let finished = solve_finish::finish(board, journal);
+        let last = finished.board;
+        return Played {
+            answer: finished.answer,
+            board: last,
+        };
     }
     Played {
         answer: 1,

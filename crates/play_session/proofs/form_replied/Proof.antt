@@ -1,7 +1,8 @@
 -- The kind of the line picks the call, in the code and in the definition.
-use mathlib.Core.Path.{sym, _∙_}
+use mathlib.Core.Path.{sym, ap, _∙_}
 use borrow.Author.Tests.{eq-eqb, ne-eqb}
 use Rattle.lists.proofs.Laws.{pick-yes, pick-no}
+use Rattle.solve_finish.specs.Finishes.{Finished}
 use Rattle.play_lines.specs.Scans.{undoForm, finishForm, carryWhole, turnForm}
 use Rattle.play_session.specs.Machine.{formReplied}
 use borrow.Author.Needs.{needs}
@@ -39,14 +40,14 @@ returns-3 c =
     let n3 = at-if1 .before .before .pre in
     c .undo .ensures .0 ∙ sym (pick-no _ _ _ n1 ∙ pick-no _ _ _ n2 ∙ pick-no _ _ _ n3 ∙ pick-yes _ _ _ (eq-eqb _ undoForm (at-if3 .if3 .taken)))
 
-finish-replied-requires : tie.Need-finish-replied-requires
-finish-replied-requires c κs = search needs
+finish-requires : tie.Need-finish-requires
+finish-requires c κs = search needs
 
 returns-4 : tie.Need-returns-4
 unfolding formReplied
 returns-4 c =
-    let e = c .finish-replied .ensures in
-    let at-if4 = c .before .before in
+    let at-finish = c .before in
+    let at-if4 = at-finish .before .before in
     let at-if3 = at-if4 .before .before in
     let at-if2 = at-if3 .before .before in
     let at-if1 = at-if2 .before .before in
@@ -54,7 +55,7 @@ returns-4 c =
     let n2 = ne-eqb _ turnForm (at-if2 .if2 .left) in
     let n3 = at-if1 .before .before .pre in
     let n4 = ne-eqb _ undoForm (at-if3 .if3 .left) in
-    (λ i. record { answer = e .0 i; board = e .1 i })
+    ap (λ (f : Finished). record { answer = f .answer; board = f .board }) (at-finish .finish .ensures .0)
     ∙ sym (pick-no _ _ _ n1 ∙ pick-no _ _ _ n2 ∙ pick-no _ _ _ n3 ∙ pick-no _ _ _ n4 ∙ pick-yes _ _ _ (eq-eqb _ finishForm (at-if4 .if4 .taken)))
 
 returns-5 : tie.Need-returns-5
@@ -80,6 +81,6 @@ form-replied-spec =
     returns-2
     undo-requires
     returns-3
-    finish-replied-requires
+    finish-requires
     returns-4
     returns-5)
