@@ -1,4 +1,4 @@
--- A board that is finished or not, over words that are those of its journal: the finish is then the board's own, and leaves the words of its journal.
+-- A board that is finished or not, over words that are those of its journal: the finish then leaves the words of its journal.
 use mathlib.Core.Path.{_≡_, sym, ap, _∙_}
 use mathlib.Core.List.{List}
 use mathlib.Core.Logic.{_≢_}
@@ -11,8 +11,8 @@ use Rattle.board.specs.Whole.{Table}
 use Rattle.solve_finish.specs.Lent.{Ended}
 use Rattle.solve_finish.specs.Finishes.{Finished}
 use Rattle.solve_finish.specs.Finishes.{finishCall}
-use Rattle.solve_finish.specs.Lent.{endedOf, finishOn}
-use Rattle.solve_finish.proofs.Lent.{finish-on-packed, finish-packed}
+use Rattle.solve_finish.specs.Lent.{endedOf}
+use Rattle.solve_finish.proofs.Lent.{finish-packed}
 use Rattle.playthrough.specs.Ends.{lastBoard}
 use Rattle.playthrough.specs.Inner.{LastOf}
 
@@ -22,13 +22,11 @@ module _ (n : ℕ) (t : Table) (w : List (List ℕ)) (kept : w ≡ packedAll (wh
       let same : lastBoard n (wholeOf t w) ≡ wholeOf t w = pick-yes _ _ _ (eq-eqb n 0 h) in
       record { board = sym same; words-kept = kept ∙ ap (λ (b : Board). packedAll (b .journal)) (sym same) }
 
-  pub last-finished : (e : Ended) (v : List (List ℕ)) → n ≢ 0 → endedOf e v ≡ finishOn t w → v ≡ wordsAfter (t .moves) (finishOn t w .board) w
-      → LastOf n (wholeOf t w) (e .board) v
+  pub last-finished : (e : Ended) (v : List (List ℕ)) → n ≢ 0 → endedOf e v ≡ finishCall (wholeOf t w)
+      → v ≡ wordsAfter (t .moves) (finishCall (wholeOf t w) .board) w → LastOf n (wholeOf t w) (e .board) v
   last-finished e v h ends stores =
       let over : lastBoard n (wholeOf t w) ≡ finishCall (wholeOf t w) .board = pick-no _ _ _ (ne-eqb n 0 h) in
-      let on : finishOn t w ≡ finishCall (wholeOf t w) = finish-on-packed t w kept in
       record {
-        board = ap (λ (f : Finished). f .board) (ends ∙ on) ∙ sym over;
-        words-kept = stores ∙ ap (λ (f : Finished). wordsAfter (t .moves) (f .board) w) on ∙ finish-packed (wholeOf t w) w kept
-            ∙ ap (λ (b : Board). packedAll (b .journal)) (sym over);
+        board = ap (λ (f : Finished). f .board) ends ∙ sym over;
+        words-kept = stores ∙ finish-packed (wholeOf t w) w kept ∙ ap (λ (b : Board). packedAll (b .journal)) (sym over);
       }

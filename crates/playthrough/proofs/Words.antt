@@ -1,5 +1,5 @@
--- A whole play over lent words: the words that the load cleared stay those of the journal through the calls, so that the finish is that of the board; and what it
--- stores behind the standing moves leaves the board before it as it was.
+-- A whole play over lent words: the words that the load cleared stay those of the journal through the calls and the finish; and what that stores behind the
+-- standing moves leaves the board before it as it was.
 use mathlib.Core.Path.{_≡_, sym, ap, _∙_}
 use mathlib.Core.List.{List}
 use Prim.Native.Nat.{ℕ, _-_, _≤_}
@@ -18,8 +18,8 @@ use Rattle.load.specs.Lent.{Opened}
 use Rattle.solve_finish.specs.Finishes.{Finished}
 use Rattle.solve_finish.specs.Lent.{Ended}
 use Rattle.solve_finish.specs.Finishes.{playedOut, finishRefusal, ended, finishCall}
-use Rattle.solve_finish.specs.Lent.{endedOf, finishOn}
-use Rattle.solve_finish.proofs.Lent.{further-out, finish-on-packed, finish-packed}
+use Rattle.solve_finish.specs.Lent.{endedOf}
+use Rattle.solve_finish.proofs.Lent.{further-out, finish-packed}
 use Rattle.move_list.specs.Calls.{Call, gameOf, played}
 use Rattle.move_list.specs.Words.{wordsPlayed}
 use Rattle.move_list.proofs.Worded.{Kept}
@@ -64,23 +64,19 @@ module _ (text : List ℕ) (cs : List Call) (l : Opened) (w₁ : List (List ℕ)
   pub from-load : {A : Type 0} (f : Board → A) → f (wholeOf (l .board) w₁) ≡ f (loadText text .board)
   from-load f = ap f start
 
-  module _ (e : Ended) (w₃ : List (List ℕ)) (ends : endedOf e w₃ ≡ finishOn t w₂) (stores : w₃ ≡ wordsAfter (t .moves) (finishOn t w₂ .board) w₂) where
-    on : finishOn t w₂ ≡ finishCall (played (gameOf (loadText text .board)) cs .board)
-    on = finish-on-packed t w₂ kept ∙ ap finishCall after-calls
-
+  module _ (e : Ended) (w₃ : List (List ℕ)) (ends : endedOf e w₃ ≡ finishCall (wholeOf t w₂))
+      (stores : w₃ ≡ wordsAfter (t .moves) (finishCall (wholeOf t w₂) .board) w₂) where
     pub words-after : w₃ ≡ packedAll (outcome text cs .finish .board .journal)
     words-after =
-        stores ∙ ap (λ (f : Finished). wordsAfter (t .moves) (f .board) w₂) (finish-on-packed t w₂ kept) ∙ finish-packed (wholeOf t w₂) w₂ kept
+        stores ∙ finish-packed (wholeOf t w₂) w₂ kept
         ∙ ap (λ (b : Board). packedAll (finishCall b .board .journal)) after-calls
 
     before : wholeOf t w₃ ≡ wholeOf t w₂
-    before =
-        let more : t .moves ≤ finishOn t w₂ .board .moves = rw (finish-on-packed t w₂ kept) (finish-moves (wholeOf t w₂)) in
-        ap (wholeOf t) stores ∙ whole-kept t (finishOn t w₂ .board) w₂ more
+    before = ap (wholeOf t) stores ∙ whole-kept t (finishCall (wholeOf t w₂) .board) w₂ (finish-moves (wholeOf t w₂))
 
     pub gathered : outcomeOf (record { loading = l .answer; board = t; finish = e }) w₃ ≡ outcome text cs
     gathered = λ i. record {
       loading = ap (λ (x : Loaded). x .answer) loads i;
       board = (before ∙ after-calls) i;
-      finish = (ends ∙ on) i;
+      finish = (ends ∙ ap finishCall after-calls) i;
     }

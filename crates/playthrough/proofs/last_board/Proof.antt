@@ -1,4 +1,4 @@
--- The board as it is, or what the finish ensures: of words that are those of the journal it is the board's own.
+-- The board as it is, or what the finish ensures: of words that are those of the journal it leaves such words.
 use Rattle.playthrough.proofs.Ending.{last-same, last-finished}
 use borrow.Author.Needs.{needs}
 use Rattle.playthrough.proofs.last_board.Statement.{statement}

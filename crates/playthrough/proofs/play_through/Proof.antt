@@ -1,5 +1,5 @@
--- What the three calls ensure, each put into the next, and the theorem about every list of calls. The words that the load emptied stay those of the journal, so
--- that the finish is the board's own (proofs/Words.antt).
+-- What the three calls ensure, each put into the next, and the theorem about every list of calls. The words that the load emptied stay those of the journal
+-- (proofs/Words.antt).
 use mathlib.Core.Path.{_∙_}
 use lib.Seq.{sets}
 use Rattle.move_list.specs.Calls.{gameOf, answers, hintsOf, noted}
