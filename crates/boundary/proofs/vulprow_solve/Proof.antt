@@ -3,7 +3,7 @@ use mathlib.Core.Path.{ap, _∙_}
 use Rattle.load.specs.Load.{Loaded}
 use Rattle.solve_finish.specs.Finishes.{Finished}
 use Rattle.solve_finish.specs.Finishes.{finishCall}
-use Rattle.sheet_output.proofs.Lent.{finish-loaded, finish-words}
+use Rattle.sheet_output.proofs.Lent.{finish-words}
 use borrow.Author.Needs.{needs}
 use Rattle.boundary.proofs.vulprow_solve.Statement.{statement}
 use Rattle.boundary.proofs.vulprow_solve.Tie as tie
@@ -20,8 +20,7 @@ returns c =
     let text = loading .before .before .before .args .text .now in
     let gave = loading .load .ensures in
     let made = c .finish .ensures in
-    let solved = finish-loaded text (loading .load .result) _ (gave .0) (gave .1) (c .finish .result) (c .finish .last .1 .0) (made .0)
-    ∙ ap (λ (l : Loaded). finishCall (l .board)) (gave .0) in (
+    let solved = made .0 ∙ ap (λ (l : Loaded). finishCall (l .board)) (gave .0) in (
       ap (λ (f : Finished). f .answer) solved,
       (ap (λ (f : Finished). f .count) solved, finish-words text (loading .load .result) _ (gave .0) (gave .1) (c .finish .last .1 .0) (made .1)),
     )
