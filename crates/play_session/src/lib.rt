@@ -7,7 +7,7 @@ use play_lines::Form;
 use play_lines::Scan;
 use solve_next::Suggestion;
 ghost use mathlib.Core.Path.{_≡_};
-ghost use mathlib.Core.Bool.{true, false};
+ghost use mathlib.Core.Bool.{false};
 ghost use mathlib.Core.List.{List};
 ghost use Prim.Native.Nat.{ℕ, min, _+_, _≤_};
 ghost use lib.Dec.{leb, eqb};

@@ -10,7 +10,7 @@ use native.Mathlib.Omega.{arith}
 use lib.ListN.{length, set}
 use Rattle.lists.proofs.Laws.{lt-or-ge}
 use Rattle.board.specs.Limits.{maxTerminals, maxMoves}
-use Rattle.board.specs.Whole.{Entry, Board, Table}
+use Rattle.board.specs.Whole.{Board, Table}
 use Rattle.journal.specs.Words.{wholeOf, journalOf}
 use Rattle.journal.specs.Inner.{isBlankAt}
 use Rattle.solve_finish.specs.declared.Ran.{Ran}

@@ -1,14 +1,14 @@
 -- The run has come to the end of the board. Where a terminal is away there, the places that it filled are blanked, and the words are those of before. Else the
 -- journal holds all its moves, at once or after a second run (proofs/Again.antt), and the answer is read off its end (proofs/Lent.antt).
-use mathlib.Core.Path.{_≡_, refl, sym, _∙_}
+use mathlib.Core.Path.{_≡_, refl, sym, ap, _∙_}
 use mathlib.Core.Bool.{true}
-use mathlib.Core.List.{List}
+use mathlib.Core.List.{List, []}
 use Prim.Native.Nat.{ℕ}
 use native.Mathlib.Omega.{arith}
 use denote.Ref.{now}
 use borrow.Author.Tests.{not-true, not-false}
 use Rattle.board.specs.Whole.{Table}
-use Rattle.journal.specs.Words.{wholeOf}
+use Rattle.journal.specs.Words.{wholeOf, packedOn}
 use Rattle.move_guard.specs.Guard.{playing}
 use Rattle.move_guard.proofs.Facts.{playing-moves}
 use Rattle.solve_finish.proofs.Stepping.{finish-closed}
@@ -79,7 +79,9 @@ returns-2 c =
     let begin = begun ran in
     let t = table begin in
     let w = old begin in
-    let back = filled-back _ _ _ _ (ran .play-out .ensures .fills) _ (rw (counted .minus .ensures) at (c .wipe .ensures)) in
+    let filled = ran .play-out .last .1 .0 in
+    let wiped = c .wipe .ensures ∙ ap (λ (k : ℕ). packedOn k (t .moves) [] filled) (counted .minus .ensures) in
+    let back = filled-back _ _ _ _ (ran .play-out .ensures .fills) _ wiped in
     let e = ran-refused t w _ _ _ _ (ran .play-out .ensures) (plays begin) _ (at-home .all-home .ensures) (not-true _ (tested .if2 .taken)) in
     rw back (e, words-refused t w e)
 

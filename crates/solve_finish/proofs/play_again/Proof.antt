@@ -1,6 +1,6 @@
 -- A run that the journal holds whole is given back. Else the places are blanked, and the second run is the one that is given (proofs/Again.antt).
 use mathlib.Core.Path.{_≡_, refl, ap, _∙_}
-use mathlib.Core.List.{List, []}
+use mathlib.Core.List.{[]}
 use Prim.Native.Nat.{ℕ, _-_}
 use native.Mathlib.Omega.{arith}
 use denote.Ref.{now}
