@@ -16,13 +16,16 @@ use Rattle.solve_next.specs.declared.Advice.{Advice}
 use Rattle.solve_next.specs.declared.Suggestion.{Suggestion}
 use Rattle.solve_next.specs.Choosing.{Act, relocate, augment}
 use Rattle.solve_next.specs.Hints.{hintRefusal, hintCall}
+use Rattle.solve_finish.specs.Finishes.{Finished}
+use Rattle.solve_finish.specs.Finishes.{finishCall}
 
--- a call with its arguments: a carry of a terminal over an edge, a turn along steps, an undo, or a hint
+-- a call with its arguments: a carry of a terminal over an edge, a turn along steps, an undo, a hint, or a finish
 pub data Call : Type 0 where
   carry : ℕ → ℕ → Call
   turn : List Step → Call
   undo : Call
   hint : Call
+  finish : Call
 
 -- the call that makes a move
 abbrev pub callFor : Act → Call
@@ -44,11 +47,15 @@ pub record Reply : Type 0 where
 abbrev pub replyOf : Played → Reply
 replyOf p = record { answer = p .answer; game = gameOf (p .board) }
 
+abbrev pub replyOfFinish : Finished → Reply
+replyOfFinish f = record { answer = f .answer; game = gameOf (f .board) }
+
 abbrev pub made : Game → Call → Reply
 made g (carry i e) = replyOf (carryCall (g .board) i e)
 made g (turn w) = replyOf (turnCall (g .board) w)
 made g undo = replyOf (undoCall (g .board))
 made g hint = record { answer = hintRefusal (g .board); game = g }
+made g finish = replyOfFinish (finishCall (g .board))
 
 -- "Each call gets the board as the call before it gave or left it"
 unfoldable pub played : Game → List Call → Game
@@ -65,6 +72,7 @@ hintGiven b (carry i e) = []
 hintGiven b (turn w) = []
 hintGiven b undo = []
 hintGiven b hint = hintCall b ∷ []
+hintGiven b finish = []
 
 unfoldable pub hintsOf : Game → List Call → List Suggestion
 hintsOf g [] = []

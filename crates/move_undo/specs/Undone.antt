@@ -1,22 +1,18 @@
--- The call `undo`: document 01, "Moves". A name that ends in In is said of the parts of a board, the name without it of the board.
-use mathlib.Core.Bool.{Bool}
+-- The call `undo`: document 01, "Moves"; document 02, E1. A name that ends in In is said of the parts of a board, the name without it of the board.
+use mathlib.Core.Bool.{Bool, true, false}
 use mathlib.Core.List.{List}
-use Prim.Native.Nat.{ℕ, _+_}
-use lib.Dec.{eqb}
+use Prim.Native.Nat.{ℕ, zero, suc, _+_, _-_}
+use lib.Dec.{leb, eqb}
 use lib.ListN.{getD, set}
-use Rattle.lists.specs.Choice.{unless, when}
+use Rattle.lists.specs.Choice.{pick, unless, when}
 use Rattle.sets.specs.Sets.{without}
-use Rattle.board.specs.Record.{blank}
+use Rattle.board.specs.Record.{playStage, finishedStage, blank}
 use Rattle.board.specs.Whole.{Move, Carry, Turn, Board, Played}
 use Rattle.board.specs.declared.Network.{Network}
-use Rattle.move_guard.specs.Guard.{playing}
+use Rattle.move_guard.specs.Guard.{intact, loaded}
 use Rattle.move_guard.specs.Moved.{Change}
 use Rattle.move_guard.specs.Moved.{lastEntry, afterBack, answered}
 use Rattle.move_cycle.specs.Shifts.{shifted}
-
--- "Undo: 20, 27", of a board that is in play or not, with so many standing moves
-unfoldable pub undoRefusalIn : Bool → ℕ → ℕ
-undoRefusalIn inPlay moves = unless inPlay 20 (when (eqb moves 0) 27 0)
 
 -- "takes back the last standing move: flows, marks, place and route"; what fell rises and what rose falls
 abbrev pub undoneIn : Network → List ℕ → ℕ → List ℕ → Move → Change
@@ -35,17 +31,48 @@ undoneIn net flows marks places (Turn a) = record {
   entry = blank;
 }
 
--- on a board: the number, a move taken back, and the last standing one
+-- on a board: a move taken back, and the last standing one
+abbrev pub undoneMove : Board → Move → Board
+undoneMove b m = afterBack b (undoneIn (b .network) (b .flows) (b .marks) (b .places) m)
+
+abbrev pub undone : Board → Board
+undone b = undoneMove b (lastEntry b .step)
+
+-- so many moves, one by one, each on an intact board; 20 where one is not
+unfoldable pub takenBack : ℕ → Board → Played
+takenBack zero b = record { answer = 0; board = b }
+takenBack (suc k) b = elim (intact b) [ true ↦ takenBack k (undone b) | false ↦ record { answer = 20; board = b } ]
+
+-- play goes on, and no finish stands
+abbrev pub reopened : Board → Board
+reopened b = record {
+  stage = playStage;
+  network = b .network;
+  acyclic = b .acyclic;
+  flows = b .flows;
+  marks = b .marks;
+  places = b .places;
+  journal = b .journal;
+  moves = b .moves;
+  «finish_from» = 0;
+}
+
 module _ (b : Board) where
-  abbrev pub undoRefusal : ℕ
-  undoRefusal = undoRefusalIn (playing b) (b .moves)
+  -- a finish stands; the stage tells, since a finish may have made no move
+  abbrev pub isFinished : Bool
+  isFinished = eqb (b .stage) finishedStage
 
-  abbrev pub undoneMove : Move → Board
-  undoneMove m = afterBack b (undoneIn (b .network) (b .flows) (b .marks) (b .places) m)
+  -- "Undo after an accepted finish shall bring back the board just before it": all the moves of the finish are taken back
+  abbrev pub wayBack : Played
+  wayBack = takenBack (b .moves - b .«finish_from») b
 
-  abbrev pub undone : Board
-  undone = undoneMove (lastEntry b .step)
+  abbrev pub finishUndone : Board
+  finishUndone = reopened (wayBack .board)
 
-  -- the call
+  -- "Undo: 20, 27"; 20 also where a finished board has no way back, for then no load gave it: see the theorem about every list of calls
+  unfoldable pub undoRefusal : ℕ
+  undoRefusal = unless (loaded b) 20 (pick isFinished (unless (leb (b .«finish_from») (b .moves)) 20 (wayBack .answer)) (when (eqb (b .moves) 0) 27 0))
+
+  -- the call: a finish that stands is taken back whole, else the last move
   unfoldable pub undoCall : Played
-  undoCall = answered undoRefusal b undone
+  undoCall = answered undoRefusal b (pick isFinished finishUndone (undone b))
