@@ -1,4 +1,4 @@
--- The words after a call, by the count of moves: none more or less, one more, one less, or more.
+-- The words after a call, by the count of moves: none more or less, one more, one less, more, or fewer.
 use mathlib.Core.Path.{_≡_, ap, _∙_}
 use mathlib.Core.List.{List}
 use Prim.Native.Nat.{ℕ, _+_, _-_, _≤_}
@@ -28,3 +28,6 @@ module _ (m : ℕ) (b : Board) (w : List (List ℕ)) where
 
   pub after-many : m ≤ b .moves → wordsAfter m b w ≡ packedOn (b .moves - m) m (b .journal) w
   after-many h = places (b .moves - m) m (omega (arith, h)) (omega (arith, h))
+
+  pub after-fewer : b .moves ≤ m → wordsAfter m b w ≡ packedOn (m - b .moves) (b .moves) (b .journal) w
+  after-fewer h = places (m - b .moves) (b .moves) (omega (arith, h)) (omega (arith, h))

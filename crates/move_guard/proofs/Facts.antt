@@ -132,9 +132,6 @@ module _ (b : Board) (play : playing b ≡ true) where
   pub playing-moves : b .moves ≤ maxMoves
   playing-moves = intact-moves b playing-intact
 
-  pub playing-last : moveIntact (lastEntry b .step) ≡ true
-  playing-last = intact-last b playing-intact
-
   pub playing-flow : length (b .flows) ≡ maxEdges → (e : ℕ) → flow b e ≤ maxTotal
   playing-flow = intact-flow b playing-intact
 

@@ -14,7 +14,7 @@ use Rattle.journal.specs.Words.{packed, unpacked, entriesOf, wholeOf, wordsAfte
 use Rattle.journal.proofs.Laws.{length-standing}
 use Rattle.journal.proofs.After.{after-none, after-one, after-back}
 use Rattle.move_guard.specs.Moved.{Change}
-use Rattle.move_guard.specs.Moved.{moved, movedBack, changed, changedBack}
+use Rattle.move_guard.specs.Moved.{moved, changed, afterBack}
 use Rattle.move_guard.proofs.Answers.{answered-yes, answered-no}
 
 -- a board has as many entries as its words have places
@@ -54,17 +54,7 @@ module _ (b : Board) (c : Change) (w : List (List ℕ)) where
       let same : changed b c .board ≡ b = ap (λ (p : Played). p .board) (answered-no (c .answer) b _ h) in
       rw same (sym (after-none (b .moves) b w refl))
 
-  taken-back : c .answer ≡ 0 → changedBack b c .board ≡ movedBack b (c .flows) (c .marks) (c .places)
-  taken-back h = ap (λ (p : Played). p .board) (answered-yes (c .answer) b _ h)
-
-  pub words-blanked : 0 < b .moves → c .answer ≡ 0
-      → set w (b .moves - 1) (packed blank) ≡ wordsAfter (b .moves) (changedBack b c .board) w
-  words-blanked some h =
-      rw (taken-back h)
-      (ap (λ (x : Entry). set w (b .moves - 1) (packed x)) (sym (blank-there (b .journal) (b .moves - 1)))
-      ∙ sym (after-back (b .moves) (movedBack b (c .flows) (c .marks) (c .places)) w (omega arith)))
-
-  pub words-kept-back : c .answer ≢ 0 → w ≡ wordsAfter (b .moves) (changedBack b c .board) w
-  words-kept-back h =
-      let same : changedBack b c .board ≡ b = ap (λ (p : Played). p .board) (answered-no (c .answer) b _ h) in
-      rw same (sym (after-none (b .moves) b w refl))
+  pub words-blanked : 0 < b .moves → set w (b .moves - 1) (packed blank) ≡ wordsAfter (b .moves) (afterBack b c) w
+  words-blanked some =
+      ap (λ (x : Entry). set w (b .moves - 1) (packed x)) (sym (blank-there (b .journal) (b .moves - 1)))
+      ∙ sym (after-back (b .moves) (afterBack b c) w (omega arith))

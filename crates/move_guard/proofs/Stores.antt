@@ -2,12 +2,10 @@
 use mathlib.Core.Path.{_≡_, refl, sym}
 use mathlib.Core.List.{List}
 use mathlib.Core.Logic.{_≢_}
-use Prim.Native.Nat.{ℕ, _+_, _-_}
-use lib.ListN.{set}
-use Rattle.board.specs.Record.{blank}
+use Prim.Native.Nat.{ℕ, _+_}
 use Rattle.board.specs.Whole.{Entry, Board, Played}
 use Rattle.move_guard.specs.Moved.{Change}
-use Rattle.move_guard.specs.Moved.{moved, changed, changedBack}
+use Rattle.move_guard.specs.Moved.{moved, changed}
 use Rattle.move_guard.proofs.Answers.{answered-yes, answered-no}
 
 -- a board with other flows, marks and places, another journal and another count of moves
@@ -39,11 +37,3 @@ module _ (b : Board) (c : Change) where
 
   pub change-refused : c .answer ≢ 0 → numbered c b ≡ changed b c
   change-refused h = sym (answered-no (c .answer) b _ h)
-
-  -- one less
-  module _ (rest : ℕ) (nothing : Entry) (er : rest ≡ b .moves - 1) (en : nothing ≡ blank) (h : c .answer ≡ 0) where
-    pub back-stored : numbered c (stored b c (set (b .journal) rest nothing) rest) ≡ changedBack b c
-    back-stored = rw (er, en, h) (sym (answered-yes 0 b _ refl))
-
-  pub back-refused : c .answer ≢ 0 → numbered c b ≡ changedBack b c
-  back-refused h = sym (answered-no (c .answer) b _ h)

@@ -62,9 +62,6 @@ afterChange b c = moved b (c .flows) (c .marks) (c .places) (c .entry)
 abbrev pub afterBack : Board → Change → Board
 afterBack b c = movedBack b (c .flows) (c .marks) (c .places)
 
--- a call on a board by what it changes: one more move, or one less
+-- a call on a board by what it changes: one more move
 abbrev pub changed : Board → Change → Played
 changed b c = answered (c .answer) b (afterChange b c)
-
-abbrev pub changedBack : Board → Change → Played
-changedBack b c = answered (c .answer) b (afterBack b c)

@@ -181,7 +181,7 @@ fn terminals_intact<'a>(
 }
 
 // Whether no number of the board can lead a call astray.
-fn intact(board: Board, journal: &[[u64; WORDS]; Board::JOURNAL]) -> bool
+pub fn intact(board: Board, journal: &[[u64; WORDS]; Board::JOURNAL]) -> bool
     ensures { λ r. ⌜ r ≡ intact (wholeOf board (now (journal .entry))) ⌝ }
 {
     let vertices = board.network.vertices;
