@@ -14,7 +14,6 @@ use Rattle.lists.proofs.Laws.{pick-yes, pick-no}
 use Rattle.board.specs.Record.{finishedStage, blank}
 use Rattle.board.specs.Whole.{Move, Entry, Board, Played, Table, Done}
 use Rattle.journal.specs.Words.{packed, entriesOf, standing, journalOf, wholeOf, givenOf, packedOn, wordsAfter}
-use Rattle.journal.proofs.Places.{standing-behind}
 use Rattle.journal.proofs.After.{after-none, after-fewer}
 use Rattle.journal.proofs.Behind.{whole-behind}
 use Rattle.move_guard.specs.Moved.{Change}
@@ -24,7 +23,7 @@ use Rattle.move_guard.proofs.Answers.{answered-yes, answered-no}
 use Rattle.move_guard.proofs.Stores.{withParts}
 use Rattle.move_guard.proofs.Lent.{words-blanked}
 use Rattle.move_undo.specs.Undone.{undoneIn, undoneMove, undone, takenBack, reopened, isFinished, finishUndone, undoRefusal, undoCall}
-use Rattle.move_undo.proofs.Taken.{less-standing, taken-moves}
+use Rattle.move_undo.proofs.Taken.{less-standing, standing-behind, taken-moves}
 
 -- what the code stores of a move that is taken back
 module _ (t : Table) (w : List (List ℕ)) (m : Move) (em : lastEntry (wholeOf t w) .step ≡ m) where

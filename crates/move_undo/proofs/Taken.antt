@@ -25,6 +25,15 @@ less-standing (suc m) es =
     let e : suc m - 1 ≡ m = omega arith in
     rw e (sym (back-standing m (suc m) es blank refl ∙ keep-standing m m es blank (omega arith)))
 
+-- a place behind the standing moves
+pub standing-behind : (m : ℕ) (es : List Entry) (i : ℕ) → m ≤ i → getD (standing m es) i blank ≡ blank
+unfolding standing
+standing-behind m [] i h = refl
+standing-behind zero (e ∷ es) zero h = refl
+standing-behind zero (e ∷ es) (suc i) h = standing-behind zero es i (omega arith)
+standing-behind (suc m) (e ∷ es) zero h = absurd (omega arith)
+standing-behind (suc m) (e ∷ es) (suc i) h = standing-behind m es i (omega arith)
+
 -- none more, one more, or one that cannot be taken back
 pub taken-none : (left : ℕ) (b : Board) → left ≡ 0 → record { answer = 0; board = b } ≡ takenBack left b
 unfolding takenBack
