@@ -8,7 +8,7 @@ use native.Mathlib.Omega.{arith}
 use lib.Dec.{leb, eqb}
 use lib.ListN.{length, getD, set, length-set}
 use lib.Seq.{getD-set-other}
-use borrow.Author.Tests.{eqb-false, leb-true}
+use borrow.Author.Tests.{eqb-false}
 use Rattle.lists.specs.Choice.{pick}
 use Rattle.lists.proofs.Laws.{Known, was-true, was-false, known, eq-or-ne, pick-yes, pick-no, pick-passed, pick-avoided}
 use Rattle.board.specs.Record.{blank}
@@ -84,8 +84,8 @@ module _ (b : Board) (w : List (List ℕ)) (kept : Kept b w) where
       let some : b .moves ≢ 0 = eqb-false (b .moves) 0 t in
       one (undone b) (b .moves - 1) blank (omega arith) (omega arith) refl
 
-  finish-undone-kept : leb (b .«finish_from») (b .moves) ≡ true → wayBack b .answer ≡ 0 → Kept (finishUndone b) (wordsAfter (b .moves) (finishUndone b) w)
-  finish-undone-kept t z =
+  finish-undone-kept : wayBack b .answer ≡ 0 → Kept (finishUndone b) (wordsAfter (b .moves) (finishUndone b) w)
+  finish-undone-kept z =
       let k : ℕ = b .moves - b .«finish_from» in
       let moves : finishUndone b .moves ≡ b .moves - k = taken-moves k b z in
       fewer (finishUndone b) (omega (arith, moves)) (taken-length k b) (λ i h. taken-same k b i (omega arith) (out moves i h))
@@ -107,7 +107,7 @@ module _ (b : Board) (w : List (List ℕ)) (kept : Kept b w) where
       go (was-true t) q =
           let tests = pick-passed (leb (b .«finish_from») (b .moves)) (wayBack b .answer) 19 (sym (pick-yes _ _ _ t) ∙ q) in
           let is : next ≡ finishUndone b = pick-yes _ _ _ t in
-          rw is (finish-undone-kept (tests .0) (tests .1))
+          rw is (finish-undone-kept (tests .1))
       go (was-false t) q =
           let is : next ≡ undone b = pick-no _ _ _ t in
           rw is (undone-kept (pick-avoided (eqb (b .moves) 0) 0 26 (sym (pick-no _ _ _ t) ∙ q) .0))

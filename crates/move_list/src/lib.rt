@@ -5,15 +5,16 @@ use journal::WORDS;
 use move_cycle::StepCode;
 use solve_next::Advice;
 ghost use mathlib.Core.Path.{_≡_};
+ghost use mathlib.Core.Bool.{true};
 ghost use mathlib.Core.List.{List};
-ghost use Prim.Native.Nat.{ℕ, _+_, _-_, _<_, _≤_};
+ghost use Prim.Native.Nat.{ℕ, _+_, _-_, _≤_};
 ghost use Rattle.move_turn.specs.Turns.{turnCall};
 ghost use Rattle.move_cycle.specs.Steps.{stepsOf};
 ghost use Rattle.journal.specs.Words.{wholeOf, givenOf, wordsAfter};
 ghost use Rattle.move_list.specs.Words.{wordsPlayed};
 ghost use Rattle.move_list.specs.Calls.{gameOf, played, answers, hintsOf, adviceHead, adviceCode, behind, noted};
-ghost use Rattle.move_list.specs.Inner.{lastPlace, OneMade};
-ghost use Rattle.move_list.specs.Codes.{part, hintCode, callOf, callsOf};
+ghost use Rattle.move_list.specs.Inner.{lastPlace, isPlayed, OneMade};
+ghost use Rattle.move_list.specs.Codes.{part, callOf, callsOf};
 ghost use lib.ListN.{length};
 ghost use lib.Seq.{sets};
 
@@ -33,6 +34,8 @@ impl CallCode {
     pub const UNDO: u32 = 2;
     // A hint.
     pub const HINT: u32 = 3;
+    // A finish.
+    pub const FINISH: u32 = 4;
 }
 
 // How many numbers of a hint stand before its steps, and how many it has.
@@ -70,7 +73,7 @@ fn make(
     steps: &[u8],
     call: CallCode,
 ) -> Played
-    requires { ⌜ call .kind < hintCode ⌝ }
+    requires { ⌜ isPlayed (call .kind) ≡ true ⌝ }
     ensures { λ r. ⌜ OneMade (wholeOf board (now (journal .entry))) (now (journal .entry))
         (callOf (now (steps .entry)) (call .kind) (call .first) (call .second))
         (givenOf r (now (journal .exit))) (now (journal .exit)) ⌝ }
@@ -81,6 +84,14 @@ fn make(
     if call.kind == CallCode::TURN {
         return turn_part(board, journal, steps, call.first, call.second);
     }
+    if call.kind == CallCode::FINISH {
+        let ended = solve_finish::finish(board, journal);
+        let last = ended.board;
+        return Played {
+            answer: ended.answer,
+            board: last,
+        };
+    }
     move_undo::undo(board, journal)
 }
 
@@ -88,7 +99,7 @@ fn make(
 fn answer_count(kind: u32) -> usize
     ensures { λ r. ⌜ ((steps : List ℕ) (a c : ℕ) → r ≡ length (callOf steps kind a c)) ⌝ }
 {
-    if kind <= CallCode::HINT {
+    if kind <= CallCode::FINISH {
         return 1;
     }
     0
@@ -165,7 +176,8 @@ pub fn run(
             first: codes[i + 1],
             second: codes[i + 2],
         };
-        if call.kind < CallCode::HINT {
+        let is_played = lists::or(call.kind < CallCode::HINT, call.kind == CallCode::FINISH);
+        if is_played {
             let given = make(b, journal, steps, call);
             lists::put_word(buf, k, given.answer);
             b = given.board;

@@ -1,4 +1,4 @@
--- A kind up to that of a hint is one call, and a kind past it is none.
+-- A kind up to that of a finish is one call, and a kind past it is none.
 use mathlib.Core.Path.{sym, ap}
 use lib.ListN.{length}
 use native.Mathlib.Omega.{arith}

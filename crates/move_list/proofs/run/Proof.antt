@@ -1,6 +1,6 @@
 -- The calls that are left, from the board and the words as they are now, end in the same board and words as all of them; their answers and hints fill the buffers in the
 -- same way.
-use mathlib.Core.Path.{refl, ap, _∙_}
+use mathlib.Core.Path.{refl, sym, ap, _∙_}
 use Prim.Native.Nat.{ℕ, _+_, _-_}
 use lib.ListN.{length, getD}
 use mathlib.Core.Logic.{⊎-elim}
@@ -9,7 +9,7 @@ use borrow.Author.Needs.{needs}
 use Rattle.journal.specs.Words.{wholeOf, givenOf}
 use Rattle.move_list.specs.Calls.{Game, gameOf}
 use Rattle.move_list.proofs.Coded.{all-left, played-end, answers-end, hints-end}
-use Rattle.move_list.proofs.Going.{few-coded, hint-coded, none-coded, past, Round, round-moved, round-hinted, round-skipped, words-end}
+use Rattle.move_list.proofs.Going.{few-coded, hint-coded, none-coded, no-kind, Round, round-moved, round-hinted, round-skipped, words-end}
 use Rattle.move_list.proofs.run.Statement.{statement}
 use Rattle.move_list.proofs.run.Tie as tie
 
@@ -34,32 +34,37 @@ loop-holds c = record {
 sub-i : tie.Need-sub-i Inv-loop μ-loop
 sub-i c = omega arith
 
-mul-t17 : tie.Need-mul-t17 Inv-loop μ-loop
-mul-t17 c = search needs
+mul-t18 : tie.Need-mul-t18 Inv-loop μ-loop
+mul-t18 c = search needs
 
-shared-slice-read-t19 : tie.Need-shared-slice-read-t19 Inv-loop μ-loop
-shared-slice-read-t19 c = omega arith
+shared-slice-read-t20 : tie.Need-shared-slice-read-t20 Inv-loop μ-loop
+shared-slice-read-t20 c = omega arith
 
-add-t20 : tie.Need-add-t20 Inv-loop μ-loop
-add-t20 c = omega arith
+add-t21 : tie.Need-add-t21 Inv-loop μ-loop
+add-t21 c = omega arith
 
-mul-t21 : tie.Need-mul-t21 Inv-loop μ-loop
-mul-t21 c = search needs
+mul-t22 : tie.Need-mul-t22 Inv-loop μ-loop
+mul-t22 c = search needs
 
-shared-slice-read-t23 : tie.Need-shared-slice-read-t23 Inv-loop μ-loop
-shared-slice-read-t23 c = omega arith
+shared-slice-read-t24 : tie.Need-shared-slice-read-t24 Inv-loop μ-loop
+shared-slice-read-t24 c = omega arith
 
-add-t24 : tie.Need-add-t24 Inv-loop μ-loop
-add-t24 c = omega arith
+add-t25 : tie.Need-add-t25 Inv-loop μ-loop
+add-t25 c = omega arith
 
-mul-t25 : tie.Need-mul-t25 Inv-loop μ-loop
-mul-t25 c = search needs
+mul-t26 : tie.Need-mul-t26 Inv-loop μ-loop
+mul-t26 c = search needs
 
-shared-slice-read-t27 : tie.Need-shared-slice-read-t27 Inv-loop μ-loop
-shared-slice-read-t27 c = omega arith
+shared-slice-read-t28 : tie.Need-shared-slice-read-t28 Inv-loop μ-loop
+shared-slice-read-t28 c = omega arith
+
+or-requires : tie.Need-or-requires Inv-loop μ-loop
+or-requires c κs = search needs
 
 make-requires : tie.Need-make-requires Inv-loop μ-loop
-make-requires c κs = search needs
+make-requires c κs =
+    let at-if = c .before in
+    sym (at-if .before .or .ensures) ∙ at-if .if1 .taken
 
 put-word-requires : tie.Need-put-word-requires Inv-loop μ-loop
 put-word-requires c κs = search needs
@@ -78,7 +83,8 @@ answer-count-requires c κs = search needs
 
 add-k : tie.Need-add-k Inv-loop μ-loop
 add-k c =
-    let at-test = c .before .before .before .before .before .before in
+    let judged = c .before .before in
+    let at-test = judged .before .before .before .before .before .before in
     let loop = at-test .before .loop in
     let start = at-test .before .before .before .before .before .before in
     let steps = start .args .steps .now in
@@ -90,7 +96,8 @@ loop-less c = omega arith
 
 loop-again : tie.Need-loop-again Inv-loop μ-loop
 loop-again c =
-    let at-test = c .before .before .before .before .before .before in
+    let judged = c .before .before in
+    let at-test = judged .before .before .before .before .before .before in
     let loop = at-test .before .loop in
     let start = at-test .before .before .before .before .before .before in
     let some = at-test .loop-test .taken in
@@ -106,7 +113,7 @@ loop-again c =
     round-hinted _ _ _ _ _ _ _ _ _ _ _ _ _ some (loop .inv) _ _ _ _ _ _ counted (w .4 .result) (hint-coded steps _ _ _ (omega (arith, w .2 .taken))) (w .4 .ensures)
     (w .15 ∙ w .6 .ensures) (w .16 ∙ w .11 .ensures .1) (w .18 ∙ w .11 .ensures .0) (λ i. wholeOf (w .17 i) (w .14 i)) (w .14))
     (λ w.
-    round-skipped _ _ _ _ _ _ _ _ _ _ _ _ _ some (loop .inv) _ _ _ _ _ _ counted (none-coded steps _ _ _ (past (w .0 .left) (w .2 .left))) (w .4) (w .5)
+    round-skipped _ _ _ _ _ _ _ _ _ _ _ _ _ some (loop .inv) _ _ _ _ _ _ counted (none-coded steps _ _ _ (no-kind _ (sym (judged .or .ensures) ∙ w .0 .left) (w .2 .left))) (w .4) (w .5)
     (λ i. wholeOf (w .6 i) (w .3 i)) (w .3) (w .7)))
     (c .before .if1 .came)
 
@@ -142,14 +149,15 @@ run-spec =
     μ-loop
     loop-holds
     sub-i
-    mul-t17
-    shared-slice-read-t19
-    add-t20
-    mul-t21
-    shared-slice-read-t23
-    add-t24
-    mul-t25
-    shared-slice-read-t27
+    mul-t18
+    shared-slice-read-t20
+    add-t21
+    mul-t22
+    shared-slice-read-t24
+    add-t25
+    mul-t26
+    shared-slice-read-t28
+    or-requires
     make-requires
     put-word-requires
     hint-requires
