@@ -69,9 +69,9 @@ pub fn entries(player: &Player) -> Vec<[u64; ENTRY]> {
     let mut entries = Vec::new();
     if let Some(network) = player.network() {
         let mut before = Board::first(network, player.acyclic_flows());
-        for made in player.standing().iter().chain(player.finishing()) {
-            let after = before.after(network, made);
-            entries.push(entry_of(network, &before, &after, made));
+        for made in player.moves() {
+            let after = before.after(network, &made);
+            entries.push(entry_of(network, &before, &after, &made));
             before = after;
         }
     }

@@ -1,9 +1,9 @@
-//! Document 01, "The player who never strayed", and the refusals of every call in their order.
+//! Document 01, "The player who never strayed", with document 02's E1, and the refusals of every call in their order.
 
 use crate::cancelling::acyclic_flows;
 use crate::moves::{is_open, is_singular, open_carries, Board, Move, Step};
 use crate::report::report;
-use crate::solver::{finishing_moves, next_move};
+use crate::solver::{finished, finishing_moves, next_move};
 use crate::text::{read, write, Network, Refusal};
 
 /// "This player is fed the loaded text and the calls with their arguments, no answers. The state is a list of moves, the standing ones, empty
@@ -12,9 +12,15 @@ use crate::text::{read, write, Network, Refusal};
 pub struct Player {
     /// None where nothing was loaded.
     loaded: Option<Loaded>,
-    standing: Vec<Move>,
-    /// The moves of the finish, once one was accepted.
-    finishing: Option<Vec<Move>>,
+    standing: Vec<Item>,
+}
+
+/// What stands. "A finish not taken back stands like a move" (document 02, E1); behind it no call but undo is accepted,
+/// so it is the last of the list. Which moves it makes, the board before it decides.
+#[derive(Clone, Debug, PartialEq, Eq)]
+pub enum Item {
+    Move(Move),
+    Finish,
 }
 
 /// A call with its arguments.
@@ -59,7 +65,7 @@ pub(crate) fn put(text: &[u8], buffer: &mut [u8]) -> Written {
 impl Player {
     /// "A refused load gives the closed board, with no pools, on which every call but load is refused."
     pub fn closed() -> Player {
-        Player { loaded: None, standing: Vec::new(), finishing: None }
+        Player { loaded: None, standing: Vec::new() }
     }
 
     /// A load: its answer, and the player after it.
@@ -76,7 +82,7 @@ impl Player {
     /// "20 play is over (a finish was accepted), or no board was loaded."
     fn in_play(&self) -> Result<&Network, Refusal> {
         match &self.loaded {
-            Some(loaded) if self.finishing.is_none() => Ok(&loaded.network),
+            Some(loaded) if !self.is_over() => Ok(&loaded.network),
             _ => Err(20),
         }
     }
@@ -91,24 +97,41 @@ impl Player {
     }
 
     pub fn is_over(&self) -> bool {
-        self.finishing.is_some()
+        self.standing.last() == Some(&Item::Finish)
     }
 
-    pub fn standing(&self) -> &[Move] {
+    pub fn standing(&self) -> &[Item] {
         &self.standing
     }
 
-    /// The moves of an accepted finish; none before.
-    pub fn finishing(&self) -> &[Move] {
-        self.finishing.as_deref().unwrap_or_default()
+    /// "The player's board is made afresh from both: .. then the listed moves in order, as under Moves." With the board
+    /// all moves that led to it, those of a finish among them.
+    fn made(&self) -> Option<(Vec<Move>, Board)> {
+        let Loaded { network, acyclic_flows } = self.loaded.as_ref()?;
+        let (mut moves, mut board) = (Vec::new(), Board::first(network, acyclic_flows));
+        for item in &self.standing {
+            match item {
+                Item::Move(made) => {
+                    board = board.after(network, made);
+                    moves.push(made.clone());
+                }
+                Item::Finish => {
+                    let (finishing, end) = finished(network, &board);
+                    board = end;
+                    moves.extend(finishing);
+                }
+            }
+        }
+        Some((moves, board))
     }
 
-    /// "The player's board is made afresh from both: .. then the listed moves in order, as under Moves." After a finish, its moves too.
     pub fn board(&self) -> Option<Board> {
-        let Loaded { network, acyclic_flows } = self.loaded.as_ref()?;
-        let moves = self.standing.iter().chain(self.finishing());
-        let first = Board::first(network, acyclic_flows);
-        Some(moves.fold(first, |board, made| board.after(network, made)))
+        self.made().map(|(_, board)| board)
+    }
+
+    /// The moves of the board, those of a finish included: "The finishing moves go into the journal".
+    pub fn moves(&self) -> Vec<Move> {
+        self.made().map_or(Vec::new(), |(moves, _)| moves)
     }
 
     /// A board in play, made afresh, with its network.
@@ -168,7 +191,7 @@ impl Player {
     fn make(&mut self, judged: Result<Move, Refusal>) -> Refusal {
         match judged {
             Ok(made) => {
-                self.standing.push(made);
+                self.standing.push(Item::Move(made));
                 0
             }
             Err(refusal) => refusal,
@@ -185,16 +208,14 @@ impl Player {
         self.make(judged)
     }
 
-    /// "Undo: 20, 27." "27 on an empty list. Else 0, and the last move leaves the list."
+    /// "Undo: 20, 27." "27 on an empty list. Else 0, and the last move leaves the list." By E1 a finish leaves it like
+    /// a move: "Undo after an accepted finish shall bring back the board just before it, all earlier moves still
+    /// standing", and "Refusal 20 on undo remains only where no board was loaded".
     pub fn undo(&mut self) -> Refusal {
-        match self.in_play() {
-            Err(refusal) => refusal,
-            Ok(_) if self.standing.is_empty() => 27,
-            Ok(_) => {
-                self.standing.pop();
-                0
-            }
+        if self.loaded.is_none() {
+            return 20;
         }
+        self.standing.pop().map_or(27, |_| 0)
     }
 
     /// Document 02, E3: "The hint shall give the move that finish would make next on this board." None "where no move is left".
@@ -206,9 +227,8 @@ impl Player {
     /// "Finish plays to the end and answers how many moves it made."
     pub fn finish(&mut self) -> Result<usize, Refusal> {
         let (network, board) = self.in_play_board()?;
-        let moves = finishing_moves(network, &board);
-        let count = moves.len();
-        self.finishing = Some(moves);
+        let count = finishing_moves(network, &board).len();
+        self.standing.push(Item::Finish);
         Ok(count)
     }
 

@@ -4,7 +4,7 @@ use crate::boards::random_board;
 use crate::calls::{habits, random_call, random_input};
 use crate::cancelling::{acyclic_flows, is_on_cycle};
 use crate::moves::{amount, open_carries, Board, Move};
-use crate::player::{Call, Player};
+use crate::player::{Call, Item, Player};
 use crate::programs::{hint_line, line, line_of, play, sheet};
 use crate::random::Random;
 use crate::report::load;
@@ -21,6 +21,9 @@ pub struct Tally {
     pub cancelled: u64,
     /// How often each call got each answer.
     pub answers: BTreeMap<(&'static str, u32), u64>,
+    /// Finishes of no moves, and finishes taken back.
+    pub empty_finishes: u64,
+    pub taken_back: u64,
     /// Turns over a trail that passes a vertex twice.
     pub twice: u64,
     pub most_turns: usize,
@@ -38,6 +41,8 @@ impl Tally {
         for (key, count) in other.answers {
             *self.answers.entry(key).or_default() += count;
         }
+        self.empty_finishes += other.empty_finishes;
+        self.taken_back += other.taken_back;
         self.twice += other.twice;
         self.most_turns = self.most_turns.max(other.most_turns);
         self.most_of_bound = self.most_of_bound.max(other.most_of_bound);
@@ -95,9 +100,9 @@ fn is_simple(network: &Network, route: &[usize], home: usize) -> bool {
     here == home
 }
 
-/// "Finish completes a board", with the strict bound: "load less its largest" is below the acyclic flow on every edge in use.
-fn check_finish(network: &Network, acyclic: &[u64], board: &Board, standing: usize, tally: &mut Tally) -> Checked {
-    let (moves, end) = finished(network, board);
+/// A board is complete: every terminal is at the source, the routes are simple, "load less its largest" is below the
+/// acyclic flow on every edge in use, and the moves, those of the finish among them, keep their bound.
+fn check_complete(network: &Network, acyclic: &[u64], end: &Board, moves: usize, tally: &mut Tally) -> Checked {
     check(end.is_home(network), "finish leaves a terminal away")?;
     for (route, terminal) in end.routes.iter().zip(&network.terminals) {
         check(is_simple(network, route, terminal.home), "a route is not simple")?;
@@ -111,8 +116,15 @@ fn check_finish(network: &Network, acyclic: &[u64], board: &Board, standing: usi
         }
     }
     let bound = bound_of_moves(network);
-    check(standing + moves.len() <= bound, "the bound of moves is broken")?;
-    tally.most_of_bound = tally.most_of_bound.max(1000 * (standing + moves.len()) / bound);
+    check(moves <= bound, "the bound of moves is broken")?;
+    tally.most_of_bound = tally.most_of_bound.max(1000 * moves / bound);
+    Ok(())
+}
+
+/// "Finish completes a board", from a board in play with so many standing moves.
+fn check_finish(network: &Network, acyclic: &[u64], board: &Board, standing: usize, tally: &mut Tally) -> Checked {
+    let (moves, end) = finished(network, board);
+    check_complete(network, acyclic, &end, standing + moves.len(), tally)?;
     let turns = moves.iter().filter(|made| matches!(made, Move::Turn(_))).count();
     tally.most_turns = tally.most_turns.max(turns);
     tally.reached += 1;
@@ -183,49 +195,96 @@ pub fn check_hint(player: &Player) -> Checked {
     check(after.call(&Call::of_move(&hinted)) == 0, "a hint's move is refused")?;
     let (rest, same_end) = finished(network, &after.board().expect("a board was loaded"));
     check(rest.len() + 1 == moves.len(), "finish after the hint's move does not count one less")?;
-    check([player.standing(), &moves].concat() == [after.standing(), &rest].concat(), "finish after the hint's move makes other moves")?;
+    check([player.moves(), moves].concat() == [after.moves(), rest].concat(), "finish after the hint's move makes other moves")?;
     check(end == same_end, "finish after the hint's move ends in another board")
+}
+
+/// A play on its way: the player, and the boards that its standing items went through, kept apart from the player, who
+/// makes each afresh.
+struct Play<'a> {
+    network: &'a Network,
+    acyclic: Vec<u64>,
+    player: Player,
+    boards: Vec<Board>,
+}
+
+impl Play<'_> {
+    fn board(&self) -> &Board {
+        self.boards.last().expect("the first board is never taken back")
+    }
+
+    /// The board of the item that has just joined the list. Document 02, E1: "A finish not taken back stands like a
+    /// move, and its board is complete already, within the overfill limit." Each of its moves can be taken back alone,
+    /// too.
+    fn check_joined(&self, tally: &mut Tally) -> Result<Board, String> {
+        let moves = match self.player.standing().last() {
+            Some(Item::Move(made)) => vec![made.clone()],
+            _ => finished(self.network, self.board()).0,
+        };
+        let mut board = self.board().clone();
+        for made in &moves {
+            let after = board.after(self.network, made);
+            check_move(self.network, &board, &after, made, tally)?;
+            board = after;
+        }
+        if self.player.is_over() {
+            check(self.player.sheet_text().is_ok(), "a finished board has no sheet")?;
+            check_complete(self.network, &self.acyclic, &board, self.player.moves().len(), tally)?;
+            tally.empty_finishes += u64::from(moves.is_empty());
+        }
+        Ok(board)
+    }
+
+    /// The board, and what a finish and a hint make of it where it is in play.
+    fn check_board(&self, tally: &mut Tally) -> Checked {
+        if self.player.is_over() {
+            return Ok(());
+        }
+        check(self.player.sheet_text() == Err(28), "a board in play has a sheet")?;
+        check_finish(self.network, &self.acyclic, self.board(), self.player.standing().len(), tally)?;
+        check_hint(&self.player)
+    }
+
+    /// A call, what it answers, and the board that it leads to.
+    fn check_call(&mut self, call: &Call, tally: &mut Tally) -> Checked {
+        let before = self.player.clone();
+        let refusal = self.player.call(call);
+        *tally.answers.entry((name_of(call), refusal)).or_default() += 1;
+        if before.is_over() {
+            // "Refusal 20 on undo remains only where no board was loaded."
+            let wanted = if *call == Call::Undo { 0 } else { 20 };
+            check(refusal == wanted, "a call after a finish is answered otherwise")?;
+        }
+        match (call, refusal) {
+            (Call::Undo, 0) => {
+                self.boards.pop();
+                tally.taken_back += u64::from(before.is_over());
+            }
+            (Call::Carry { .. } | Call::Turn(_) | Call::Finish, 0) => self.boards.push(self.check_joined(tally)?),
+            _ => check(self.player == before, "a refused call or a hint changes the standing moves")?,
+        }
+        check(self.player.board().as_ref() == Some(self.board()), "the board is not the one of the standing moves")?;
+        let is_new = refusal == 0 && *call != Call::Hint;
+        if is_new {
+            self.check_board(tally)
+        } else {
+            Ok(())
+        }
+    }
 }
 
 /// Plays a list of calls, and checks every board that it reaches.
 fn check_play(rng: &mut Random, network: &Network, calls: &mut Vec<Call>, tally: &mut Tally) -> Checked {
     let acyclic = acyclic_flows(network);
-    let (_, mut player) = Player::load(&write(network));
-    // The boards that the standing moves went through, kept apart from the player, who makes each afresh.
-    let mut boards = vec![Board::first(network, &acyclic)];
+    let boards = vec![Board::first(network, &acyclic)];
+    let mut play = Play { network, acyclic, player: Player::load(&write(network)).1, boards };
     let habits = habits(rng);
     let count = if rng.chance(1, 20) { 60 } else { rng.between(1, 10) };
-    check_finish(network, &acyclic, &boards[0], 0, tally)?;
-    check_hint(&player)?;
+    play.check_board(tally)?;
     while calls.len() < count {
-        let call = random_call(rng, habits, &player);
+        let call = random_call(rng, habits, &play.player);
         calls.push(call.clone());
-        let was_over = player.is_over();
-        let standing = player.standing().to_vec();
-        let refusal = player.call(&call);
-        *tally.answers.entry((name_of(&call), refusal)).or_default() += 1;
-        check(!was_over || refusal == 20, "a call is accepted after a finish")?;
-        if player.is_over() {
-            check(refusal == 20 || player.board().unwrap().is_home(network), "a finish leaves a terminal away")?;
-            continue;
-        }
-        match (&call, refusal) {
-            (Call::Undo, 0) => drop(boards.pop()),
-            (Call::Carry { .. } | Call::Turn(_), 0) => {
-                let made = player.standing().last().unwrap().clone();
-                let before = boards.last().unwrap();
-                let after = before.after(network, &made);
-                check_move(network, before, &after, &made, tally)?;
-                boards.push(after);
-            }
-            _ => check(player.standing() == standing, "a refused call changes the standing moves")?,
-        }
-        let board = boards.last().unwrap();
-        check(player.board().as_ref() == Some(board), "the board is not the one of the standing moves")?;
-        if refusal == 0 && call != Call::Hint {
-            check_finish(network, &acyclic, board, player.standing().len(), tally)?;
-            check_hint(&player)?;
-        }
+        play.check_call(&call, tally)?;
     }
     Ok(())
 }
@@ -242,9 +301,8 @@ fn check_programs(rng: &mut Random, text: &[u8]) -> Checked {
     check(answers.len() == calls.len(), "play does not answer each line once")?;
     let accepted = |wanted: &[u8]| calls.iter().zip(&answers).filter(|(call, answer)| *call == wanted && **answer == b"0\n").count();
     check(hints.len() == accepted(b"H\n"), "play prints a move without a hint, or none after one")?;
-    let is_finished = accepted(b"F\n") > 0;
     let sheet_lines = lines(&sheet(text)).len();
-    check(sheets.len() == if is_finished { sheet_lines } else { 0 }, "play prints a sheet without a finish, or none after one")
+    check(sheets.len() == accepted(b"F\n") * sheet_lines, "play prints a sheet without a finish, or none after one")
 }
 
 /// Checks one random board. A fault is told with the text and the calls.

@@ -124,7 +124,7 @@ fn closed_and_finished_boards() {
     let mut player = loaded(S.as_bytes());
     assert_eq!(player.sheet(&mut []), Err(28));
     assert_eq!(player.finish(), Ok(1));
-    assert_eq!((player.carry(99, 99), player.undo(), player.finish()), (20, 20, Err(20)));
+    assert_eq!((player.carry(99, 99), player.turn(&[]), player.hint(), player.finish()), (20, 20, Err(20), Err(20)));
     assert_eq!((player.sheet(&mut buffer[..21]), player.write(&mut buffer[..23])), (Err(8), Err(8)));
     assert_eq!(buffer, [7; 100]);
     assert_eq!((player.sheet(&mut buffer), buffer[22]), (Ok(22), 7));

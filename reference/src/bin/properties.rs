@@ -33,6 +33,7 @@ fn main() {
     println!("boards reached by play, each finished: {}", tally.reached);
     println!("most turns of a finish: {}; most of the bound of moves: {}/1000", tally.most_turns, tally.most_of_bound);
     println!("turns over a trail that passes a vertex twice: {}; edges with excess at the end: {}", tally.twice, tally.excess);
+    println!("finishes of no moves: {}; finishes taken back: {}", tally.empty_finishes, tally.taken_back);
     for ((call, answer), times) in &tally.answers {
         println!("{call} answered {answer}: {times}");
     }

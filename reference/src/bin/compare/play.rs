@@ -85,8 +85,8 @@ fn end_by_reference(player: &Player) -> End {
         places.iter_mut().zip(&board.places).for_each(|(place, vertex)| *place = number(*vertex));
         marks = set_of(board.marks.iter().copied());
     }
-    let moves = player.standing().len() + player.finishing().len();
-    End { flows, places, marks, moves: number(moves), journal: journal_of(player) }
+    let entries = entries(player);
+    End { flows, places, marks, moves: number(entries.len()), journal: journal_of_entries(entries.into_iter()) }
 }
 
 /// The answers of the calls, and places behind them that nothing is written into: what is no call has no answer.
