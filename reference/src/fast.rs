@@ -24,7 +24,8 @@ const BLANK: Entry = Entry::Carry { terminal: 0, edge: 0 };
 enum Stage {
     Closed,
     Play,
-    Finished,
+    /// With how many moves stood before the finish.
+    Finished(usize),
 }
 
 /// A board, loaded and played in place. Places past the counts hold anything but in the journal, which holds blanks there.
@@ -373,14 +374,24 @@ impl Board {
         0
     }
 
-    /// "Undo: 20, 27."
+    /// "Undo: 20, 27." A finish is taken back at once, with all its moves.
     pub fn undo(&mut self) -> Refusal {
-        if self.stage != Stage::Play {
-            return 20;
+        let left = match self.stage {
+            Stage::Closed => return 20,
+            Stage::Play if self.moves == 0 => return 27,
+            Stage::Play => self.moves - 1,
+            Stage::Finished(standing) => standing,
+        };
+        while self.moves > left {
+            self.take_back();
         }
-        if self.moves == 0 {
-            return 27;
-        }
+        self.stage = Stage::Play;
+        0
+    }
+
+    /// Takes the last move back.
+    #[inline]
+    fn take_back(&mut self) {
         self.moves -= 1;
         match std::mem::replace(&mut self.journal[self.moves], BLANK) {
             Entry::Carry { terminal, edge } => {
@@ -394,7 +405,6 @@ impl Board {
                 self.marks -= marked;
             }
         }
-        0
     }
 
     /// The flows fall on one set of edges and rise on another.
@@ -489,7 +499,7 @@ impl Board {
                 }
             }
         }
-        self.stage = Stage::Finished;
+        self.stage = Stage::Finished(before);
         Ok(self.moves - before)
     }
 
@@ -498,7 +508,7 @@ impl Board {
         match self.stage {
             Stage::Closed => return Err(29),
             Stage::Play => return Err(28),
-            Stage::Finished => {}
+            Stage::Finished(_) => {}
         }
         let mut routes = [[0u8; VERTICES]; TERMINALS];
         let mut counts = [0usize; TERMINALS];
