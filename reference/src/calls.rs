@@ -129,24 +129,32 @@ pub struct Habits {
     /// In how many of a hundred calls a move that is accepted, and an undo.
     pub moves: usize,
     pub undos: usize,
-    /// In how many of a hundred calls a finish.
+    /// In how many of a hundred calls a finish; with 0 there is none.
     pub finishes: usize,
 }
 
 pub fn habits(rng: &mut Random) -> Habits {
-    let moves = rng.pick(&[20, 50, 80]);
-    Habits { moves, undos: rng.pick(&[2, 10, 18]), finishes: rng.pick(&[0, 0, 0, 2]) }
+    let moves = rng.pick(&[20, 50, 75]);
+    Habits { moves, undos: rng.pick(&[2, 10, 17]), finishes: rng.pick(&[0, 4, 8]) }
 }
 
-/// The next call of a list, with the player as the calls before it left it.
+/// A call where every terminal is at the source: a finish of no moves where play goes on, or an undo.
+fn call_at_source(rng: &mut Random, habits: Habits, player: &Player) -> Call {
+    if habits.finishes > 0 && !player.is_over() && rng.chance(1, 4) {
+        return Call::Finish;
+    }
+    Call::Undo
+}
+
+/// The next call of a list, with the player as the calls before it left it. A finish may stand: every call but an undo
+/// is refused then.
 pub fn random_call(rng: &mut Random, habits: Habits, player: &Player) -> Call {
     let network = player.network().expect("a board was loaded");
     let board = player.board().expect("a board was loaded");
     let kind = rng.below(100);
-    if kind < habits.moves && !player.is_over() {
-        if let Some(made) = good_move(rng, network, &board) {
-            return Call::of_move(&made);
-        }
+    if kind < habits.moves {
+        let made = good_move(rng, network, &board);
+        return made.map_or_else(|| call_at_source(rng, habits, player), |made| Call::of_move(&made));
     }
     if kind < habits.moves + habits.undos {
         return Call::Undo;

@@ -14,13 +14,15 @@ pub enum EngineCall {
     Turn(Vec<u8>),
     Undo,
     Hint,
+    Finish,
     NoCall([u32; 3]),
 }
 
 /// The kinds of calls have the numbers from 0 up to, and without, this one.
-const KINDS: u32 = 4;
+const KINDS: u32 = 5;
 
-/// Three numbers a call: 0, terminal and edge; 1, and where its steps begin and end; 2 for an undo; 3 for a hint. And the steps of all turns.
+/// Three numbers a call: 0, terminal and edge; 1, and where its steps begin and end; 2 for an undo; 3 for a hint; 4 for
+/// a finish. And the steps of all turns.
 pub fn codes_of(calls: &[EngineCall]) -> (Vec<u32>, Vec<u8>) {
     let (mut codes, mut steps) = (Vec::new(), Vec::new());
     for call in calls {
@@ -33,6 +35,7 @@ pub fn codes_of(calls: &[EngineCall]) -> (Vec<u32>, Vec<u8>) {
             }
             EngineCall::Undo => codes.extend([2, 0, 0]),
             EngineCall::Hint => codes.extend([3, 0, 0]),
+            EngineCall::Finish => codes.extend([4, 0, 0]),
             EngineCall::NoCall(numbers) => codes.extend(numbers),
         }
     }
@@ -85,32 +88,32 @@ pub fn call_by_reference(player: &mut Player, call: &EngineCall) -> Option<u32> 
         EngineCall::Turn(bytes) => Some(player.turn(&bytes.iter().map(|byte| Step::of_byte(*byte)).collect::<Vec<_>>())),
         EngineCall::Undo => Some(player.undo()),
         EngineCall::Hint => Some(player.hint().err().unwrap_or(0)),
+        EngineCall::Finish => Some(player.finish().err().unwrap_or(0)),
         EngineCall::NoCall(_) => None,
     }
 }
 
-/// The call for the engine; none for a finish, which is made behind the list. A step whose edge is past what a byte holds becomes one that no
-/// board has.
-pub fn engine_call(call: &Call) -> Option<EngineCall> {
+/// The call for the engine. A step whose edge is past what a byte holds becomes one that no board has.
+pub fn engine_call(call: &Call) -> EngineCall {
     let byte = |step: &Step| step.edge.min(127) as u8 + if step.is_up { 128 } else { 0 };
     match call {
-        Call::Carry { terminal, edge } => Some(EngineCall::Carry(number(*terminal), number(*edge))),
-        Call::Turn(steps) => Some(EngineCall::Turn(steps.iter().map(byte).collect())),
-        Call::Undo => Some(EngineCall::Undo),
-        Call::Hint => Some(EngineCall::Hint),
-        Call::Finish => None,
+        Call::Carry { terminal, edge } => EngineCall::Carry(number(*terminal), number(*edge)),
+        Call::Turn(steps) => EngineCall::Turn(steps.iter().map(byte).collect()),
+        Call::Undo => EngineCall::Undo,
+        Call::Hint => EngineCall::Hint,
+        Call::Finish => EngineCall::Finish,
     }
 }
 
 /// The next call: as a rule one with a purpose, at times any numbers or any bytes.
-fn next_call(rng: &mut Random, habits: Habits, player: &Player) -> Option<EngineCall> {
+fn next_call(rng: &mut Random, habits: Habits, player: &Player) -> EngineCall {
     match rng.below(40) {
-        0 => Some(EngineCall::Carry(rng.below(1 << 32) as u32, rng.below(1 << 32) as u32)),
+        0 => EngineCall::Carry(rng.below(1 << 32) as u32, rng.below(1 << 32) as u32),
         1 => {
             let count = rng.below(6);
-            Some(EngineCall::Turn(rng.bytes(count)))
+            EngineCall::Turn(rng.bytes(count))
         }
-        2 | 3 => Some(EngineCall::Hint),
+        2 | 3 => EngineCall::Hint,
         _ => engine_call(&random_call(rng, habits, player)),
     }
 }
@@ -118,16 +121,31 @@ fn next_call(rng: &mut Random, habits: Habits, player: &Player) -> Option<Engine
 /// A list of calls on the board of a text that is accepted, made as the reference plays along.
 pub fn random_list(rng: &mut Random, text: &[u8]) -> Vec<EngineCall> {
     let (_, mut player) = Player::load(text);
-    let habits = Habits { finishes: 0, ..habits(rng) };
+    let habits = habits(rng);
     let count = rng.pick(&[1, 4, 12, 30, 60]);
     let mut calls = Vec::new();
     for _ in 0..count {
-        if let Some(call) = next_call(rng, habits, &player) {
-            call_by_reference(&mut player, &call);
-            calls.push(call);
-        }
+        let call = next_call(rng, habits, &player);
+        call_by_reference(&mut player, &call);
+        calls.push(call);
     }
     calls
+}
+
+/// Lists of calls with finishes on document 01's T: taken back and made again; behind moves, with every call after it; and
+/// of no moves.
+pub fn finishing_lists() -> Vec<Vec<EngineCall>> {
+    use EngineCall::{Carry, Finish, Hint, Turn, Undo};
+    let around = Turn(vec![0, 2, 131, 129]);
+    let moves = [Carry(0, 2), Carry(0, 0), around.clone(), Carry(1, 3), Carry(1, 1)];
+    let refused = [Carry(0, 2), Carry(99, 99), Turn(vec![]), around, Turn(vec![100]), Hint, Finish];
+    let back = [Finish, Undo, Hint, Finish, Finish, Undo, Undo, Finish];
+    let behind = (0..=moves.len()).flat_map(|count| {
+        let with = |calls: &[EngineCall]| [&moves[..count], calls].concat();
+        [with(&[Finish]), with(&back), with(&[&[Finish], &refused[..], &[Undo, Hint, Undo]].concat())]
+    });
+    // Another way after a finish was taken back.
+    behind.chain([[Finish, Undo, Carry(0, 3), Finish, Undo, Carry(0, 1), Hint, Finish].to_vec()]).collect()
 }
 
 /// Numbers that are no call: of the first kind that has no number, of one soon behind it, or of any.

@@ -2,7 +2,7 @@
 //! standing; the next undo takes the last of those." The boards are document 01's, worked out by hand.
 
 use reference::cases::{DOWN_AGAIN, S, T, TAIL};
-use reference::encoded::entries;
+use reference::encoded::{codes_of, entries, EngineCall};
 use reference::moves::Step;
 use reference::player::{Call, Item, Player};
 use reference::programs::play;
@@ -167,4 +167,11 @@ fn at_every_stage() {
         (0..count).for_each(|_| assert_eq!(player.undo(), 0));
         assert_eq!(player.undo(), 27);
     }
+}
+
+/// In numbers a finish is kind 4; the first kind that is no call is 5.
+#[test]
+fn in_numbers() {
+    let calls = [EngineCall::Finish, EngineCall::Undo, EngineCall::NoCall([5, 0, 0])];
+    assert_eq!(codes_of(&calls), (vec![4, 0, 0, 2, 0, 0, 5, 0, 0], vec![]));
 }

@@ -4,12 +4,14 @@ use crate::play::compare_play;
 use crate::report::Answered;
 use crate::{compare_load, same, Tally};
 use reference::catalog::{write, BOARDS};
-use reference::encoded::random_list;
+use reference::encoded::{random_list, EngineCall};
 use reference::engine;
 use reference::random::Random;
 
-/// Lists of calls for each board.
+/// Random lists of calls for each board.
 const LISTS: usize = 5;
+/// A list for each: a finish, taken back and made again.
+const TWICE: [EngineCall; 5] = [EngineCall::Finish, EngineCall::Undo, EngineCall::Hint, EngineCall::Finish, EngineCall::Hint];
 
 /// A number, and a buffer of this length, which held something else before.
 fn compare_write(rng: &mut Random, number: u32, length: usize, tally: &mut Tally) -> Result<(), String> {
@@ -27,6 +29,7 @@ pub fn compare_catalog(rng: &mut Random, tally: &mut Tally) -> Result<(), String
         let lengths = [0, rng.below(text.len()), text.len() - 1, text.len(), text.len() + 1 + rng.below(2_000)];
         lengths.into_iter().try_for_each(|length| compare_write(rng, number as u32, length, tally))?;
         compare_load(rng, text.as_bytes(), text.len(), tally)?;
+        compare_play(text.as_bytes(), &TWICE, true, tally)?;
         for list in 0..LISTS {
             let calls = random_list(rng, text.as_bytes());
             compare_play(text.as_bytes(), &calls, list == 0, tally)?;

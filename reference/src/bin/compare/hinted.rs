@@ -121,14 +121,26 @@ fn fed_back(session: &mut Session, text: &[u8]) -> Result<Vec<Move>, String> {
     }
 }
 
-/// An accepted board finished by its hints. `F` then prints the very sheet that it prints alone, and there is no hint any more.
+/// A board whose terminals are all at the source, the last by this move: `F` prints the sheet, and there is no hint any
+/// more. The finish of no moves is taken back, then the move, and from there `F` prints the sheet again.
+fn finished_twice(session: &mut Session, last: Option<&Move>, finish: &[u8]) -> Result<(), String> {
+    session.ask(b"F\n", finish)?;
+    session.ask(b"H\n", b"20\n")?;
+    session.ask(b"U\n", b"0\n")?;
+    session.ask(b"H\n", b"0\nN\n")?;
+    session.ask(b"U\n", if last.is_some() { b"0\n" } else { b"27\n" })?;
+    session.ask(b"H\n", &[b"0\n", &hint_line(last)[..]].concat())?;
+    session.ask(b"F\n", finish).map(drop)
+}
+
+/// An accepted board finished by its hints. `F` then prints the very sheet that it prints alone, and once more when it
+/// was taken back.
 pub fn compare_hinted(text: &[u8], tally: &mut Tally) -> Result<(), String> {
     let finish = [b"0\n", &sheet(text)[..]].concat();
-    compare_program("play", &[text, b"F\n"].concat(), finish.clone(), tally)?;
+    compare_program("play", &[text, b"F\nU\nF\n"].concat(), [&finish[..], b"0\n", &finish].concat(), tally)?;
     let mut session = Session::start()?;
     let moves = fed_back(&mut session, text)?;
-    session.ask(b"F\n", &finish)?;
-    session.ask(b"H\n", b"20\n")?;
+    finished_twice(&mut session, moves.last(), &finish)?;
     session.end()?;
     compare_hinted_list(text, &moves)?;
     *tally.entry("boards finished by hints".into()).or_default() += 1;

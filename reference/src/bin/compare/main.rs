@@ -17,7 +17,7 @@ use reference::cancelling::acyclic_flows;
 use reference::cases::{longest_cycle, texts, DOWN_AGAIN, MISFIT, S, T, TAIL};
 use reference::catalog::BOARDS as CATALOG;
 use reference::damage::{at_every_field, damaged, every_start, surplus};
-use reference::encoded::{random_list, with_no_calls, EngineCall};
+use reference::encoded::{finishing_lists, random_list, with_no_calls, EngineCall};
 use reference::engine::{self, unwritten_journal, Journal, EDGES};
 use reference::player::Player;
 use reference::random::Random;
@@ -155,9 +155,9 @@ fn compare_made(seed: u64, tally: &mut Tally) -> Result<(), String> {
         [&to_source[..], &[around.clone(), EngineCall::Undo, EngineCall::Turn(vec![])]].concat(),
         [EngineCall::Hint].into_iter().chain(to_source.clone()).flat_map(|call| [call, EngineCall::Hint]).chain([around, EngineCall::Hint]).collect(),
         // Kinds without a number: the first of them, those behind it, and the last.
-        [4, 5, 10, 11, u32::MAX].into_iter().flat_map(|kind| [EngineCall::NoCall([kind, 0, 2]), to_source[0].clone(), EngineCall::Undo]).collect(),
+        [5, 6, 10, 11, u32::MAX].into_iter().flat_map(|kind| [EngineCall::NoCall([kind, 0, 2]), to_source[0].clone(), EngineCall::Undo]).collect(),
     ];
-    lists.iter().try_for_each(|calls| compare_play(T.as_bytes(), calls, true, tally))?;
+    lists.iter().chain(&finishing_lists()).try_for_each(|calls| compare_play(T.as_bytes(), calls, true, tally))?;
     compare_catalog(&mut rng, tally)?;
     compare_old_sheets(tally)?;
     compare_hinted_boards(tally)?;

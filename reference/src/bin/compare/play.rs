@@ -1,5 +1,5 @@
-//! Lists of carries, turns, undos and hints through engine and reference: the answers, the move of each hint, the whole board at the end, journal
-//! included, the board that a finish makes of it, and the texts of both boards.
+//! Lists of carries, turns, undos, hints and finishes through engine and reference: the answers, the move of each hint,
+//! the whole board at the end, journal included, the board that a finish makes of it, and the texts of both boards.
 
 use crate::report::compare_texts;
 use crate::{same, Tally};
@@ -146,7 +146,7 @@ fn compare_hints(text: &[u8], calls: &[EngineCall], hints: &[u32], tally: &mut T
     }
 }
 
-/// A finish from the board that the calls lead to.
+/// A finish from the board that the calls lead to; it is refused where one stands.
 fn compare_finish(text: &[u8], calls: &[EngineCall], tally: &mut Tally) -> Result<(), String> {
     let (by_engine, hints) = finished_by_engine(text, calls);
     let finished = same(text, finished_by_reference(text, calls), by_engine)?;
@@ -156,20 +156,20 @@ fn compare_finish(text: &[u8], calls: &[EngineCall], tally: &mut Tally) -> Resul
     compare_texts(text, calls, tally)
 }
 
-/// A board finished by the moves of its hints, as one list of calls, a hint before each move and behind the last; and a finish, which finds nothing
-/// left to do. The board is the one that a finish alone gives.
+/// A board finished by the moves of its hints, as one list of calls, a hint before each move and behind the last; a
+/// finish, which finds nothing left to do and is taken back; and a finish behind the list. The board is the one that a
+/// finish alone gives.
 pub fn compare_hinted_list(text: &[u8], moves: &[Move]) -> Result<(), String> {
     let mut calls: Vec<EngineCall> = Vec::new();
     for made in moves {
-        calls.push(EngineCall::Hint);
-        calls.extend(engine_call(&Call::of_move(made)));
+        calls.extend([EngineCall::Hint, engine_call(&Call::of_move(made))]);
     }
-    calls.push(EngineCall::Hint);
+    calls.extend([EngineCall::Hint, EngineCall::Finish, EngineCall::Undo]);
     let (by_engine, hints) = finished_by_engine(text, &calls);
     let (_, mut player) = Player::load(text);
     let alone = finished_by_player(&mut player, vec![0; calls.len()]);
     same(text, Finished { count: 0, ..alone }, by_engine)?;
-    let advice = moves.iter().map(Some).chain([None]).map(advice_of).chain(vec![[UNWRITTEN; ADVICE]; moves.len()]);
+    let advice = moves.iter().map(Some).chain([None]).map(advice_of).chain(vec![[UNWRITTEN; ADVICE]; moves.len() + 2]);
     advice.zip(hints.chunks_exact(ADVICE)).enumerate().try_for_each(|(at, (wanted, given))| {
         same(text, &wanted[..], given).map(drop).map_err(|difference| format!("hint {at} of the board's own: {difference}"))
     })
@@ -183,20 +183,54 @@ pub fn compare_play(text: &[u8], calls: &[EngineCall], at_every_call: bool, tall
     compare_hints(text, calls, &hints, tally).map_err(told)?;
     let first = if at_every_call { 0 } else { calls.len() };
     (first..=calls.len()).try_for_each(|count| compare_finish(text, &calls[..count], tally)).map_err(told)?;
-    let mut given = played.given.iter();
+    tally_answers(calls, &played.given, tally);
+    tally_finishes(text, calls, tally);
+    Ok(())
+}
+
+fn count(tally: &mut Tally, what: &str) {
+    *tally.entry(what.into()).or_default() += 1;
+}
+
+/// How often each call got each answer.
+fn tally_answers(calls: &[EngineCall], given: &[u32], tally: &mut Tally) {
+    let mut given = given.iter();
     for call in calls {
         let name = match call {
             EngineCall::Carry(..) => "carry",
             EngineCall::Turn(_) => "turn",
             EngineCall::Undo => "undo",
             EngineCall::Hint => "hint",
+            EngineCall::Finish => "finish in a list",
             EngineCall::NoCall(_) => {
-                *tally.entry("no call".into()).or_default() += 1;
+                count(tally, "no call");
                 continue;
             }
         };
         let answer = given.next().expect("an answer for each call");
-        *tally.entry(format!("{name} {answer}")).or_default() += 1;
+        count(tally, &format!("{name} {answer}"));
     }
-    Ok(())
+}
+
+/// What becomes of the finishes in a list: how many make no moves, and how many are taken back.
+fn tally_finishes(text: &[u8], calls: &[EngineCall], tally: &mut Tally) {
+    count(tally, "lists");
+    if !calls.contains(&EngineCall::Finish) {
+        return;
+    }
+    count(tally, "lists with a finish");
+    let (_, mut player) = Player::load(text);
+    for call in calls {
+        let was_over = player.is_over();
+        if *call == EngineCall::Finish && player.hint() == Ok(None) {
+            count(tally, "finishes of no moves");
+        }
+        call_by_reference(&mut player, call);
+        if was_over && !player.is_over() {
+            count(tally, "finishes taken back");
+        }
+    }
+    if player.is_over() {
+        count(tally, "lists that end in a finish");
+    }
 }

@@ -50,24 +50,26 @@ struct Writer {
 const REPORT: Writer = Writer { name: "sheet", engine: engine::sheet, reference: Player::sheet };
 const BOARD_TEXT: Writer = Writer { name: "write", engine: engine::write, reference: Player::write };
 
-/// The board behind a list of calls, or behind a finish after them: how the engine gets there, and the reference's player there.
+/// The board behind a list of calls, or behind a finish after them: how the engine gets there, and the reference's
+/// player there with the journal.
 struct Reached<'a> {
     text: &'a [u8],
     calls: engine::Calls<'a>,
     finishes: bool,
     player: &'a Player,
+    journal: Box<Journal>,
 }
 
 impl Reached<'_> {
     /// A text of the board into a buffer of this length, which held something else before.
     fn compare(&self, writer: &Writer, length: usize, tally: &mut Tally) -> Result<Answered, String> {
-        let Reached { text, calls, finishes, player } = *self;
+        let Reached { text, calls, finishes, player, .. } = *self;
         let buffer: Vec<u8> = (0..length).map(|at| at as u8 ^ 0xa5).collect();
         let by_reference = Answered::by_reference(buffer.clone(), |buffer| (writer.reference)(player, buffer));
         let mut journal = unwritten_journal();
         let by_engine = Answered::by_engine(buffer, |buffer, used| (writer.engine)(text, calls, finishes, buffer, used, &mut journal));
         let answered = same(text, by_reference, by_engine)?;
-        same(text, journal_of(player), journal)?;
+        same(text, &self.journal, &journal)?;
         let behind = if finishes { "a finish" } else { "calls" };
         *tally.entry(format!("{} after {behind} {}", writer.name, answered.answer)).or_default() += 1;
         Ok(answered)
@@ -87,20 +89,22 @@ impl Reached<'_> {
     }
 }
 
-/// The report and the board text before a finish and after it; the report after it into a buffer that is too short by a byte, one that fits, and
-/// one with bytes behind the text.
+/// The report and the board text before a finish behind the calls and after it, which is refused where one stands
+/// already; the report after it into a buffer that is too short by a byte, one that fits, and one with bytes behind the
+/// text.
 pub fn compare_texts(text: &[u8], calls: &[EngineCall], tally: &mut Tally) -> Result<(), String> {
     let (_, mut player) = Player::load(text);
     for call in calls {
         call_by_reference(&mut player, call);
     }
     let (codes, steps) = codes_of(calls);
-    let played = Reached { text, calls: (&codes, &steps), finishes: false, player: &player };
+    let calls = (&codes[..], &steps[..]);
+    let played = Reached { text, calls, finishes: false, player: &player, journal: journal_of(&player) };
     played.compare(&REPORT, 9_000, tally)?;
     played.compare_board_text(tally)?;
     let mut finished = player.clone();
     let _ = finished.finish();
-    let finished = Reached { finishes: true, player: &finished, ..played };
+    let finished = Reached { text, calls, finishes: true, player: &finished, journal: journal_of(&finished) };
     finished.compare_board_text(tally)?;
     let length = finished.player.sheet_text().map_or(1, |report| report.len());
     [length - 1, length, length + 7].into_iter().try_for_each(|length| finished.compare(&REPORT, length, tally).map(drop))
@@ -152,6 +156,10 @@ pub fn compare_programs(rng: &mut Random, tally: &mut Tally) -> Result<(), Strin
     compare_program("sheet", &text, sheet(&text), tally)?;
     let count = rng.pick(&[0, 3, 20, 60]);
     let mut input = random_input(rng, &good, count);
+    let lines = &input[good.len().min(input.len())..];
+    if lines.windows(3).any(|bytes| bytes.starts_with(b"F\n")) {
+        *tally.entry("runs of play with lines behind F".into()).or_default() += 1;
+    }
     if rng.chance(1, 8) {
         input.splice(..good.len().min(input.len()), text);
     }
