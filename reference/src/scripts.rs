@@ -37,9 +37,10 @@ const BOARDS: [&str; 12] = [
     MISFIT,
 ];
 
-/// Boards with lines, in the same way: each refusal of the lines, document 01's cases, lines of another form, lines after a finish, a last line without
-/// its line feed, boards that are refused though lines follow, and boards finished by their hints, with `N`, which is no line to read.
-const PLAYS: [(&str, &str); 19] = [
+/// Boards with lines, in the same way: each refusal of the lines, document 01's cases, lines of another form, lines
+/// after a finish, a last line without its line feed, boards that are refused though lines follow, boards finished by
+/// their hints, with `N`, which is no line to read, and finishes taken back.
+const PLAYS: [(&str, &str); 29] = [
     (T, "K,0,0 K,1,2 K,2,0 K,0,4 U T F U"),
     (T, "K,0,2 K,0,0 K,0,1 T,0,D,2,D,3,U,1,U U H F K,0,0 T,200,D H U F "),
     (T, "T,0,D,2,D,3,U,1,U T,0,D T,0,D,0,U T,4,D T,128,D T,9999999,U,0,D K,256,0 K,0,256 K,9999999,9999999 "),
@@ -59,6 +60,20 @@ const PLAYS: [(&str, &str); 19] = [
     (T, "H K,0,2 H K,0,0 H T,0,D,2,D,3,U,1,U H K,1,3 H K,1,1 H N F H N H"),
     (TAIL, "H K,0,0 H K,0,3 H K,0,4 H T,2,D,1,D,0,U,3,U H U H T,0,U,3,U,2,D,1,D H K,1,0 K,1,3 K,1,4 H F H "),
     (DOWN_AGAIN, "H T,1,D,2,U,3,D H T,0,D,1,D,2,U,4,U H K,0,2 H K,0,4 H U H F H "),
+    // A finish taken back, with nothing behind it to undo; twice.
+    (S, "F U U F U H F U"),
+    (T, "F U H U F K,0,2 T T,0,D,2,D,3,U,1,U H F X U H F "),
+    // Behind moves, which are undone one by one, a finish from each board on the way.
+    (T, "K,0,2 K,0,0 T,0,D,2,D,3,U,1,U K,1,3 F U H U F U U F U U F U U F U U "),
+    // Of no moves: the next undo takes the last carry back.
+    (S, "K,0,0 H F U H F H U U H U K,0,0 F F "),
+    (T, "K,0,2 K,0,0 T,0,D,2,D,3,U,1,U K,1,3 K,1,1 F U H F U U H U U F "),
+    // Another way after it, to another sheet; and the marks are gone with the turn of the finish.
+    (T, "F U K,0,3 H F U K,0,1 H F U U U H F "),
+    (T, "K,0,2 K,0,0 F U K,1,3 K,1,1 H T,0,D,2,D,3,U,1,U F U U F "),
+    ("B,3,3,1,0 C,0,1,4 C,1,2,3 C,2,1,3 W,1,4 ", "F U T,1,D,2,D K,0,0 T,1,D,2,D F U U U F "),
+    (TAIL, "F U H K,0,0 F U K,0,3 F U K,0,4 F U H T,2,D,1,D,0,U,3,U F U K,1,0 U U F "),
+    (DOWN_AGAIN, "F U T,1,D,2,U,3,D F U T,0,D,1,D,2,U,4,U F U K,0,2 F U K,0,4 F U U U U U U F "),
 ];
 
 fn lines(text: &str) -> Vec<u8> {

@@ -5,7 +5,7 @@ use reference::boards::random_board;
 use reference::calls::random_input;
 use reference::cases::{texts, GREATEST, S, T};
 use reference::catalog::{definition_table, listing, source_table};
-use reference::encoded::{call_by_reference, codes_of, entries, random_list, EngineCall};
+use reference::encoded::{call_by_reference, codes_of, entries, finishing_lists, random_list, EngineCall};
 use reference::player::{Call, Player};
 use reference::programs::{hint_line, play, sheet};
 use reference::random::Random;
@@ -38,7 +38,7 @@ fn corpus() -> Part {
 /// A board text and a list of calls.
 type Trial = (Vec<u8>, Vec<EngineCall>);
 
-/// Document 01's calls on T and S, a text that is refused, and random lists on random boards.
+/// Document 01's calls on T and S, a text that is refused, finishes, and random lists on random boards.
 fn made_trials() -> Vec<Trial> {
     let to_source = [EngineCall::Carry(0, 2), EngineCall::Hint, EngineCall::Carry(0, 0), EngineCall::Hint];
     let around = [EngineCall::Turn(vec![0, 2, 131, 129]), EngineCall::Hint];
@@ -49,8 +49,9 @@ fn made_trials() -> Vec<Trial> {
         (T.into(), refused.to_vec()),
         (T.into(), [&to_source[..], &around].concat()),
         (T.into(), [&to_source[..], &around, &[EngineCall::Undo, EngineCall::Undo]].concat()),
-        (b"B,2,1,1,0\nC,0,1,4\nW,1,5\n".to_vec(), vec![EngineCall::Carry(0, 0), EngineCall::Undo, EngineCall::Hint]),
+        (b"B,2,1,1,0\nC,0,1,4\nW,1,5\n".to_vec(), vec![EngineCall::Carry(0, 0), EngineCall::Undo, EngineCall::Hint, EngineCall::Finish]),
     ];
+    trials.extend(finishing_lists().into_iter().map(|calls| (T.into(), calls)));
     for index in 0..60 {
         let mut rng = Random::of_input(6, index);
         let text = write(&random_board(&mut rng));
@@ -60,8 +61,9 @@ fn made_trials() -> Vec<Trial> {
     trials
 }
 
-/// Lists of calls: for each the text, the steps and the calls, each behind its length or count in two bytes; a call is its kind and
-/// two numbers of four bytes. The answers of load, calls and finish, the count of the finish, and the journal, a move a line.
+/// Lists of calls: for each the text, the steps and the calls, each behind its length or count in two bytes; a call is
+/// its kind and two numbers of four bytes. The answers of load, calls and of a finish behind them, which is refused
+/// where one stands; its count, and the journal, a move a line.
 fn trials() -> Part {
     let trials = made_trials();
     let (mut input, mut output) = (Vec::new(), String::new());
@@ -94,9 +96,9 @@ fn trials() -> Part {
     (b'L', trials.len(), input, output.into_bytes())
 }
 
-/// Boards that no load gave, four in play, four finished and four of a stage that there is not; on each a carry, the empty turn, a turn of one step,
-/// an undo, a hint, a finish, a sheet and the board writer, each made a thousand times after the first. Their numbers are document 01's: "20 play is
-/// over (a finish was accepted), or no board was loaded", "29 nothing was loaded".
+/// Boards that no load gave, four in play, four finished and four of a stage that there is not; on each a carry, the
+/// empty turn, a turn of one step, an undo, a hint, a finish, a sheet and the board writer, each made a thousand times
+/// after the first. Their numbers are document 01's: "20 .. no board was loaded", "29 nothing was loaded".
 fn unloaded() -> Part {
     let of_a_board = [20, 20, 20, 20, 20, 20, 29, 29].map(|number| format!("{number}\n")).concat();
     (b'U', 1000, Vec::new(), of_a_board.repeat(12).into_bytes())
@@ -116,8 +118,8 @@ fn replay() -> (Vec<u8>, Vec<u8>) {
     (input, output)
 }
 
-/// Each hint from the loaded board on with its move as the next line, until no move is left; a hint then, and what it prints, which is no line to
-/// read. The moves are undone again.
+/// Each hint from the loaded board on with its move as the next line, until no move is left; a hint then, and what it
+/// prints, which is no line to read. A finish of no moves is taken back, and the moves are undone again.
 fn hinted_lines(text: &[u8]) -> Vec<u8> {
     let (_, mut player) = Player::load(text);
     let mut lines = Vec::new();
@@ -125,11 +127,12 @@ fn hinted_lines(text: &[u8]) -> Vec<u8> {
         lines.extend([b"H\n", &hint_line(Some(&hinted))[..]].concat());
         player.call(&Call::of_move(&hinted));
     }
-    [&lines[..], b"H\n", &hint_line(None), &b"U\n".repeat(player.standing().len())].concat()
+    [&lines[..], b"H\n", &hint_line(None), b"F\nU\n", &b"U\n".repeat(player.standing().len())].concat()
 }
 
-/// The program `play`: a long run on a great board: its hints up to the end and back, lines of another form among the calls; a finish, lines after it,
-/// and one without its line feed.
+/// The program `play`: a long run on a great board: its hints up to the end and back, lines of another form among the
+/// calls; a finish, lines after it, undos that take it and moves before it back, more finishes, and a line without its
+/// line feed.
 fn long_run() -> Vec<u8> {
     let mut rng = Random::new(7);
     let mut network = random_board(&mut rng);
@@ -138,7 +141,7 @@ fn long_run() -> Vec<u8> {
     }
     let text = write(&network);
     let lines = random_input(&mut rng, &text, 400).split_off(text.len());
-    [&text[..], &hinted_lines(&text), &lines, b"\nF\nH\nU\nF\nH"].concat()
+    [&text[..], &hinted_lines(&text), &lines, b"\nF\nH\nU\nH\nU\nF\nF\nU\nF\nU\nU\nF\nH"].concat()
 }
 
 fn main() -> std::io::Result<()> {
