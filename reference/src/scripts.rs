@@ -68,7 +68,7 @@ const PLAYS: [(&str, &str); 29] = [
     // Of no moves: the next undo takes the last carry back.
     (S, "K,0,0 H F U H F H U U H U K,0,0 F F "),
     (T, "K,0,2 K,0,0 T,0,D,2,D,3,U,1,U K,1,3 K,1,1 F U H F U U H U U F "),
-    // Another way after it, to another sheet; and the marks are gone with the turn of the finish.
+    // Another way after it, to another sheet, over edges that the turn of the finish had marked; and the same way again.
     (T, "F U K,0,3 H F U K,0,1 H F U U U H F "),
     (T, "K,0,2 K,0,0 F U K,1,3 K,1,1 H T,0,D,2,D,3,U,1,U F U U F "),
     ("B,3,3,1,0 C,0,1,4 C,1,2,3 C,2,1,3 W,1,4 ", "F U T,1,D,2,D K,0,0 T,1,D,2,D F U U U F "),
