@@ -23,7 +23,7 @@ abbrev reached : Table → List (List ℕ) → List (List ℕ) → ℕ → Board
 reached t old words moves = journaled (wholeOf t old) (journalOf moves words)
 
 -- a run, and how many of its moves the words hold
-pub record Kept (t : Table) (old words : List (List ℕ)) (flows : List ℕ) (marks : ℕ) (places : List ℕ) (moves filled left : ℕ) : Type 0 where
+pub record RunStored (t : Table) (old words : List (List ℕ)) (flows : List ℕ) (marks : ℕ) (places : List ℕ) (moves filled left : ℕ) : Type 0 where
   pub last : Board
   pub run : Run (wholeOf t old) (t .network) last flows marks places moves left
   pub few : (moves - t .moves) + left ≤ maxMoves
@@ -34,7 +34,7 @@ pub record Kept (t : Table) (old words : List (List ℕ)) (flows : List ℕ) (ma
 
 pub kept-starts : (t : Table) (old : List (List ℕ)) (flows places : List ℕ) → flows ≡ t .flows → places ≡ t .places
     → Run (wholeOf t old) (t .network) (wholeOf t old) (t .flows) (t .marks) (t .places) (t .moves) maxMoves
-    → Kept t old old flows (t .marks) places (t .moves) (t .moves) maxMoves
+    → RunStored t old old flows (t .marks) places (t .moves) (t .moves) maxMoves
 kept-starts t old flows places f p r = record {
   last = wholeOf t old;
   run = run-same _ _ _ _ _ _ _ _ _ _ f p r;
@@ -46,11 +46,11 @@ kept-starts t old flows places f p r = record {
 }
 
 module _ (t : Table) (old words : List (List ℕ)) (flows : List ℕ) (marks : ℕ) (places : List ℕ) (moves filled left : ℕ)
-    (k : Kept t old words flows marks places moves filled left) where
+    (k : RunStored t old words flows marks places moves filled left) where
   module _ (n : left ≢ 0) (made : Made) (a : Makes (stepChange (t .network) flows marks places) made) where
     -- a move that is refused ends the run
     pub kept-refused : (flows' places' : List ℕ) → made .change .answer ≢ 0 → flows' ≡ flows → places' ≡ places
-        → Kept t old words flows' marks places' moves filled 0
+        → RunStored t old words flows' marks places' moves filled 0
     kept-refused flows' places' s f p = record {
       last = k .last;
       run = run-same _ _ _ _ _ _ _ _ _ _ f p (run-refused _ _ _ _ _ _ _ _ (k .run) n made a s);
@@ -74,7 +74,7 @@ module _ (t : Table) (old words : List (List ℕ)) (flows : List ℕ) (marks : �
       fewer = omega (arith, k .few, k .within, k .fills .behind, l, left-less left (moves + 1) (made .small) n)
 
       pub kept-made : Stores filled moves (made .change .entry) words new filled'
-          → Kept t old new (made .change .flows) (made .change .marks) (made .change .places) (moves + 1) filled' left'
+          → RunStored t old new (made .change .flows) (made .change .marks) (made .change .places) (moves + 1) filled' left'
       kept-made (stored e empty stores lists after) = record {
         last = next;
         run = runs;
@@ -108,7 +108,7 @@ module _ (t : Table) (old words : List (List ℕ)) (flows : List ℕ) (marks : �
 
 -- nothing is left of the run
 pub kept-over : (t : Table) (old words : List (List ℕ)) (flows places : List ℕ) (r : Ran) (left : ℕ)
-    → Kept t old words flows (r .marks) places (r .moves) (r .filled) left → left ≡ 0 → RanOut t old words flows places r
+    → RunStored t old words flows (r .marks) places (r .moves) (r .filled) left → left ≡ 0 → RanOut t old words flows places r
 kept-over t old words flows places r left k z = record {
   fills = k .fills;
   within = k .within;

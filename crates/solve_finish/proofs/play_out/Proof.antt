@@ -23,13 +23,13 @@ use Rattle.solve_finish.proofs.Ready.{ready-bounds}
 use Rattle.solve_finish.proofs.Resuming.{resumes-made, resumes-same}
 use Rattle.solve_finish.proofs.InPlace.{step-of-bare, Keeps, step-keeps, step-long}
 use Rattle.solve_finish.proofs.Running.{Run, run-starts, run-plays, left-less}
-use Rattle.solve_finish.proofs.Storing.{Kept, kept-starts, kept-refused, kept-made, kept-over}
+use Rattle.solve_finish.proofs.Storing.{RunStored, kept-starts, kept-refused, kept-made, kept-over}
 use Rattle.solve_finish.proofs.play_out.Statement.{statement}
 use Rattle.solve_finish.proofs.play_out.Tie as tie
 
 abbrev Inv-loop : tie.InvT-loop
 Inv-loop board journal₀ flows₀ places₀ tails heads demands leaving entering marks₀ positive₀ moves₀ filled₀ resume₀ left₀ journal flows places marks positive moves filled resume left =
-    Kept board journal₀ journal flows marks places moves filled left × PositiveSet flows positive × Resumes (board .network) flows marks places resume
+    RunStored board journal₀ journal flows marks places moves filled left × PositiveSet flows positive × Resumes (board .network) flows marks places resume
 
 abbrev μ-loop : tie.MeasureT-loop
 μ-loop board journal₀ flows₀ places₀ tails heads demands leaving entering marks₀ positive₀ moves₀ filled₀ resume₀ left₀ journal flows places marks positive moves filled resume left =
@@ -147,7 +147,7 @@ goes-on : (c : Moved)
     → let at-move = advanced (found c) in
     let start = started (looping at-move) in
     let at-store = c .before .before in
-    Kept (table start) (old start) (at-store .store .last .0) (flows-now at-move) (at-move .advance .result .marks) (places-now at-move)
+    RunStored (table start) (old start) (at-store .store .last .0) (flows-now at-move) (at-move .advance .result .marks) (places-now at-move)
     (looping at-move .loop .moves + 1) (at-store .store .result) (c .left-after .result)
 goes-on c =
     let at-move = advanced (found c) in
