@@ -1,18 +1,17 @@
 -- A round of a list of calls over a lent journal: the calls that are left, from the board and the words as they are now, end in the same board and the same words
 -- as all of them, and their answers and hints fill the buffers in the same way.
 use mathlib.Core.Path.{_≡_, refl, sym, ap, _∙_}
-use mathlib.Core.Bool.{true, false}
 use mathlib.Core.List.{List, [], _∷_, _++_}
 use Prim.Native.Nat.{ℕ, _+_, _-_, _<_, _≤_}
 use native.Mathlib.Omega.{arith}
 use native.Mathlib.Nat.{add-zero}
-use lib.Dec.{ltb, eqb}
+use lib.Dec.{eqb}
 use lib.ListN.{length, set, length-set}
 use lib.Seq.{sets, length-sets}
-use borrow.Author.Tests.{ltb-true, ltb-false, eqb-true, eqb-false, eq-eqb, ne-eqb}
+use borrow.Author.Tests.{eq-eqb, ne-eqb}
 use mathlib.Core.Logic.{_⊎_, inl, inr, _≢_}
-use Rattle.lists.specs.Choice.{pick, either}
-use Rattle.lists.proofs.Laws.{Known, was-true, was-false, known, lt-or-ge, eq-or-ne, pick-yes, pick-no, either-left, either-right}
+use Rattle.lists.specs.Choice.{pick}
+use Rattle.lists.proofs.Laws.{lt-or-ge, eq-or-ne, pick-yes, pick-no}
 use Rattle.board.specs.Whole.{Board}
 use Rattle.board.specs.Whole.{Played}
 use Rattle.journal.specs.Words.{wordsAfter}
@@ -20,9 +19,11 @@ use Rattle.journal.proofs.After.{after-none}
 use Rattle.move_cycle.specs.Steps.{stepsOf}
 use Rattle.solve_next.specs.declared.Suggestion.{Suggestion}
 use Rattle.solve_next.specs.Hints.{hintCall}
-use Rattle.move_list.specs.Calls.{Call, carry, turn, undo, hint, finish, Game, gameOf, Reply, replyOf, made, played, answers, hintGiven, hintsOf, adviceCode, behind, noted}
+use Rattle.solve_finish.specs.Finishes.{Finished}
+use Rattle.solve_finish.specs.Finishes.{finishCall}
+use Rattle.move_list.specs.Calls.{Call, carry, turn, undo, hint, finish, Game, gameOf, Reply, replyOf, replyOfFinish, made, played, answers, hintGiven, hintsOf, adviceCode, behind, noted}
 use Rattle.move_list.specs.Codes.{part, carryCode, turnCode, undoCode, hintCode, finishCode, callOf, callsOf}
-use Rattle.move_list.specs.Inner.{isPlayed, OneMade}
+use Rattle.move_list.specs.Inner.{OneMade}
 use Rattle.move_list.specs.Words.{wordsPlayed}
 use Rattle.move_list.proofs.Coded.{
   calls,
@@ -48,11 +49,11 @@ module _ (steps : List ℕ) (kind a c : ℕ) where
   unfolding callOf
   turn-coded h = pick-no _ _ _ (ne-eqb kind carryCode (λ z. omega (arith, z, h))) ∙ pick-yes _ _ _ (eq-eqb kind turnCode h)
 
-  pub undo-coded : kind ≡ undoCode → callOf steps kind a c ≡ undo ∷ []
+  pub undo-coded : kind ≢ carryCode → kind ≢ turnCode → kind < hintCode → callOf steps kind a c ≡ undo ∷ []
   unfolding callOf
-  undo-coded h =
-      pick-no _ _ _ (ne-eqb kind carryCode (λ z. omega (arith, z, h))) ∙ pick-no _ _ _ (ne-eqb kind turnCode (λ z. omega (arith, z, h)))
-      ∙ pick-yes _ _ _ (eq-eqb kind undoCode h)
+  undo-coded n m h =
+      let two : kind ≡ undoCode = omega arith in
+      pick-no _ _ _ (ne-eqb kind carryCode n) ∙ pick-no _ _ _ (ne-eqb kind turnCode m) ∙ pick-yes _ _ _ (eq-eqb kind undoCode two)
 
   -- a kind past that of an undo
   module _ (h : undoCode < kind) where
@@ -76,15 +77,15 @@ module _ (steps : List ℕ) (kind a c : ℕ) where
       ∙ pick-no _ _ _ (ne-eqb kind finishCode (λ z. omega (arith, z, h)))
 
   pub one-coded : kind ≤ finishCode → length (callOf steps kind a c) ≡ 1
-  one-coded h = go (eq-or-ne kind carryCode) (eq-or-ne kind turnCode) (eq-or-ne kind undoCode) (eq-or-ne kind hintCode)
+  one-coded h = go (eq-or-ne kind carryCode) (eq-or-ne kind turnCode) (eq-or-ne kind hintCode) (eq-or-ne kind finishCode)
     where
-      go : (kind ≡ carryCode) ⊎ (kind ≢ carryCode) → (kind ≡ turnCode) ⊎ (kind ≢ turnCode) → (kind ≡ undoCode) ⊎ (kind ≢ undoCode)
-          → (kind ≡ hintCode) ⊎ (kind ≢ hintCode) → length (callOf steps kind a c) ≡ 1
+      go : (kind ≡ carryCode) ⊎ (kind ≢ carryCode) → (kind ≡ turnCode) ⊎ (kind ≢ turnCode) → (kind ≡ hintCode) ⊎ (kind ≢ hintCode)
+          → (kind ≡ finishCode) ⊎ (kind ≢ finishCode) → length (callOf steps kind a c) ≡ 1
       go (inl z) t u v = rw (carry-coded z)
       go (inr n) (inl z) u v = rw (turn-coded z)
-      go (inr n) (inr m) (inl z) v = rw (undo-coded z)
-      go (inr n) (inr m) (inr p) (inl z) = rw (hint-coded z)
-      go (inr n) (inr m) (inr p) (inr q) = rw (finish-coded (omega arith))
+      go (inr n) (inr m) (inl z) v = rw (hint-coded z)
+      go (inr n) (inr m) (inr p) (inl z) = rw (finish-coded z)
+      go (inr n) (inr m) (inr p) (inr q) = rw (undo-coded n m (omega arith))
 
   pub few-coded : length (callOf steps kind a c) ≤ 1
   few-coded = go (lt-or-ge finishCode kind)
@@ -93,21 +94,20 @@ module _ (steps : List ℕ) (kind a c : ℕ) where
       go (inl h) = rw (none-coded h) (omega arith)
       go (inr h) = omega (arith, one-coded h)
 
--- a call that is no hint, no carry, no turn and no finish is an undo; a kind that is no hint's and no such call's is past that of a finish
-module _ (kind : ℕ) where
-  pub last-kind : isPlayed kind ≡ true → kind ≢ carryCode → kind ≢ turnCode → kind ≢ finishCode → kind ≡ undoCode
-  unfolding either
-  last-kind p n m q = go (known (ltb kind hintCode))
-    where
-      go : Known (ltb kind hintCode) → kind ≡ undoCode
-      go (was-true t) = let low : kind < hintCode = ltb-true kind hintCode t in omega arith
-      go (was-false t) = absurd (q (eqb-true kind finishCode (rw t at p)))
+-- a kind that is neither below that of a hint, nor a hint's, nor a finish's
+pub past : {kind : ℕ} → hintCode ≤ kind → kind ≢ hintCode → kind ≢ finishCode → finishCode < kind
+past h n m = omega arith
 
-  pub no-kind : isPlayed kind ≡ false → kind ≢ hintCode → finishCode < kind
-  no-kind p n =
-      let high : hintCode ≤ kind = ltb-false kind hintCode (either-left (ltb kind hintCode) (eqb kind finishCode) p) in
-      let other : kind ≢ finishCode = eqb-false kind finishCode (either-right (ltb kind hintCode) (eqb kind finishCode) p) in
-      omega arith
+-- a finish is a call, and no hint
+pub finish-made : (b : Board) (w words : List (List ℕ)) (steps : List ℕ) (kind a c : ℕ) (f : Finished) → kind ≡ finishCode → f ≡ finishCall b
+    → words ≡ wordsAfter (b .moves) (finishCall b .board) w → OneMade b w (callOf steps kind a c) (record { answer = f .answer; board = f .board }) words
+finish-made b w words steps kind a c f k e h = record {
+  call = finish;
+  alone = finish-coded steps kind a c k;
+  unhinted = refl;
+  makes = ap replyOfFinish e;
+  stores = h ∙ ap (λ (g : Finished). wordsAfter (b .moves) (g .board) w) (sym e);
+}
 
 -- the words after the calls that are left
 module _ (steps codes : List ℕ) (left : ℕ) (g : Game) where

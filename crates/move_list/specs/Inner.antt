@@ -1,22 +1,14 @@
 -- For inner contracts only.
 use mathlib.Core.Path.{_≡_}
-use mathlib.Core.Bool.{Bool}
 use mathlib.Core.List.{List, [], _∷_}
 use Prim.Native.Nat.{ℕ}
-use lib.Dec.{ltb, eqb}
-use Rattle.lists.specs.Choice.{either}
 use Rattle.board.specs.Whole.{Board, Played}
 use Rattle.journal.specs.Words.{wordsAfter}
 use Rattle.move_list.specs.Calls.{Call, gameOf, replyOf, made, hintGiven}
-use Rattle.move_list.specs.Codes.{hintCode, finishCode}
 
 -- no slice is longer than this
 abbrev pub lastPlace : ℕ
 lastPlace = 9223372036854775807
-
--- the kind of a call that is no hint
-abbrev pub isPlayed : ℕ → Bool
-isPlayed kind = either (ltb kind hintCode) (eqb kind finishCode)
 
 -- the calls are one call, no hint, and on board b over words w it gave p and these words
 pub record OneMade (b : Board) (w : List (List ℕ)) (cs : List Call) (p : Played) (words : List (List ℕ)) : Type 0 where

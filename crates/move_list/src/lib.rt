@@ -7,14 +7,14 @@ use solve_next::Advice;
 ghost use mathlib.Core.Path.{_≡_};
 ghost use mathlib.Core.Bool.{true};
 ghost use mathlib.Core.List.{List};
-ghost use Prim.Native.Nat.{ℕ, _+_, _-_, _≤_};
+ghost use Prim.Native.Nat.{ℕ, _+_, _-_, _<_, _≤_};
 ghost use Rattle.move_turn.specs.Turns.{turnCall};
 ghost use Rattle.move_cycle.specs.Steps.{stepsOf};
 ghost use Rattle.journal.specs.Words.{wholeOf, givenOf, wordsAfter};
 ghost use Rattle.move_list.specs.Words.{wordsPlayed};
 ghost use Rattle.move_list.specs.Calls.{gameOf, played, answers, hintsOf, adviceHead, adviceCode, behind, noted};
-ghost use Rattle.move_list.specs.Inner.{lastPlace, isPlayed, OneMade};
-ghost use Rattle.move_list.specs.Codes.{part, callOf, callsOf};
+ghost use Rattle.move_list.specs.Inner.{lastPlace, OneMade};
+ghost use Rattle.move_list.specs.Codes.{part, hintCode, callOf, callsOf};
 ghost use lib.ListN.{length};
 ghost use lib.Seq.{sets};
 
@@ -66,14 +66,14 @@ fn turn_part(
     move_turn::turn(board, journal, &steps[from..to])
 }
 
-// A call that is no hint.
+// A carry, a turn or an undo.
 fn make(
     board: Board,
     journal: &mut [[u64; WORDS]; Board::JOURNAL],
     steps: &[u8],
     call: CallCode,
 ) -> Played
-    requires { ⌜ isPlayed (call .kind) ≡ true ⌝ }
+    requires { ⌜ call .kind < hintCode ⌝ }
     ensures { λ r. ⌜ OneMade (wholeOf board (now (journal .entry))) (now (journal .entry))
         (callOf (now (steps .entry)) (call .kind) (call .first) (call .second))
         (givenOf r (now (journal .exit))) (now (journal .exit)) ⌝ }
@@ -83,14 +83,6 @@ fn make(
     }
     if call.kind == CallCode::TURN {
         return turn_part(board, journal, steps, call.first, call.second);
-    }
-    if call.kind == CallCode::FINISH {
-        let ended = solve_finish::finish(board, journal);
-        let last = ended.board;
-        return Played {
-            answer: ended.answer,
-            board: last,
-        };
     }
     move_undo::undo(board, journal)
 }
@@ -176,8 +168,7 @@ pub fn run(
             first: codes[i + 1],
             second: codes[i + 2],
         };
-        let is_played = lists::or(call.kind < CallCode::HINT, call.kind == CallCode::FINISH);
-        if is_played {
+        if call.kind < CallCode::HINT {
             let given = make(b, journal, steps, call);
             lists::put_word(buf, k, given.answer);
             b = given.board;
@@ -186,6 +177,10 @@ pub fn run(
             lists::put_word(buf, k, given.answer);
             let advice = given.advice;
             j = note(hints, j, advice);
+        } else if call.kind == CallCode::FINISH {
+            let ended = solve_finish::finish(b, journal);
+            lists::put_word(buf, k, ended.answer);
+            b = ended.board;
         }
         left -= 3;
         k += answer_count(call.kind);

@@ -4,10 +4,9 @@ use denote.Ref.{now}
 use Rattle.board.specs.Whole.{Played}
 use Rattle.journal.specs.Words.{wordsAfter}
 use Rattle.move_cycle.specs.Steps.{stepsOf}
-use Rattle.solve_finish.specs.Finishes.{Finished}
-use Rattle.move_list.specs.Calls.{carry, turn, undo, finish, replyOf, replyOfFinish}
+use Rattle.move_list.specs.Calls.{carry, turn, undo, replyOf}
 use Rattle.move_list.specs.Codes.{part}
-use Rattle.move_list.proofs.Going.{carry-coded, turn-coded, undo-coded, finish-coded, last-kind}
+use Rattle.move_list.proofs.Going.{carry-coded, turn-coded, undo-coded}
 use borrow.Author.Needs.{needs}
 use Rattle.move_list.proofs.make.Statement.{statement}
 use Rattle.move_list.proofs.make.Tie as tie
@@ -48,42 +47,20 @@ returns-2 c =
       stores = gave .1 ∙ ap (λ (p : Played). wordsAfter (args .board .moves) (p .board) words) (sym (gave .0));
     }
 
-finish-requires : tie.Need-finish-requires
-finish-requires c κs = search needs
-
-returns-3 : tie.Need-returns-3
-returns-3 c =
-    let test = c .before .before .before in
-    let second = test .before .before in
-    let first = second .before .before in
-    let start = first .before .before .before in
-    let args = start .args in
-    let words = now (args .journal) in
-    let gave = c .before .finish .ensures in
-    record {
-      call = finish;
-      alone = finish-coded (args .steps .now) (args .call .kind) (args .call .first) (args .call .second) (test .if3 .taken);
-      unhinted = refl;
-      makes = ap replyOfFinish (gave .0);
-      stores = gave .1 ∙ ap (λ (f : Finished). wordsAfter (args .board .moves) (f .board) words) (sym (gave .0));
-    }
-
 undo-requires : tie.Need-undo-requires
 undo-requires c κs = search needs
 
-returns-4 : tie.Need-returns-4
-returns-4 c =
+returns-3 : tie.Need-returns-3
+returns-3 c =
     let test = c .before .before in
-    let second = test .before .before in
-    let first = second .before .before in
+    let first = test .before .before in
     let start = first .before .before .before in
     let args = start .args in
     let words = now (args .journal) in
     let gave = c .undo .ensures in
     record {
       call = undo;
-      alone = undo-coded (args .steps .now) (args .call .kind) (args .call .first) (args .call .second)
-          (last-kind (args .call .kind) (start .pre) (first .if1 .left) (second .if2 .left) (test .if3 .left));
+      alone = undo-coded (args .steps .now) (args .call .kind) (args .call .first) (args .call .second) (first .if1 .left) (test .if2 .left) (start .pre);
       unhinted = refl;
       makes = ap replyOf (gave .0);
       stores = gave .1 ∙ ap (λ (p : Played). wordsAfter (args .board .moves) (p .board) words) (sym (gave .0));
@@ -97,7 +74,5 @@ make-spec =
     returns
     turn-part-requires
     returns-2
-    finish-requires
-    returns-3
     undo-requires
-    returns-4)
+    returns-3)

@@ -1,15 +1,16 @@
 -- The calls that are left, from the board and the words as they are now, end in the same board and words as all of them; their answers and hints fill the buffers in the
 -- same way.
-use mathlib.Core.Path.{refl, sym, ap, _∙_}
+use mathlib.Core.Path.{refl, ap, _∙_}
 use Prim.Native.Nat.{ℕ, _+_, _-_}
 use lib.ListN.{length, getD}
 use mathlib.Core.Logic.{⊎-elim}
 use native.Mathlib.Omega.{arith}
 use borrow.Author.Needs.{needs}
 use Rattle.journal.specs.Words.{wholeOf, givenOf}
+use Rattle.solve_finish.specs.Lent.{endedOf}
 use Rattle.move_list.specs.Calls.{Game, gameOf}
 use Rattle.move_list.proofs.Coded.{all-left, played-end, answers-end, hints-end}
-use Rattle.move_list.proofs.Going.{few-coded, hint-coded, none-coded, no-kind, Round, round-moved, round-hinted, round-skipped, words-end}
+use Rattle.move_list.proofs.Going.{few-coded, hint-coded, none-coded, past, finish-made, Round, round-moved, round-hinted, round-skipped, words-end}
 use Rattle.move_list.proofs.run.Statement.{statement}
 use Rattle.move_list.proofs.run.Tie as tie
 
@@ -58,13 +59,8 @@ mul-t26 c = search needs
 shared-slice-read-t28 : tie.Need-shared-slice-read-t28 Inv-loop μ-loop
 shared-slice-read-t28 c = omega arith
 
-or-requires : tie.Need-or-requires Inv-loop μ-loop
-or-requires c κs = search needs
-
 make-requires : tie.Need-make-requires Inv-loop μ-loop
-make-requires c κs =
-    let at-if = c .before in
-    sym (at-if .before .or .ensures) ∙ at-if .if1 .taken
+make-requires c κs = search needs
 
 put-word-requires : tie.Need-put-word-requires Inv-loop μ-loop
 put-word-requires c κs = search needs
@@ -78,13 +74,18 @@ put-word-requires-2 c κs = search needs
 note-requires : tie.Need-note-requires Inv-loop μ-loop
 note-requires c κs = search needs
 
+finish-requires : tie.Need-finish-requires Inv-loop μ-loop
+finish-requires c κs = search needs
+
+put-word-requires-3 : tie.Need-put-word-requires-3 Inv-loop μ-loop
+put-word-requires-3 c κs = search needs
+
 answer-count-requires : tie.Need-answer-count-requires Inv-loop μ-loop
 answer-count-requires c κs = search needs
 
 add-k : tie.Need-add-k Inv-loop μ-loop
 add-k c =
-    let judged = c .before .before in
-    let at-test = judged .before .before .before .before .before .before in
+    let at-test = c .before .before .before .before .before .before in
     let loop = at-test .before .loop in
     let start = at-test .before .before .before .before .before .before in
     let steps = start .args .steps .now in
@@ -96,8 +97,7 @@ loop-less c = omega arith
 
 loop-again : tie.Need-loop-again Inv-loop μ-loop
 loop-again c =
-    let judged = c .before .before in
-    let at-test = judged .before .before .before .before .before .before in
+    let at-test = c .before .before .before .before .before .before in
     let loop = at-test .before .loop in
     let start = at-test .before .before .before .before .before .before in
     let some = at-test .loop-test .taken in
@@ -112,9 +112,15 @@ loop-again c =
     (λ w.
     round-hinted _ _ _ _ _ _ _ _ _ _ _ _ _ some (loop .inv) _ _ _ _ _ _ counted (w .4 .result) (hint-coded steps _ _ _ (omega (arith, w .2 .taken))) (w .4 .ensures)
     (w .15 ∙ w .6 .ensures) (w .16 ∙ w .11 .ensures .1) (w .18 ∙ w .11 .ensures .0) (λ i. wholeOf (w .17 i) (w .14 i)) (w .14))
+    (⊎-elim
     (λ w.
-    round-skipped _ _ _ _ _ _ _ _ _ _ _ _ _ some (loop .inv) _ _ _ _ _ _ counted (none-coded steps _ _ _ (no-kind _ (sym (judged .or .ensures) ∙ w .0 .left) (w .2 .left))) (w .4) (w .5)
-    (λ i. wholeOf (w .6 i) (w .3 i)) (w .3) (w .7)))
+    let words = w .6 .last .1 .0 in
+    round-moved _ _ _ _ _ _ _ _ _ _ _ _ _ some (loop .inv) _ _ _ _ _ _ counted _ words
+    (finish-made _ _ words steps _ _ _ (endedOf (w .6 .result) words) (w .4 .taken) (w .6 .ensures .0) (w .6 .ensures .1)) (w .13 ∙ w .8 .ensures) (w .14) (w .16)
+    (λ i. wholeOf (w .15 i) (w .12 i)) (w .12))
+    (λ w.
+    round-skipped _ _ _ _ _ _ _ _ _ _ _ _ _ some (loop .inv) _ _ _ _ _ _ counted (none-coded steps _ _ _ (past (w .0 .left) (w .2 .left) (w .4 .left))) (w .6) (w .7)
+    (λ i. wholeOf (w .8 i) (w .5 i)) (w .5) (w .9))))
     (c .before .if1 .came)
 
 same-length : tie.Need-same-length Inv-loop μ-loop
@@ -157,12 +163,13 @@ run-spec =
     add-t25
     mul-t26
     shared-slice-read-t28
-    or-requires
     make-requires
     put-word-requires
     hint-requires
     put-word-requires-2
     note-requires
+    finish-requires
+    put-word-requires-3
     answer-count-requires
     add-k
     loop-less
