@@ -11,8 +11,8 @@ use Rattle.decimal.specs.declared.Number.{Number}
 use Rattle.decimal.specs.declared.Number.the-variants.{Value, Malformed}
 use Rattle.decimal.specs.Decimal.{numberOf}
 use Rattle.graph_flows.specs.Trails.{Step, down, up}
-use Rattle.move_list.specs.Calls.{carry, turn, undo, hint}
-use Rattle.play_lines.specs.Orders.{Order, call, finish, other, isLetter, carryRead, carryOf, inFront, pairRead, turnOf, alone, byFields}
+use Rattle.move_list.specs.Calls.{carry, turn, undo, hint, finish}
+use Rattle.play_lines.specs.Orders.{Order, call, other, isLetter, carryRead, carryOf, inFront, pairRead, turnOf, alone, byFields}
 
 -- nothing; a line of another form; `H`, `U`, `F`; `K` with no, one and both numbers; `T` with steps, and with an edge whose way is to come
 pub data Shape : Type 0 where
@@ -39,7 +39,7 @@ behind w (call (carry i e)) = other
 behind w (call (turn v)) = call (turn (w ++ v))
 behind w (call undo) = other
 behind w (call hint) = other
-behind w finish = other
+behind w (call finish) = other
 behind w other = other
 
 -- the way of an edge, and the rest of a turn
@@ -52,7 +52,7 @@ orderFrom begin fs = byFields fs
 orderFrom wrong fs = other
 orderFrom hinted fs = alone (call hint) fs
 orderFrom undone fs = alone (call undo) fs
-orderFrom finished fs = alone finish fs
+orderFrom finished fs = alone (call finish) fs
 orderFrom carry-none fs = carryOf fs
 orderFrom (carry-one i) fs = lastOf i fs
 orderFrom (carry-both i e) fs = alone (call (carry i e)) fs
@@ -90,7 +90,7 @@ none-front s (call (carry i e)) = refl
 none-front s (call (turn v)) = refl
 none-front s (call undo) = refl
 none-front s (call hint) = refl
-none-front s finish = refl
+none-front s (call finish) = refl
 none-front s other = refl
 
 none-pair : (n : Number) (way : List ℕ) (o : Order) → behind [] (pairRead n way o) ≡ pairRead n way o
@@ -115,7 +115,7 @@ one-front w s (call (carry i e)) = refl
 one-front w s (call (turn v)) = ap (λ (u : List Step). call (turn u)) (sym (append-snoc w s v))
 one-front w s (call undo) = refl
 one-front w s (call hint) = refl
-one-front w s finish = refl
+one-front w s (call finish) = refl
 one-front w s other = refl
 
 -- the step law, by the shape
@@ -125,7 +125,7 @@ module _ (fs : List (List ℕ)) where
   begin-step f = split (isLetter 75 f) (isLetter 84 f) (isLetter 72 f) (isLetter 85 f) (isLetter 70 f)
     where
       split : (k t h u x : Bool)
-          → pick k (carryOf fs) (pick t (turnOf fs) (pick h (alone (call hint) fs) (pick u (alone (call undo) fs) (pick x (alone finish fs) other))))
+          → pick k (carryOf fs) (pick t (turnOf fs) (pick h (alone (call hint) fs) (pick u (alone (call undo) fs) (pick x (alone (call finish) fs) other))))
           ≡ orderFrom (begunBy k t h u x) fs
       split true t h u x = refl
       split false true h u x = sym (none-turn fs)

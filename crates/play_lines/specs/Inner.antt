@@ -10,9 +10,9 @@ use Rattle.text.specs.Sizes.{numberBytes}
 use Rattle.graph_flows.specs.Trails.{Step}
 use Rattle.move_cycle.specs.Steps.{codeUp, codeSteps}
 use Rattle.move_cycle.specs.Inner.{greatestEdge}
-use Rattle.move_list.specs.Calls.{carry, turn, undo, hint}
+use Rattle.move_list.specs.Calls.{carry, turn, undo, hint, finish}
 use Rattle.play_lines.specs.declared.Form.{Form}
-use Rattle.play_lines.specs.Orders.{Order, call, finish, other}
+use Rattle.play_lines.specs.Orders.{Order, call, other}
 use Rattle.play_lines.specs.Scans.{hintForm, undoForm, finishForm, carryWhole, turnForm}
 
 -- ---- how long the line of a turn is at most, whatever its numbers
@@ -47,5 +47,5 @@ StandsFor (call (carry i e)) f = (f .kind ≡ carryWhole) × (f .first ≡ i) ×
 StandsFor (call (turn w)) f = KeepsSteps w f
 StandsFor (call undo) f = f .kind ≡ undoForm
 StandsFor (call hint) f = f .kind ≡ hintForm
-StandsFor finish f = f .kind ≡ finishForm
+StandsFor (call finish) f = f .kind ≡ finishForm
 StandsFor other f = Nothing f

@@ -9,12 +9,11 @@ use Rattle.decimal.specs.declared.Number.{Number}
 use Rattle.decimal.specs.declared.Number.the-variants.{Value, Malformed}
 use Rattle.decimal.specs.Decimal.{numberOf}
 use Rattle.graph_flows.specs.Trails.{Step, down, up}
-use Rattle.move_list.specs.Calls.{Call, carry, turn, undo, hint}
+use Rattle.move_list.specs.Calls.{Call, carry, turn, undo, hint, finish}
 
--- what a line asks for: a call, a finish, or nothing, where it is "a line of another form"
+-- what a line asks for: a call, or nothing, where it is "a line of another form"
 pub data Order : Type 0 where
   call : Call → Order
-  finish : Order
   other : Order
 
 -- a byte in front of the first field
@@ -50,7 +49,7 @@ inFront s (call (carry i e)) = other
 inFront s (call (turn w)) = call (turn (s ∷ w))
 inFront s (call undo) = other
 inFront s (call hint) = other
-inFront s finish = other
+inFront s (call finish) = other
 inFront s other = other
 
 -- a pair of "channel and way (D or U)" in front of a turn
@@ -74,7 +73,7 @@ byFields [] = other
 byFields (x ∷ fs) =
     pick (isLetter 75 x) (carryOf fs)
     (pick (isLetter 84 x) (turnOf fs)
-    (pick (isLetter 72 x) (alone (call hint) fs) (pick (isLetter 85 x) (alone (call undo) fs) (pick (isLetter 70 x) (alone finish fs) other))))
+    (pick (isLetter 72 x) (alone (call hint) fs) (pick (isLetter 85 x) (alone (call undo) fs) (pick (isLetter 70 x) (alone (call finish) fs) other))))
 
 -- a line, without its line feed
 unfoldable pub orderOf : List ℕ → Order

@@ -21,9 +21,9 @@ use Rattle.move_cycle.specs.Steps.{codeSteps}
 use Rattle.move_turn.specs.Turns.{turnCall, turnUnkept}
 use Rattle.move_turn.proofs.Unkept.{closed-alike, unkept-number}
 use Rattle.solve_next.specs.Hints.{hintCall}
-use Rattle.move_list.specs.Calls.{carry, turn, undo, hint}
+use Rattle.move_list.specs.Calls.{carry, turn, undo, hint, finish}
 use Rattle.play_lines.specs.declared.Form.{Form}
-use Rattle.play_lines.specs.Orders.{Order, call, finish, other}
+use Rattle.play_lines.specs.Orders.{Order, call, other}
 use Rattle.play_lines.specs.Scans.{hintForm, finishForm, carryWhole, turnForm}
 use Rattle.play_lines.specs.Inner.{KeepsSteps, StandsFor}
 use Rattle.sheet_output.specs.Outputs.{numberLine}
@@ -71,7 +71,7 @@ form-replied b (call (turn w)) f s =
     pick-no (eqb (f .kind) carryWhole) _ _ (rw (s .kind)) ∙ pick-yes (eqb (f .kind) turnForm) _ _ (rw (s .kind)) ∙ turn-replied b w f s
 form-replied b (call undo) f s = rw s
 form-replied b (call hint) f s = rw s
-form-replied b finish f s = rw s
+form-replied b (call finish) f s = rw s
 form-replied b other f s = rw (s .no-carry, s .no-turn, s .no-hint, s .no-undo, s .no-finish)
 
 -- what is printed: the number alone, but for a finish and a hint
@@ -94,9 +94,9 @@ module _ (b : Board) (f : Form) where
       → formText b f ≡ replyText b o
   alone-text o s h n e = form-alone h n ∙ ap (λ (p : Played). numberLine (p .answer)) (form-replied b o f s) ∙ sym (reply-alone b o e)
 
-  finish-text : StandsFor finish f → formText b f ≡ replyText b finish
+  finish-text : StandsFor (call finish) f → formText b f ≡ replyText b (call finish)
   unfolding formText playedText replyText replied both pick
-  finish-text s = rw (form-replied b finish f s, s)
+  finish-text s = rw (form-replied b (call finish) f s, s)
 
   hint-text : StandsFor (call hint) f → formText b f ≡ replyText b (call hint)
   unfolding formText suggestionText replyText replied hintCall pick
@@ -107,5 +107,5 @@ form-text b (call (carry i e)) f s = alone-text b f (call (carry i e)) s (rw (s 
 form-text b (call (turn w)) f s = alone-text b f (call (turn w)) s (rw (s .kind)) (rw (s .kind)) refl
 form-text b (call undo) f s = alone-text b f (call undo) s (rw s) (rw s) refl
 form-text b (call hint) f s = hint-text b f s
-form-text b finish f s = finish-text b f s
+form-text b (call finish) f s = finish-text b f s
 form-text b other f s = alone-text b f other s (s .no-hint) (s .no-finish) refl

@@ -1,4 +1,4 @@
--- What the program `play` prints: document 01, "Route sheet"; document 02, E3.
+-- What the program `play` prints: document 01, "Route sheet"; document 02, E1, E3.
 use mathlib.Core.Bool.{true, false}
 use mathlib.Core.List.{List, [], _∷_, _++_}
 use Prim.Native.Nat.{ℕ}
@@ -8,10 +8,10 @@ use Rattle.lists.specs.Choice.{pick}
 use Rattle.board.specs.Whole.{Board}
 use Rattle.board.specs.Whole.{Played}
 use Rattle.solve_next.specs.Hints.{hintCall}
-use Rattle.move_list.specs.Calls.{gameOf, made, carry, turn, undo, hint}
+use Rattle.move_list.specs.Calls.{gameOf, made, carry, turn, undo, hint, finish}
 use Rattle.solve_finish.specs.Finishes.{finishCall}
 use Rattle.load.specs.Load.{loadText}
-use Rattle.play_lines.specs.Orders.{Order, call, finish, other, orderOf}
+use Rattle.play_lines.specs.Orders.{Order, call, other, orderOf}
 use Rattle.play_lines.specs.MoveLines.{hintLine}
 use Rattle.sheet_output.specs.Outputs.{numberLine, reportOf}
 use Rattle.sheet_output.specs.Inputs.{boardPart, movesPart}
@@ -19,7 +19,6 @@ use Rattle.sheet_output.specs.Inputs.{boardPart, movesPart}
 -- "0 or the refusal number for each, 1 for a line of another form"; and the board after it
 unfoldable pub replied : Board → Order → Played
 replied b (call c) = record { answer = made (gameOf b) c .answer; board = made (gameOf b) c .game .board }
-replied b finish = record { answer = finishCall b .answer; board = finishCall b .board }
 replied b other = record { answer = 1; board = b }
 
 -- what follows a 0: "the sheet after an accepted `F`"; after an accepted `H` the move "as a line it would read, or `N` where no move is left"
@@ -28,7 +27,7 @@ behindZero b (call (carry i e)) = []
 behindZero b (call (turn w)) = []
 behindZero b (call undo) = []
 behindZero b (call hint) = hintLine (hintCall b .advice)
-behindZero b finish = reportOf (finishCall b .board)
+behindZero b (call finish) = reportOf (finishCall b .board)
 behindZero b other = []
 
 unfoldable pub replyText : Board → Order → List ℕ
