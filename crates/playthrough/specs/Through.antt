@@ -1,5 +1,6 @@
 -- A whole play: a text is loaded, a list of calls is made, and the board is finished.
 use mathlib.Core.Path.{_≡_}
+use mathlib.Core.Bool.{true, false}
 use mathlib.Core.List.{List, []}
 use Prim.Native.Nat.{ℕ}
 use lib.Seq.{sets}
@@ -7,7 +8,7 @@ use Rattle.board.specs.Whole.{Board}
 use Rattle.load.specs.Load.{loadText}
 use Rattle.solve_finish.specs.Finishes.{Finished, finishCall}
 use Rattle.move_list.specs.Calls.{Call, gameOf, played, noted}
-use Rattle.theorem_list.specs.Player.{says, suggests}
+use Rattle.theorem_list.specs.Player.{isOver, standingMoves, says, suggests}
 use Rattle.theorem_list.specs.Complete.{Complete}
 use Rattle.theorem_list.specs.Faithful.{Faithful}
 
@@ -32,7 +33,9 @@ module _ (text : List ℕ) (cs : List Call) (given given' hints hints' : List �
     pub faithful : Faithful text cs (r .board)
     pub answers-written : given' ≡ sets given 0 (says text [] cs)
     pub hints-written : hints' ≡ noted hints 0 (suggests text [] cs)
-    pub finished : Complete (r .board) (r .finish)
+    -- the finish completes the board; or one of the calls has done so, and it is refused
+    pub finished : isOver (standingMoves text [] cs) ≡ false → Complete (r .board) (r .finish)
+    pub refused : isOver (standingMoves text [] cs) ≡ true → r .finish ≡ record { answer = 20; count = 0; board = r .board }
 
   -- .. for every text that is accepted
   abbrev pub Holds : Type 0

@@ -21,8 +21,8 @@ pub struct Outcome {
 }
 
 // Loads a text, makes the calls (crates/move_list: three numbers a call, and the steps of the turns), and finishes the
-// board. The answers and the moves of the hints go into the buffers, the standing moves and those of the finish into
-// the journal.
+// board; where a finish among the calls stands, this one is refused. The answers and the moves of the hints go into the
+// buffers, the standing moves and those of the finish into the journal.
 pub fn play_through(
     text: &[u8],
     codes: &[u32],

@@ -32,12 +32,12 @@ use Rattle.move_edges.specs.Marking.{singularIn, freshIn}
 use Rattle.move_cycle.specs.Amounts.{smaller, lessened, raiseIn, allowedIn, amountIn}
 use Rattle.move_cycle.specs.Shifts.{shiftedAt, shiftFrom, shifted}
 use Rattle.move_turn.specs.Turns.{turnRefusalIn, turnedIn, turnCall}
-use Rattle.move_undo.specs.Undone.{undoRefusalIn, undoCall}
+use Rattle.move_undo.specs.Undone.{takenBack, undoRefusal, undoCall}
 use Rattle.solve_walk.specs.Walk.{touches, another, parts, firstMet, downWalk, cycleOf}
 use Rattle.solve_next.specs.Choosing.{allHomeIn, nextActIn}
 use Rattle.solve_finish.specs.Finishes.{Finished}
 use Rattle.solve_finish.specs.Finishes.{stepped, steppedOn, playedOut, finishRefusal, finishCall}
-use Rattle.move_list.specs.Calls.{Call, carry, turn, undo, gameOf, played, answers}
+use Rattle.move_list.specs.Calls.{Call, carry, turn, undo, finish, gameOf, played, answers}
 use Rattle.report_routes.specs.Routes.{routeIn, route, load}
 use Rattle.solve_carry.specs.Search.{chosenEdgeIn, markedEdgeIn, markedOpenIn}
 
@@ -71,7 +71,10 @@ calling text calls given flows last = record { text = text; answer = 0; calls = 
 pub finishing : String → List ℕ → List (List ℕ) → List ℕ → Case
 finishing text flows routes loads = record { text = text; answer = 0; calls = []; given = []; flows = flows; last = 0; routes = routes; loads = loads }
 
--- the board whose channels 1 and 2 drain to 0, and document 01's T
+-- document 01's S, the board whose channels 1 and 2 drain to 0, and document 01's T
+unfoldable pub boardS : String
+boardS = "B,2,1,1,0\nC,0,1,5\nW,1,5\n"
+
 unfoldable pub withCycle : String
 withCycle = "B,3,3,1,0\nC,0,1,4\nC,1,2,3\nC,2,1,3\nW,1,4\n"
 
@@ -82,10 +85,10 @@ boardT = "B,4,4,2,0\nC,0,1,3\nC,0,2,3\nC,1,3,3\nC,2,3,3\nW,3,2\nW,3,4\n"
 around : List Step
 around = down 0 ∷ down 2 ∷ up 3 ∷ up 1 ∷ []
 
--- S and S with other lines, the drained board, and T, whose finish is document 01's sheet
+-- S and S with other lines, the drained board, and T, whose finish is document 01's sheet; a finish taken back, on T and, with no move of its own, on S (document 02, E1)
 pub cases : List Case
 cases =
-    finishing "B,2,1,1,0\nC,0,1,5\nW,1,5\n" (5 ∷ []) ((0 ∷ []) ∷ []) (5 ∷ [])
+    finishing boardS (5 ∷ []) ((0 ∷ []) ∷ []) (5 ∷ [])
     ∷ loading "B,2,1,1,0\nC,1,1,5\nW,1,5\n" 3 []
     ∷ loading "B,2,1,1,0\nC,0,1,5\nW,0,5\n" 4 []
     ∷ loading "B,2,1,1,0\nC,0,1,4\nW,1,5\n" 5 []
@@ -100,6 +103,8 @@ cases =
     ∷ calling boardT (undo ∷ []) (27 ∷ []) (3 ∷ 3 ∷ 3 ∷ 3 ∷ []) 0
     ∷ calling boardT (carry 0 2 ∷ carry 0 0 ∷ turn around ∷ []) (0 ∷ 0 ∷ 0 ∷ []) (0 ∷ 4 ∷ 0 ∷ 4 ∷ []) 1
     ∷ calling boardT (carry 0 2 ∷ carry 0 0 ∷ turn around ∷ undo ∷ []) (0 ∷ 0 ∷ 0 ∷ 0 ∷ []) (1 ∷ 3 ∷ 1 ∷ 3 ∷ []) 0
+    ∷ calling boardT (carry 0 2 ∷ finish ∷ carry 0 0 ∷ finish ∷ undo ∷ []) (0 ∷ 0 ∷ 20 ∷ 20 ∷ 0 ∷ []) (3 ∷ 3 ∷ 1 ∷ 3 ∷ []) 0
+    ∷ calling boardS (carry 0 0 ∷ finish ∷ undo ∷ undo ∷ undo ∷ []) (0 ∷ 0 ∷ 0 ∷ 0 ∷ 27 ∷ []) (5 ∷ []) 0
     ∷ finishing boardT (3 ∷ 3 ∷ 3 ∷ 3 ∷ []) ((0 ∷ 2 ∷ []) ∷ (1 ∷ 3 ∷ []) ∷ []) (2 ∷ 4 ∷ 2 ∷ 4 ∷ [])
     ∷ []
 
@@ -148,10 +153,10 @@ hold (x ∷ xs) = both (holds x (loadText (bytes (x .text)))) (hold xs)
 pub starred : T (hold cases)
 unfolding loadText readText bytes cases hold holds same both pick indexOf numberOf valueFrom ranged all lowest sumAt keyed closedBoard
     opens pass passes reached leads onward since follow smallest lowered lowerCycle onCycle cycleVertex cycleFrom cancelled acyclicFlows
-    loading calling withCycle boardT around amountOf ends played answers answered intact loaded playing
+    loading calling boardS withCycle boardT around amountOf ends played answers answered intact loaded playing
     flowFits entersIn isOpenIn openEdgeIn hasOpenIn openTerminalIn someOpenIn onBoardIn carryRefusalIn carriedIn carryCall
     hasBit withBit collect every leadsBack isCycle gather leaves leaving straight singularIn freshIn
-    smaller lessened raiseIn allowedIn amountIn shiftedAt shiftFrom shifted turnRefusalIn turnedIn turnCall undoRefusalIn undoCall
+    smaller lessened raiseIn allowedIn amountIn shiftedAt shiftFrom shifted turnRefusalIn turnedIn turnCall takenBack undoRefusal undoCall
     finishing routed loadsFrom completes finishes total has touches another parts firstMet downWalk cycleOf isHomeIn allHomeIn markedOpenIn markedEdgeIn chosenEdgeIn nextActIn
     stepped steppedOn playedOut finishRefusal finishCall routeIn route load
 starred = tt

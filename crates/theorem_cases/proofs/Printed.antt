@@ -27,7 +27,7 @@ use Rattle.move_edges.specs.Marking.{singularIn, freshIn}
 use Rattle.move_cycle.specs.Amounts.{smaller, lessened, raiseIn, allowedIn, amountIn}
 use Rattle.move_cycle.specs.Shifts.{shiftedAt, shiftFrom, shifted}
 use Rattle.move_turn.specs.Turns.{turnRefusalIn, turnedIn, turnCall}
-use Rattle.move_undo.specs.Undone.{undoRefusalIn, undoCall}
+use Rattle.move_undo.specs.Undone.{takenBack, undoRefusal, undoCall}
 use Rattle.solve_walk.specs.Walk.{touches, another, parts, firstMet, downWalk, cycleOf}
 use Rattle.solve_next.specs.Choosing.{allHomeIn, nextActIn, actOf}
 use Rattle.solve_finish.specs.Finishes.{stepped, steppedOn, playedOut, finishRefusal, finishCall}
@@ -50,29 +50,32 @@ sheetT = "R,2,4\nM,0,2,0,2\nM,1,2,1,3\nL,0,3,2\nL,1,3,4\nL,2,3,2\nL,3,3,4\n"
 sheetWithCycle : String
 sheetWithCycle = "R,1,3\nM,0,1,0\nL,0,4,4\nL,1,0,0\nL,2,0,0\n"
 
--- a hint, two carries, the turn, an undo and a hint; a channel too large for a step, lines of another form, the empty turn; a finish, two lines after it, and one
--- without its line feed
+-- a hint, two carries, the turn, an undo and a hint; a channel too large for a step, lines of another form, the empty turn; a finish, a carry that it refuses, an undo,
+-- the hint again, the finish again, and a line without its line feed
 lines : String
-lines = "H\nK,0,2\nK,0,0\nT,0,D,2,D,3,U,1,U\nU\nH\nT,128,D\nK,0\nN\nT\nF\nU\nH\nF"
+lines = "H\nK,0,2\nK,0,0\nT,0,D,2,D,3,U,1,U\nU\nH\nT,128,D\nK,0\nN\nT\nF\nK,1,3\nU\nH\nF\nF"
 
 answersT : String
 answersT = "0\nK,0,2\n0\n0\n0\n0\n0\nT,0,D,2,D,3,U,1,U\n6\n1\n1\n7\n0\n"
+
+behindFinish : String
+behindFinish = "20\n0\n0\nT,0,D,2,D,3,U,1,U\n0\n"
 
 pub asShown : Bool
 asShown =
     both (same (sheetOutput (bytes boardT)) (bytes sheetT))
     (both (same (sheetOutput (bytes withCycle)) (bytes sheetWithCycle))
-    (both (same (playOutput (bytes boardT ++ bytes lines)) (bytes answersT ++ (bytes sheetT ++ bytes "20\n20\n1\n")))
+    (both (same (playOutput (bytes boardT ++ bytes lines)) (bytes answersT ++ (bytes sheetT ++ (bytes behindFinish ++ (bytes sheetT ++ bytes "1\n")))))
     (same (playOutput (bytes withCycle ++ bytes "K,0,0\nH\n")) (bytes "0\n0\nN\n"))))
 
 pub printed : T asShown
-unfolding asShown lines answersT playOutput repliesFrom replyText replied hintRefusal nextAdviceIn hintCall actOf codeStep codeSteps stepsText moveLine hintLine boardPart movesPart firstLines linesWanted linesOf header line letter
+unfolding asShown lines answersT behindFinish playOutput repliesFrom replyText replied hintRefusal nextAdviceIn hintCall actOf codeStep codeSteps stepsText moveLine hintLine boardPart movesPart firstLines linesWanted linesOf header line letter
     field numbers then fieldsOf onto isLetter carryOf turnOf byFields orderOf same bytes withCycle boardT sheetT sheetWithCycle sheetOutput finishOutput reportOf reportText
     started unreported routesFit route routeIn load decimal decimalFrom numbersText lineText linesText loadText readText both pick indexOf numberOf
     valueFrom ranged all lowest sumAt keyed closedBoard opens pass passes reached leads onward since follow smallest lowered lowerCycle onCycle
     cycleVertex cycleFrom cancelled acyclicFlows answered intact loaded playing flowFits entersIn isOpenIn openEdgeIn hasOpenIn openTerminalIn someOpenIn onBoardIn
     carryRefusalIn carriedIn carryCall hasBit withBit collect every leadsBack isCycle gather leaves leaving straight singularIn freshIn
-    smaller lessened raiseIn allowedIn amountIn shiftedAt shiftFrom shifted turnRefusalIn turnedIn turnCall undoRefusalIn undoCall total has touches another parts
+    smaller lessened raiseIn allowedIn amountIn shiftedAt shiftFrom shifted turnRefusalIn turnedIn turnCall takenBack undoRefusal undoCall total has touches another parts
     firstMet downWalk cycleOf isHomeIn allHomeIn markedOpenIn markedEdgeIn chosenEdgeIn nextActIn stepped steppedOn playedOut finishRefusal finishCall
     either
 printed = tt

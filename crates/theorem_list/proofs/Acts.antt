@@ -1,4 +1,4 @@
--- An accepted move of either kind, a carry or a turn: the board stays one of play, the potential falls, the network and the acyclic flow stay, and the journal
+-- An accepted move of either kind, a carry or a turn: the board stays one of play, taking the move back gives the board of before, the potential falls, the network and the acyclic flow stay, and the journal
 -- has one move more. Each fact is the carry's or the turn's own, by the kind of the move.
 use mathlib.Core.Path.{_≡_, refl}
 use Prim.Native.Nat.{_+_, _<_}
@@ -9,14 +9,19 @@ use Rattle.theorem_keep.proofs.Turnable.{turn-facts}
 use Rattle.theorem_cycles.specs.Potential.{potential}
 use Rattle.theorem_keep.proofs.CarryFalls.{carried-falls}
 use Rattle.theorem_cycles.proofs.Gains.{turned-falls}
-use Rattle.theorem_keep.proofs.Standing.{Standing, carry-standing, turn-standing}
+use Rattle.theorem_keep.proofs.Standing.{Standing, carry-standing, turn-standing, carry-back, turn-back}
 use Rattle.move_carry.specs.Carries.{carriedIn}
 use Rattle.move_turn.specs.Turns.{turnedIn}
+use Rattle.move_undo.specs.Undone.{undone}
 
 module _ (b : Board) where
   pub act-standing : (a : Act) → Standing b → judge b a ≡ 0 → Standing (acted b a)
   act-standing (relocate i e) st h = carry-standing b i e st h
   act-standing (augment w) st h = turn-standing b w st h
+
+  pub act-back : (a : Act) → Standing b → judge b a ≡ 0 → undone (acted b a) ≡ b
+  act-back (relocate i e) st h = carry-back b i e st h
+  act-back (augment w) st h = turn-back b w st h
 
   pub act-falls : (a : Act) → Standing b → judge b a ≡ 0 → potential (acted b a) < potential b
   act-falls (relocate i e) st h = carried-falls b i e (st .inv) (carry-facts b i e h .1)

@@ -28,7 +28,7 @@ use Rattle.theorem_cycles.specs.Invariant.{Invariant}
 use Rattle.theorem_cycles.specs.Potential.{potential}
 use Rattle.theorem_keep.proofs.Bounds.{bound-fits}
 use Rattle.theorem_keep.proofs.Standing.{Standing, standing-playing}
-use Rattle.theorem_list.specs.Complete.{SolvedBy, Complete}
+use Rattle.theorem_list.specs.Complete.{SolvedBy, Completed, Complete}
 use Rattle.theorem_list.proofs.Ends.{home-facts, ended-simple, ended-below}
 use Rattle.theorem_list.proofs.Acts.{act-standing, act-falls, act-network, act-acyclic, act-moves}
 use Rattle.theorem_list.proofs.Next.{next-accepted}
@@ -41,11 +41,11 @@ abbrev pub next : Board → Board
 next b = acted b (nextAct b)
 
 -- one step: none is made with every terminal at the source, an accepted move else
-step-refused : (b : Board) → allHome b ≡ true → stepped b .answer ≡ 28
+pub step-refused : (b : Board) → allHome b ≡ true → stepped b .answer ≡ 28
 unfolding stepped
 step-refused b all = ap (λ (p : Played). p .answer) (pick-yes (allHome b) _ _ all)
 
-step-made : (b : Board) → allHome b ≡ false → judge b (nextAct b) ≡ 0 → stepped b ≡ record { answer = 0; board = next b }
+pub step-made : (b : Board) → allHome b ≡ false → judge b (nextAct b) ≡ 0 → stepped b ≡ record { answer = 0; board = next b }
 unfolding stepped
 step-made b away free = pick-no (allHome b) _ _ away ∙ answered-yes (judge b (nextAct b)) b (next b) free
 
@@ -170,24 +170,32 @@ module _ (b : Board) (st : Standing b) where
   counted : b .moves + (playedOut b .moves - b .moves) ≡ playedOut b .moves
   counted = omega (arith, over .moves)
 
+  -- the board at the end
+  end-complete : Completed (ended (b .moves) (playedOut b))
+  end-complete =
+      let inv : Invariant (playedOut b) = over .standing .inv in
+      record {
+        home = home-facts (playedOut b) inv over-home;
+        simple = ended-simple (playedOut b) inv (b .moves) over-home;
+        below = ended-below (playedOut b) inv (b .moves);
+        stopped = none-positive (playedOut b) inv over-home;
+        few = omega (arith, over .standing .room);
+        room = bound-fits (playedOut b .network) (over .standing .within);
+        places = over .standing .journal-size;
+        blanks = inv .blanks;
+      }
+
   completed : Complete b result
   completed = record {
     accepted = refl;
     network = over .network;
     acyclic = over .acyclic;
-    stopped = none-positive (playedOut b) inv over-home;
+    completed = end-complete;
     last = playedOut b;
     solved = rw (count-is) (done .solved);
     over = refl;
     kept = done .kept;
-    blanks = inv .blanks;
-    places = over .standing .journal-size;
-    home = λ i h. home-facts (playedOut b) inv over-home i (within i h) ∙ ap (λ (n : Network). n .source) (over .network);
-    simple = λ i h. ended-simple (playedOut b) inv (b .moves) over-home i (within i h);
-    below = ended-below (playedOut b) inv (b .moves);
     moves = sym counted;
-    few = omega (arith, counted, over .standing .room, ap movesBound (over .network));
-    room = fits;
   }
     where
       done : Solving b (playedOut b)
@@ -195,12 +203,6 @@ module _ (b : Board) (st : Standing b) where
 
       count-is : playedOut b .moves - b .moves ≡ done .count
       count-is = omega (arith, done .moves)
-
-      inv : Invariant (playedOut b)
-      inv = over .standing .inv
-
-      within : (i : ℕ) → i < b .network .terminals → i < playedOut b .network .terminals
-      within i h = omega (arith, h, ap (λ (n : Network). n .terminals) (over .network))
 
   pub finish-completes : Complete b (finishCall b)
   finish-completes = rw finish-result completed

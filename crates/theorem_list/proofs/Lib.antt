@@ -6,9 +6,11 @@ pub mod Stops
 pub mod Acts
 pub mod Finish
 pub mod HintFirst
+pub mod FinishBack
 pub mod Stands
 pub mod Words
 pub mod EveryList
+pub mod Unfinished
 pub mod Rooms
 pub mod Reports
 pub mod Longest

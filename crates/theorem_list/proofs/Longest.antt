@@ -35,6 +35,7 @@ use Rattle.report_routes.specs.Routes.{route, share, load, largest}
 use Rattle.report.specs.Reports.{routeRow, loadRow, reportText}
 use Rattle.theorem_cycles.proofs.Network.{acyclic-of-below}
 use Rattle.theorem_keep.proofs.Kept.{text-flow-small}
+use Rattle.theorem_list.specs.Player.{isOver, standingMoves}
 use Rattle.theorem_list.specs.Complete.{verticesAlong, Simple, InUse, Complete}
 use Rattle.theorem_list.proofs.EveryList.{every-list}
 use Rattle.theorem_list.proofs.Reports.{played-acyclic}
@@ -132,15 +133,15 @@ module _ (c : Board) (law : Lawful (c .network)) (small : (e : ℕ) → acyclicF
 complete-short : (b : Board) (f : Finished) → Complete b f → Lawful (b .network) → ((e : ℕ) → acyclicFlow b e ≤ maxFlow) → length (reportText (f .board)) ≤ longestReport
 complete-short b f done law small =
     short-report (f .board) (rw (done .network) law) (λ e. rw (done .acyclic) (small e))
-    (λ i h. done .simple i (omega (arith, h, ap (λ (n : Network). n .terminals) (done .network)))) (done .below)
+    (done .completed .simple) (done .completed .below)
 
-pub report-short : (text : List ℕ) (cs : List Call) → loadText text .answer ≡ 0
+pub report-short : (text : List ℕ) (cs : List Call) → loadText text .answer ≡ 0 → isOver (standingMoves text [] cs) ≡ false
     → length (reportText (finishCall (played (gameOf (loadText text .board)) cs .board) .board)) ≤ longestReport
-report-short text cs loads =
+report-short text cs loads on =
     let faithful = every-list text cs loads in
     let net : Network = readText text .network in
     let law : Lawful net = loaded-lawful text loads in
     let first = load-accepted text loads in
     let network : played (gameOf (loadText text .board)) cs .board .network ≡ net = faithful .network ∙ ap (λ (b : Board). b .network) first in
-    complete-short (played (gameOf (loadText text .board)) cs .board) (finishCall (played (gameOf (loadText text .board)) cs .board)) (faithful .finish) (rw network law)
+    complete-short (played (gameOf (loadText text .board)) cs .board) (finishCall (played (gameOf (loadText text .board)) cs .board)) (faithful .goes-on on .finish) (rw network law)
     (λ e. rw (played-acyclic text cs loads) (omega (arith, acyclic-of-below net (law .sound) e, text-flow-small net (law .sound) (law .within) e)))

@@ -37,30 +37,34 @@ abbrev pub SolvedBy : ℕ → Board → Board → Type 0
 SolvedBy zero b c = (allHome b ≡ true) × (b ≡ c)
 SolvedBy (suc k) b c = (allHome b ≡ false) × (judge b (nextAct b) ≡ 0) × SolvedBy k (acted b (nextAct b)) c
 
+-- a board that is complete
+pub record Completed (b : Board) : Type 0 where
+  -- every terminal is at the source, by a simple route
+  pub home : (i : ℕ) → i < b .network .terminals → place b i ≡ b .network .source
+  pub simple : (i : ℕ) → i < b .network .terminals → Simple b i
+  -- the load of an edge in use, less its largest demand, is strictly below its flow in the acyclic flow
+  pub below : (e : ℕ) → InUse b e → load b e < acyclicFlow b e + largest b e
+  -- so the procedure has stopped: no edge has a flow
+  pub stopped : (e : ℕ) → flow b e ≡ 0
+  -- its moves are in the journal, within the bound, which the journal has room for, and the places past them are blank
+  pub few : b .moves ≤ movesBound (b .network)
+  pub room : movesBound (b .network) ≤ maxMoves
+  pub places : length (b .journal) ≡ maxMoves
+  pub blanks : (i : ℕ) → b .moves ≤ i → getD (b .journal) i blank ≡ blank
+
 -- what finish gave on board b
 pub record Complete (b : Board) (f : Finished) : Type 0 where
   pub accepted : f .answer ≡ 0
   pub network : f .board .network ≡ b .network
   pub acyclic : f .board .acyclic ≡ b .acyclic
-  -- every terminal is at the source, by a simple route
-  pub home : (i : ℕ) → i < b .network .terminals → place (f .board) i ≡ b .network .source
-  pub simple : (i : ℕ) → i < b .network .terminals → Simple (f .board) i
-  -- the load of an edge in use, less its largest demand, is strictly below its flow in the acyclic flow
-  pub below : (e : ℕ) → InUse (f .board) e → load (f .board) e < acyclicFlow (f .board) e + largest (f .board) e
-  -- so the procedure has stopped: no edge has a flow
-  pub stopped : (e : ℕ) → flow (f .board) e ≡ 0
+  pub completed : Completed (f .board)
   -- "plays to the end and answers how many moves it made": so many accepted moves by the solver's rule, and then play is over
   pub last : Board
   pub solved : SolvedBy (f .count) b last
   pub over : f .board ≡ ended (b .moves) last
-  -- the entries that stood are kept, and the places past all the moves are blank
+  -- the entries that stood are kept, and the moves of finish are behind them
   pub kept : take (b .moves) (f .board .journal) ≡ take (b .moves) (b .journal)
-  pub blanks : (i : ℕ) → f .board .moves ≤ i → getD (f .board .journal) i blank ≡ blank
-  -- the moves that stood and those of finish are in the journal, within the bound, which the journal has room for
   pub moves : f .board .moves ≡ b .moves + f .count
-  pub few : b .moves + f .count ≤ movesBound (b .network)
-  pub room : movesBound (b .network) ≤ maxMoves
-  pub places : length (f .board .journal) ≡ maxMoves
 
 -- board c is on the way of the finish of b, one move further: both are finished to one board, but for where the finish began, and from c it takes one move less
 pub record OneFurther (b c : Board) : Type 0 where
