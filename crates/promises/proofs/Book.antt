@@ -2,8 +2,10 @@
 use Rattle.graph_flows.proofs.Walk.{on-cycle-first, first-on-cycle}
 use Rattle.theorem_cycles.proofs.Network.{acyclic-of-below, acyclic-of-acyclic, acyclic-of-balance}
 use Rattle.theorem_list.proofs.EveryList.{every-list}
+use Rattle.theorem_list.proofs.Unfinished.{unfinished-list}
 use Rattle.promises.specs.Cancelling.{AboutCancelling}
 use Rattle.promises.specs.Book.{Book}
+use Rattle.promises.proofs.Plays.{every-board}
 use Rattle.promises.proofs.Texts.{about-texts}
 use Rattle.promises.proofs.Moves.{about-moves}
 use Rattle.promises.proofs.Hints.{about-hints}
@@ -25,6 +27,8 @@ book = record {
   moves = about-moves;
   hints = about-hints;
   every-list = every-list;
+  unfinished-list = unfinished-list;
+  every-board = every-board;
   sheets = about-sheets;
   refusals = about-refusals;
 }

@@ -34,6 +34,7 @@ use Rattle.theorem_cycles.proofs.Degrees.{starts}
 use Rattle.theorem_list.proofs.NextCycle.{some-away}
 use Rattle.theorem_list.proofs.Stops.{none-positive}
 use Rattle.theorem_list.proofs.Next.{next-accepted}
+use Rattle.theorem_list.proofs.FinishBack.{finish-undone}
 use Rattle.promises.specs.Moves.{AboutMoves}
 use Rattle.promises.proofs.Plays.{play-standing}
 
@@ -86,6 +87,7 @@ about-moves = record {
   amount-one = λ text b w p h. one b w (play-standing text b p) h;
   carry-undone = λ text b i e p h. carry-undone b i e (play-standing text b p) h;
   turn-undone = λ text b w p h. turn-undone b w (play-standing text b p) h;
+  finish-undone = λ text b p. finish-undone b (play-standing text b p);
   stop-iff = λ text b p. stops b (play-standing text b p .inv);
   stop-zero = λ text b p all. none-positive b (play-standing text b p .inv) all;
   next-accepted = λ text b p away. next-accepted b (play-standing text b p) away;

@@ -1,9 +1,9 @@
--- Refusals. A board that is not in play, closed or finished, is refused with 20 by the first test of each call. A board of play keeps the invariant, which has all that
+-- Refusals. A board that is not in play, closed or finished, is refused with 20 by the first test of each call but undo, which asks that it was loaded. A board of play keeps the invariant, which has all that
 -- the calls ask besides; and to end play changes nothing that they look at but the stage.
 use mathlib.Core.Path.{_≡_, refl, sym, ap, _∙_}
-use mathlib.Core.Bool.{true, false}
+use mathlib.Core.Bool.{Bool, true, false}
 use mathlib.Core.Logic.{_≢_}
-use mathlib.Core.List.{List, _++_}
+use mathlib.Core.List.{List, [], _++_}
 use Prim.Native.Nat.{ℕ, _≤_}
 use native.Mathlib.Omega.{arith}
 use lib.Dec.{eqb}
@@ -19,6 +19,7 @@ use Rattle.text_rules.specs.Rules.{lawful}
 use Rattle.text_rules.proofs.Meaning.{lawful-tested}
 use Rattle.text.specs.Results.{writable, writeText, written, writeTextIn, writtenIn}
 use Rattle.text.specs.declared.Written.{Written}
+use Rattle.load.specs.Load.{loadText}
 use Rattle.load.proofs.Loads.{load-refused}
 use Rattle.move_guard.specs.Guard.{intact, loaded, playing}
 use Rattle.move_guard.specs.Moved.{answered}
@@ -26,8 +27,8 @@ use Rattle.move_guard.proofs.Answers.{answered-no}
 use Rattle.move_guard.proofs.Facts.{playing-intact}
 use Rattle.move_carry.specs.Carries.{carryRefusal, carried, carryCall, carryRefusalIn}
 use Rattle.move_turn.specs.Turns.{turnRefusal, turned, turnCall, turnRefusalIn}
-use Rattle.move_undo.specs.Undone.{undoRefusal, undone, undoCall, undoRefusalIn}
-use Rattle.move_list.specs.Calls.{Call, carry, turn, undo, hint, Game, gameOf, made}
+use Rattle.move_undo.specs.Undone.{undoRefusal, undoCall}
+use Rattle.move_list.specs.Calls.{Call, carry, turn, undo, hint, finish, Game, gameOf, made, played}
 use Rattle.solve_next.specs.Choosing.{noAdvice}
 use Rattle.solve_next.specs.Hints.{hintRefusal, hintCall}
 use Rattle.solve_finish.specs.Finishes.{Finished}
@@ -37,7 +38,10 @@ use Rattle.report_routes.specs.Tables.{routesFit}
 use Rattle.report.specs.Reports.{started, unreported, reportText, sheetRefusal, sheetCall, sheeted}
 use Rattle.catalog.specs.Catalog.{catalogCall, catalogued}
 use Rattle.theorem_keep.proofs.Standing.{Standing, standing-lawful, standing-playing}
-use Rattle.theorem_list.proofs.Finish.{finish-taken, finish-result, hint-taken}
+use Rattle.theorem_list.specs.Player.{Item, saysTo, standingMoves}
+use Rattle.theorem_list.proofs.Finish.{finish-taken, hint-taken}
+use Rattle.theorem_list.proofs.Stands.{none, going}
+use Rattle.theorem_list.proofs.EveryList.{same, all-stood, every-list, off-stage}
 use Rattle.theorem_list.proofs.Rooms.{routes-fit}
 use Rattle.promises.specs.Plays.{OfPlay, OfFinish}
 use Rattle.promises.specs.Refusals.{Refuses20, Refuses29, Whole, AboutRefusals}
@@ -58,10 +62,6 @@ module _ (b : Board) (shut : playing b ≡ false) where
   unfolding turnCall turnRefusalIn
   no-turn w = stays (turnRefusal b w) (turned b w) (pick-no (playing b) _ 20 shut)
 
-  pub no-undo : undoCall b ≡ record { answer = 20; board = b }
-  unfolding undoCall undoRefusalIn
-  no-undo = stays (undoRefusal b) (undone b) (pick-no (playing b) _ 20 shut)
-
   pub hint-number : hintRefusal b ≡ 20
   unfolding hintRefusal
   hint-number = pick-no (playing b) _ 20 shut
@@ -81,16 +81,30 @@ module _ (b : Board) (shut : playing b ≡ false) where
       ∙ (λ j. record { answer = finish-number j; count = 0; board = b })
 
   refuses-20 : Refuses20 b
-  refuses-20 = record { carry = no-carry; turn = no-turn; undo = no-undo; hint = no-hint; finish = no-finish }
+  refuses-20 = record { carry = no-carry; turn = no-turn; hint = no-hint; finish = no-finish }
 
--- a board of another stage is not in play
-off-stage : (b : Board) → b .stage ≢ playStage → playing b ≡ false
-unfolding playing both
-off-stage b n = rw (ne-eqb (b .stage) playStage n)
+-- ---- undo
+undo-shut : (b : Board) → loaded b ≡ false → undoCall b ≡ record { answer = 20; board = b }
+unfolding undoCall undoRefusal
+undo-shut b shut =
+    let number : undoRefusal b ≡ 20 = pick-no (loaded b) _ 20 shut in
+    answered-no (undoRefusal b) b _ (λ q. omega (arith, number, q)) ∙ (λ j. record { answer = number j; board = b })
 
--- so is the board that a finish gave
-pub finished-off : (b : Board) → Standing b → playing (finishCall b .board) ≡ false
-finished-off b st = rw (finish-result b st) (off-stage (ended (b .moves) (playedOut b)) (λ q. omega (arith, q)))
+-- after any calls it is the player's number, 27 or 0
+undo-number : (t : Bool) → pick {A = ℕ} t 27 0 ≢ 20
+unfolding pick
+undo-number true = λ q. omega (arith, q)
+undo-number false = λ q. omega (arith, q)
+
+undo-said : (text : List ℕ) (ms : List Item) → saysTo text ms undo ≢ 20
+unfolding saysTo
+undo-said text ms = undo-number (eqb (length ms) 0)
+
+undo-open : (text : List ℕ) (cs : List Call) → loadText text .answer ≡ 0 → undoCall (played (gameOf (loadText text .board)) cs .board) .answer ≢ 20
+undo-open text cs loads =
+    let ms : List Item = standingMoves text [] cs in
+    let q = same text loads ms undo (all-stood text loads [] cs (going none)) in
+    rw (every-list text cs loads .board) (λ z. undo-said text ms (sym (q .answer) ∙ z))
 
 -- ---- the closed board
 closed-off : playing closedBoard ≡ false
@@ -157,13 +171,6 @@ refused-same n b next h = go (known (eqb n 0))
     go (was-true t) = absurd (h (ap (λ (p : Played). p .answer) (pick-yes (eqb n 0) _ _ t)))
     go (was-false t) = ap (λ (p : Played). p .board) (pick-no (eqb n 0) _ _ t)
 
-call-same : (g : Game) (c : Call) → made g c .answer ≢ 0 → made g c .game ≡ g
-unfolding carryCall turnCall undoCall
-call-same g (carry i e) h = ap gameOf (refused-same (carryRefusal (g .board) i e) (g .board) (carried (g .board) i e) h)
-call-same g (turn w) h = ap gameOf (refused-same (turnRefusal (g .board) w) (g .board) (turned (g .board) w) h)
-call-same g undo h = ap gameOf (refused-same (undoRefusal (g .board)) (g .board) (undone (g .board)) h)
-call-same g hint h = refl
-
 finish-same : (b : Board) → finishCall b .answer ≢ 0 → finishCall b ≡ record { answer = finishCall b .answer; count = 0; board = b }
 unfolding finishCall
 finish-same b h = go (known (eqb (finishRefusal b) 0))
@@ -173,6 +180,14 @@ finish-same b h = go (known (eqb (finishRefusal b) 0))
     go (was-false t) =
         let same = pick-no (eqb (finishRefusal b) 0) _ _ t in
         same ∙ (λ j. record { answer = ap (λ (f : Finished). f .answer) (sym same) j; count = 0; board = b })
+
+call-same : (g : Game) (c : Call) → made g c .answer ≢ 0 → made g c .game ≡ g
+unfolding carryCall turnCall undoCall
+call-same g (carry i e) h = ap gameOf (refused-same (carryRefusal (g .board) i e) (g .board) (carried (g .board) i e) h)
+call-same g (turn w) h = ap gameOf (refused-same (turnRefusal (g .board) w) (g .board) (turned (g .board) w) h)
+call-same g undo h = ap gameOf (refused-same (undoRefusal (g .board)) (g .board) _ h)
+call-same g hint h = refl
+call-same g finish h = ap (λ (f : Finished). gameOf (f .board)) (finish-same (g .board) h)
 
 writer-same : (b : Board) (buf : List ℕ) → writeText b (length buf) .answer ≢ 0 → written b buf ≡ buf
 unfolding writtenIn
@@ -203,6 +218,8 @@ pub about-refusals : AboutRefusals
 about-refusals = record {
   load-refused = load-refused;
   closed-refused = (refuses-20 closedBoard closed-off, refuses-29);
+  undo-refused = undo-shut;
+  undo-open = undo-open;
   over-refused = λ text f p. refuses-20 f (off-stage f (λ q. omega (arith, q, finish-stage text f p)));
   whole-in-play = in-play;
   whole-finished = finished;

@@ -24,10 +24,11 @@ use Rattle.catalog.specs.Catalog.{boards, catalogText, catalogCall}
 use Rattle.catalog.proofs.Rule.{all-accepted}
 use Rattle.catalog.proofs.Assured.{loads}
 use Rattle.theorem_cycles.proofs.Network.{acyclic-of-below}
-use Rattle.theorem_list.proofs.Reports.{every-report, finished-acyclic, sheet-printed}
+use Rattle.theorem_list.proofs.Reports.{finished-reported, every-report, sheet-printed}
 use Rattle.theorem_list.proofs.Longest.{report-short}
 use Rattle.promises.specs.Plays.{OfFinish}
 use Rattle.promises.specs.Sheets.{FirstFlow, AboutSheets}
+use Rattle.promises.proofs.Plays.{play-open, before-standing, finish-acyclic}
 use Rattle.promises.proofs.Lines.{play-printed, play-refused}
 
 large : 1500 ≤ length table
@@ -45,15 +46,14 @@ short k n low h =
 
 -- a board that finish gave, by the board before it
 after : (text : List ℕ) (f : Board) → OfFinish text f → unreported f ≡ 0
-after text f p = let q = p .play in rw (p .given, q .after) (every-report text (q .calls) (q .accepted) .after)
+after text f p = rw (p .given) (finished-reported (p .before) (before-standing text f p))
 
 -- the third field of a line is the acyclic flow of the text, whatever was played
 first : (text : List ℕ) (f : Board) → OfFinish text f → (e : ℕ) → FirstFlow (readText text .network) e (getD (loadRow f e) 1 0)
 first text f p e =
     let q = p .play in
     let net : Network = readText text .network in
-    let same : getD (f .acyclic) e 0 ≡ getD (acyclicOf net) e 0 =
-    rw (p .given, q .after) (ap (λ (l : List ℕ). getD l e 0) (finished-acyclic text (q .calls) (q .accepted))) in
+    let same : getD (f .acyclic) e 0 ≡ getD (acyclicOf net) e 0 = ap (λ (l : List ℕ). getD l e 0) (finish-acyclic text f p) in
     record {
       acyclic = same;
       below = omega (arith, same, acyclic-of-below net (loaded-lawful text (q .accepted) .sound) e);
@@ -61,7 +61,7 @@ first text f p e =
     }
 
 room : (text : List ℕ) (f : Board) → OfFinish text f → length (reportText f) ≤ longestReport
-room text f p = let q = p .play in rw (p .given, q .after) (report-short text (q .calls) (q .accepted))
+room text f p = let q = p .play in rw (p .given, q .after) (report-short text (q .calls) (q .accepted) (play-open text (p .before) q))
 
 refused : (text : List ℕ) → loadText text .answer ≢ 0 → sheetOutput text ≡ numberLine (loadText text .answer)
 unfolding sheetOutput
@@ -74,7 +74,7 @@ about-sheets = record {
   catalog-accepted = loads;
   catalog-above = above;
   catalog-short = short;
-  sheet-before = λ text b p. rw (p .after) (every-report text (p .calls) (p .accepted) .before);
+  sheet-before = λ text b p. rw (p .after) (every-report text (p .calls) (p .accepted) .goes-on (play-open text b p) .before);
   sheet-after = after;
   sheet-first = first;
   sheet-printed = λ text h. sheet-printed text h .printed;

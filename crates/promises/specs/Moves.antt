@@ -1,4 +1,4 @@
--- Document 01, "Moves". What a carry, a turn and an undo store is `carried`, `turned` and `undone`; which move the solver makes is `nextAct`.
+-- Document 01, "Moves"; document 02, E1. What a carry, a turn and an undo store is `carried`, `turned` and `undone`; which move the solver makes is `nextAct`.
 use mathlib.Core.Path.{_≡_}
 use mathlib.Core.Bool.{true, false}
 use mathlib.Core.Logic.{_⊎_, _↔_}
@@ -17,6 +17,7 @@ use Rattle.move_cycle.specs.Amounts.{amount}
 use Rattle.move_turn.specs.Turns.{turnRefusal, turned}
 use Rattle.move_undo.specs.Undone.{undoCall}
 use Rattle.solve_next.specs.Choosing.{allHome, judge, nextAct}
+use Rattle.solve_finish.specs.Finishes.{finishCall}
 use Rattle.theorem_cycles.specs.Allowed.{Carriable, Turnable, Attained}
 use Rattle.promises.specs.Plays.{OfPlay}
 
@@ -46,6 +47,8 @@ pub record AboutMoves : Type 0 where
   -- "Undo takes back the last standing move: flows, marks, place and route": the very board of before, its journal included
   pub carry-undone : (text : List ℕ) (b : Board) (i e : ℕ) → OfPlay text b → carryRefusal b i e ≡ 0 → undoCall (carried b i e) ≡ record { answer = 0; board = b }
   pub turn-undone : (text : List ℕ) (b : Board) (w : List Step) → OfPlay text b → turnRefusal b w ≡ 0 → undoCall (turned b w) ≡ record { answer = 0; board = b }
+  -- "Undo after an accepted finish shall bring back the board just before it": the very board, so that "a finish taken back leaves no trace"
+  pub finish-undone : (text : List ℕ) (b : Board) → OfPlay text b → undoCall (finishCall b .board) ≡ record { answer = 0; board = b }
   -- "While a carry is open: lowest mill that has one; .. Otherwise the ring found below is turned": the move is accepted while some terminal is away
   pub next-accepted : (text : List ℕ) (b : Board) → OfPlay text b → allHome b ≡ false → judge b (nextAct b) ≡ 0
   -- source document 000 stops "when the source s is isolated": that is where every terminal is at the source, and then no edge has a flow

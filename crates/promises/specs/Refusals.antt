@@ -1,7 +1,7 @@
--- Document 01, "Turned down because of the input", "Turned down because of the state". The orders are the definitions of the refusals: `carryRefusal`, `turnRefusal`,
+-- Document 01, "Turned down because of the input", "Turned down because of the state"; document 02, E1. The orders are the definitions of the refusals: `carryRefusal`, `turnRefusal`,
 -- `undoRefusal`, `hintRefusal`, `finishRefusal`, `sheetRefusal`, `writeText`, `catalogCall`.
 use mathlib.Core.Path.{_≡_}
-use mathlib.Core.Bool.{true}
+use mathlib.Core.Bool.{true, false}
 use mathlib.Core.Logic.{_≢_}
 use mathlib.Core.List.{List, _++_}
 use Prim.Native.Nat.{ℕ}
@@ -15,7 +15,7 @@ use Rattle.move_guard.specs.Guard.{loaded}
 use Rattle.move_carry.specs.Carries.{carryCall}
 use Rattle.move_turn.specs.Turns.{turnCall}
 use Rattle.move_undo.specs.Undone.{undoCall}
-use Rattle.move_list.specs.Calls.{Call, Game, made}
+use Rattle.move_list.specs.Calls.{Call, Game, gameOf, made, played}
 use Rattle.solve_next.specs.Choosing.{noAdvice}
 use Rattle.solve_next.specs.Hints.{hintRefusal, hintCall}
 use Rattle.solve_finish.specs.Finishes.{finishRefusal, finishCall}
@@ -24,11 +24,10 @@ use Rattle.report.specs.Reports.{reportText, sheetCall, sheeted}
 use Rattle.catalog.specs.Catalog.{catalogCall, catalogued}
 use Rattle.promises.specs.Plays.{OfPlay, OfFinish}
 
--- "20 play is over (a finish was accepted), or no board was loaded": whatever the arguments, and nothing changes
+-- "20 play is over (a finish was accepted), or no board was loaded": whatever the arguments, and nothing changes. Undo is refused with it "only where no board was loaded"
 pub record Refuses20 (b : Board) : Type 0 where
   pub carry : (i e : ℕ) → carryCall b i e ≡ record { answer = 20; board = b }
   pub turn : (w : List Step) → turnCall b w ≡ record { answer = 20; board = b }
-  pub undo : undoCall b ≡ record { answer = 20; board = b }
   pub hint : hintCall b ≡ record { answer = 20; advice = noAdvice }
   pub finish : finishCall b ≡ record { answer = 20; count = 0; board = b }
 
@@ -48,6 +47,9 @@ pub record AboutRefusals : Type 0 where
   -- "A refused load gives the closed board, with no pools, on which every call but load is refused"
   pub load-refused : (text : List ℕ) → loadText text .answer ≢ 0 → loadText text .board ≡ closedBoard
   pub closed-refused : Refuses20 closedBoard × Refuses29 closedBoard
+  -- "Refusal 20 on undo remains only where no board was loaded"
+  pub undo-refused : (b : Board) → loaded b ≡ false → undoCall b ≡ record { answer = 20; board = b }
+  pub undo-open : (text : List ℕ) (cs : List Call) → loadText text .answer ≡ 0 → undoCall (played (gameOf (loadText text .board)) cs .board) .answer ≢ 20
   -- "20 play is over (a finish was accepted)"
   pub over-refused : (text : List ℕ) (f : Board) → OfFinish text f → Refuses20 f
   -- no board of play, and none that a finish gave, lacks what the calls ask besides, so that no call is refused for it

@@ -48,7 +48,7 @@ pub record AboutSheets : Type 0 where
   pub sheet-refused : (text : List ℕ) → loadText text .answer ≢ 0 → sheetOutput text ≡ numberLine (loadText text .answer)
   -- it reads no more of a long input than decides
   pub sheet-reads : (input : List ℕ) → sheetOutput (take textSpace input) ≡ sheetOutput input
-  -- "Program `play` reads a board, .. and then lines": until an `F` is accepted each call is answered with the player's number; behind it each of them with 20
+  -- "Program `play` reads a board, .. and then lines": each call is answered with the player's number
   pub play-printed : (input : List ℕ) → loadText (boardPart input) .answer ≡ 0
       → playOutput input ≡ said (boardPart input) [] (ordersFrom [] (movesPart input))
   -- "A refused board prints its number only"
