@@ -1,7 +1,6 @@
 -- What `play` prints, line by line. The board before each line is the player's, made afresh from the standing items, as after each call of a list; so the number is the
 -- player's. A finish that is accepted was made on a board of play, and its board has a sheet.
 use mathlib.Core.Path.{_≡_, refl, sym, ap, _∙_}
-use mathlib.Core.Bool.{false}
 use mathlib.Core.Logic.{_≢_}
 use mathlib.Core.List.{List, [], _∷_, _++_, append-nil, append-assoc}
 use Prim.Native.Nat.{ℕ}
@@ -23,7 +22,7 @@ use Rattle.play_session.specs.Replies.{replied, behindZero, replyText, repliesF
 use Rattle.play_session.proofs.Lines.{reply-alone}
 use Rattle.theorem_keep.proofs.Standing.{Standing}
 use Rattle.theorem_list.specs.Player.{Item, ending, isOver, listedAll, afresh, saysTo, standingAfter}
-use Rattle.theorem_list.proofs.Stands.{over-ending, Stands, none, Stood, going, over, stands-standing}
+use Rattle.theorem_list.proofs.Stands.{over-ending, none, Stood, going, over, stands-standing}
 use Rattle.theorem_list.proofs.EveryList.{same}
 use Rattle.theorem_list.proofs.Reports.{finished-reported}
 use Rattle.promises.specs.Lines.{ordersFrom, shown, said}

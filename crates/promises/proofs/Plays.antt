@@ -20,7 +20,7 @@ use Rattle.theorem_list.specs.Faithful.{Faithful}
 use Rattle.theorem_list.proofs.Stands.{none, going, stands-standing, stands-follows}
 use Rattle.theorem_list.proofs.EveryList.{every-list, all-stood}
 use Rattle.theorem_list.proofs.Finish.{over, finish-result}
-use Rattle.theorem_list.proofs.Reports.{played-standing, played-acyclic, FinishedFrom, finished-from}
+use Rattle.theorem_list.proofs.Reports.{played-standing, played-acyclic, finished-from}
 use Rattle.promises.specs.Plays.{OfPlay, OfFinish}
 
 -- no finish stands on a board in play

@@ -13,7 +13,7 @@ use borrow.Author.Tests.{eq-eqb, ne-eqb}
 use Rattle.lists.specs.Choice.{pick, both}
 use Rattle.lists.proofs.Laws.{eq-or-ne, pick-yes, pick-no}
 use Rattle.board.specs.Limits.{maxMoves}
-use Rattle.board.specs.Record.{playStage, finishedStage, blank}
+use Rattle.board.specs.Record.{playStage, blank}
 use Rattle.board.specs.Whole.{Board}
 use Rattle.board.specs.Whole.{Played}
 use Rattle.load.specs.Load.{loadText}
@@ -24,7 +24,7 @@ use Rattle.solve_next.specs.declared.Suggestion.{Suggestion}
 use Rattle.solve_next.specs.Choosing.{Act, relocate, augment, judge, acted}
 use Rattle.solve_next.specs.Hints.{hintRefusal}
 use Rattle.solve_finish.specs.Finishes.{Finished}
-use Rattle.solve_finish.specs.Finishes.{playedOut, ended, finishRefusal, finishCall}
+use Rattle.solve_finish.specs.Finishes.{playedOut, ended, finishCall}
 use Rattle.solve_finish.proofs.Lent.{finish-packed}
 use Rattle.solve_finish.proofs.Stepping.{not-playing, finish-closed}
 use Rattle.theorem_keep.proofs.Standing.{Standing, standing-playing, standing-loaded, standing-open}

@@ -1,22 +1,20 @@
 -- Undo of a finish gives back the very board that the finish was made on. Its moves are taken back one by one: the board that the first k of them lead from is come to
 -- once all the others are taken back, and it is intact, so the last of the k is taken back next, to the board of before; in the end stage and `finish_from` are put back.
 use mathlib.Core.Path.{_≡_, refl, sym, ap, _∙_}
-use mathlib.Core.Bool.{true, false}
+use mathlib.Core.Bool.{true}
 use Prim.Native.Nat.{ℕ, zero, suc, _+_, _-_}
 use native.Mathlib.Omega.{arith}
 use lib.Dec.{leb}
-use borrow.Author.Tests.{le-leb, eq-eqb}
+use borrow.Author.Tests.{le-leb}
 use Rattle.lists.specs.Choice.{both}
 use Rattle.lists.proofs.Laws.{Known, was-true, was-false, known, pick-yes, both-true}
-use Rattle.board.specs.Record.{finishedStage}
 use Rattle.board.specs.Whole.{Board, Played}
 use Rattle.move_guard.specs.Guard.{intact, loaded}
 use Rattle.move_guard.proofs.Answers.{answered-yes}
 use Rattle.move_guard.proofs.Facts.{playing-intact}
 use Rattle.move_undo.specs.Undone.{undone, takenBack, reopened, isFinished, wayBack, finishUndone, undoRefusal, undoCall}
-use Rattle.solve_next.specs.Choosing.{Act, nextAct, judge, acted}
-use Rattle.solve_finish.specs.Finishes.{Finished}
-use Rattle.solve_finish.specs.Finishes.{playedOut, ended, finishCall}
+use Rattle.solve_next.specs.Choosing.{nextAct}
+use Rattle.solve_finish.specs.Finishes.{ended, finishCall}
 use Rattle.theorem_keep.proofs.Standing.{Standing, standing-playing}
 use Rattle.theorem_list.specs.Complete.{SolvedBy, Complete}
 use Rattle.theorem_list.proofs.Acts.{act-standing, act-back}
