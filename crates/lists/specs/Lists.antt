@@ -38,3 +38,8 @@ total f i (suc k) = f i + total f (suc i) k
 unfoldable pub most : (ℕ → ℕ) → ℕ → ℕ → ℕ
 most f i zero = 0
 most f i (suc k) = pick (ltb (most f (suc i) k) (f i)) (f i) (most f (suc i) k)
+
+-- f at i, i + 1, .., i + k - 1
+unfoldable pub tabulated : {A : Type 0} → (ℕ → A) → ℕ → ℕ → List A
+tabulated f i zero = []
+tabulated f i (suc k) = f i ∷ tabulated f (suc i) k

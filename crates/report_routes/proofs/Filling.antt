@@ -11,12 +11,13 @@ use lib.ListN.{length, getD, set, take, drop, replicate, length-append, length-t
 use lib.Seq.{length-sets, set-out, drop-cons, getD-take}
 use borrow.Author.Tests.{eq-eqb, ne-eqb, eqb-true, eqb-false}
 use Rattle.lists.specs.Choice.{pick}
+use Rattle.lists.specs.Lists.{tabulated}
 use Rattle.lists.proofs.Laws.{Known, was-true, was-false, known, pick-yes, pick-no}
+use Rattle.lists.proofs.Tabulated.{length-tabulated, tabulated-from, set-tabulated, sets-snoc}
 use Rattle.board.specs.Limits.{maxVertices, maxTerminals, maxMoves}
 use Rattle.board.specs.Whole.{Relocation, Augmentation, Move, Carry, Turn, Entry}
 use Rattle.report_routes.specs.Routes.{carriedOver, routeIn}
-use Rattle.report_routes.specs.Inner.{tabulated, rowOf, countsOf, rowsOf}
-use Rattle.report_routes.proofs.Tabulated.{length-tabulated, tabulated-from, set-tabulated, sets-snoc}
+use Rattle.report_routes.specs.Inner.{rowOf, countsOf, rowsOf}
 
 row-snoc : (es : List ℕ) (e : ℕ) → set (rowOf es) (length es) e ≡ rowOf (es ++ (e ∷ []))
 unfolding rowOf

@@ -1,20 +1,15 @@
 -- For inner contracts only: the routes as a table, and as sets.
 use mathlib.Core.Path.{_≡_}
-use mathlib.Core.List.{List, [], _∷_}
-use Prim.Native.Nat.{ℕ, zero, suc, _≤_, _<_}
+use mathlib.Core.List.{List, []}
+use Prim.Native.Nat.{ℕ, _≤_, _<_}
 use lib.ListN.{length, getD, take, replicate}
 use lib.Seq.{sets}
-use Rattle.lists.specs.Lists.{total}
+use Rattle.lists.specs.Lists.{tabulated, total}
 use Rattle.lists.specs.Members.{has}
 use Rattle.sets.specs.Sets.{none, hasBit}
 use Rattle.board.specs.Limits.{maxVertices, maxEdges, maxTerminals, maxFlow}
 use Rattle.board.specs.Whole.{Entry}
 use Rattle.report_routes.specs.Routes.{routeIn, shareIn}
-
--- f at i, i + 1, .., i + k - 1
-unfoldable pub tabulated : {A : Type 0} → (ℕ → A) → ℕ → ℕ → List A
-tabulated f i zero = []
-tabulated f i (suc k) = f i ∷ tabulated f (suc i) k
 
 -- a row has room for the edges of a simple route; it holds as many as there is room for, and 0 behind them
 unfoldable pub rowOf : List ℕ → List ℕ

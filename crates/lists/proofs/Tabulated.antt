@@ -9,7 +9,7 @@ use native.Mathlib.Nat.{zero-add, add-zero}
 use native.Mathlib.Omega.{arith}
 use lib.ListN.{length, getD, set}
 use lib.Seq.{sets}
-use Rattle.report_routes.specs.Inner.{tabulated}
+use Rattle.lists.specs.Lists.{tabulated}
 
 pub length-tabulated : {A : Type 0} (f : ℕ → A) (i k : ℕ) → length (tabulated f i k) ≡ k
 unfolding tabulated
