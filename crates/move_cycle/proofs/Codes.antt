@@ -5,6 +5,7 @@ use native.Mathlib.Omega.{arith}
 use mathlib.Core.Bool.{Bool, true, false, not}
 use mathlib.Core.List.{List, [], _∷_, _++_}
 use Prim.Native.Nat.{ℕ, suc, _+_, _-_, _<_, _≤_}
+use native.Mathlib.Nat.{mod-eq-of-lt}
 use native.Mathlib.Numerals.{add-one}
 use lib.Dec.{leb, eqb}
 use lib.ListN.{length, getD, drop, drop-of-length-le}
@@ -14,7 +15,7 @@ use Rattle.lists.specs.Choice.{pick, both}
 use Rattle.lists.proofs.Laws.{Known, was-true, was-false, known, pick-yes, pick-no, both-true}
 use Rattle.sets.specs.Sets.{hasBit, withBit}
 use Rattle.graph_flows.specs.Trails.{Step, down, up, edgeOf, startOf, endOf}
-use Rattle.move_cycle.specs.Steps.{stepFrom, upFrom, stepOf, codeUp, codeStep, codeSteps, stepCode, codesOf, stride, isUp, goes, leadsBack, isCycle, gather}
+use Rattle.move_cycle.specs.Steps.{stepFrom, upFrom, stepOf, stepByte, codeUp, codeStep, codeSteps, stepCode, codesOf, stride, isUp, goes, leadsBack, isCycle, gather}
 
 -- a number from the base on, and one below it
 from-up : (base s : ℕ) → base ≤ s → stepFrom base s ≡ up (s - base)
@@ -58,6 +59,11 @@ code-step s = split (known (leb codeUp s))
 pub step-code : (s : Step) → edgeOf s < codeUp → codeStep (stepCode s) ≡ s
 step-code (down e) h = step-down e h
 step-code (up e) h = let back : e + codeUp - codeUp ≡ e = omega arith in step-up (e + codeUp) (omega arith) ∙ ap up back
+
+-- the step of a step's byte is that step, where bytes have room for its edge
+pub step-byte : (s : Step) → edgeOf s < upFrom → stepOf (stepByte s) ≡ s
+step-byte (down e) h = rw (mod-eq-of-lt h) (byte-down e h)
+step-byte (up e) h = let back : e + upFrom - upFrom ≡ e = omega arith in rw (mod-eq-of-lt h) (byte-up (e + upFrom) (omega arith) ∙ ap up back)
 
 -- the edge of a step, and its code
 pub stride-edge : (ups : Bool) (e : ℕ) → edgeOf (stride ups e) ≡ e

@@ -1,7 +1,7 @@
 -- The steps of a turn: document 01, "Moves".
 use mathlib.Core.Bool.{Bool, true, false, not}
 use mathlib.Core.List.{List, [], _∷_}
-use Prim.Native.Nat.{ℕ, _+_, _-_}
+use Prim.Native.Nat.{ℕ, _+_, _-_, _%_}
 use lib.Dec.{leb, eqb}
 use Rattle.lists.specs.Choice.{pick, both}
 use Rattle.sets.specs.Sets.{none, hasBit, withBit}
@@ -22,6 +22,11 @@ stepOf s = stepFrom upFrom s
 unfoldable pub stepsOf : List ℕ → List Step
 stepsOf [] = []
 stepsOf (s ∷ w) = stepOf s ∷ stepsOf w
+
+-- the byte of a step; of a number that no board has for an edge, the last seven bits
+abbrev pub stepByte : Step → ℕ
+stepByte (down e) = e % upFrom
+stepByte (up e) = e % upFrom + upFrom
 
 -- inside the engine a step is a code: its edge's number, with this one added for a step up. No board has so many edges
 abbrev pub codeUp : ℕ

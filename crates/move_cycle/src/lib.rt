@@ -5,6 +5,7 @@ ghost use mathlib.Core.Path.{_≡_};
 ghost use Rattle.graph_flows.specs.Trails.{down, up, edgeOf, startOf, endOf};
 ghost use Rattle.move_cycle.specs.Steps.{
   stepOf,
+  stepByte,
   codeUp,
   codeStep,
   codeSteps,
@@ -31,8 +32,8 @@ pub type StepCode = u16;
 // The code of a step up over edge 0.
 const UP: StepCode = 32768;
 
-// The byte of a step up over edge 0: a step of a lent list is a byte, and `decoded` alone reads it.
-const UP_BYTE: u8 = 128;
+// The byte of a step up over edge 0: a step of a lent list is a byte, which `decoded` reads and `encoded` makes.
+pub const UP_BYTE: u8 = 128;
 
 // ---- The steps of a turn.
 
@@ -90,6 +91,16 @@ pub fn decoded(byte: u8) -> StepCode
         return up((byte - UP_BYTE) as u32);
     }
     down(byte as u32)
+}
+
+// The byte of a step.
+pub fn encoded(s: StepCode) -> u8
+    ensures { λ r. ⌜ r ≡ stepByte (codeStep s) ⌝ }
+{
+    if s >= UP {
+        return ((s - UP) % UP_BYTE as StepCode) as u8 + UP_BYTE;
+    }
+    (s % UP_BYTE as StepCode) as u8
 }
 
 // The edge of a step.
