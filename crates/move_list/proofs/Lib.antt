@@ -1,3 +1,4 @@
 pub mod Coded
 pub mod Worded
 pub mod Going
+pub mod Refused

@@ -13,7 +13,6 @@ use Rattle.lists.specs.Choice.{pick, both}
 use Rattle.lists.proofs.Laws.{Known, was-true, was-false, known, pick-yes, pick-no, both-true}
 use Rattle.board.specs.Record.{playStage, finishedStage, closedBoard}
 use Rattle.board.specs.Whole.{Board}
-use Rattle.board.specs.Whole.{Played}
 use Rattle.graph_flows.specs.Trails.{Step}
 use Rattle.text_rules.specs.Rules.{lawful}
 use Rattle.text_rules.proofs.Meaning.{lawful-tested}
@@ -28,10 +27,10 @@ use Rattle.move_guard.proofs.Facts.{playing-intact}
 use Rattle.move_carry.specs.Carries.{carryRefusal, carried, carryCall, carryRefusalIn}
 use Rattle.move_turn.specs.Turns.{turnRefusal, turned, turnCall, turnRefusalIn}
 use Rattle.move_undo.specs.Undone.{undoRefusal, undoCall}
-use Rattle.move_list.specs.Calls.{Call, carry, turn, undo, hint, finish, Game, gameOf, made, played}
+use Rattle.move_list.proofs.Refused.{finish-same, call-same}
+use Rattle.move_list.specs.Calls.{Call, carry, turn, undo, hint, finish, gameOf, played}
 use Rattle.solve_next.specs.Choosing.{noAdvice}
 use Rattle.solve_next.specs.Hints.{hintRefusal, hintCall}
-use Rattle.solve_finish.specs.Finishes.{Finished}
 use Rattle.solve_finish.specs.Finishes.{playedOut, ended, finishRefusal, finishCall}
 use Rattle.report_routes.specs.Routes.{route}
 use Rattle.report_routes.specs.Tables.{routesFit}
@@ -84,7 +83,7 @@ module _ (b : Board) (shut : playing b ≡ false) where
   refuses-20 = record { carry = no-carry; turn = no-turn; hint = no-hint; finish = no-finish }
 
 -- ---- undo
-undo-shut : (b : Board) → loaded b ≡ false → undoCall b ≡ record { answer = 20; board = b }
+pub undo-shut : (b : Board) → loaded b ≡ false → undoCall b ≡ record { answer = 20; board = b }
 unfolding undoCall undoRefusal
 undo-shut b shut =
     let number : undoRefusal b ≡ 20 = pick-no (loaded b) _ 20 shut in
@@ -163,32 +162,6 @@ finished : (text : List ℕ) (f : Board) → OfFinish text f → Whole f
 finished text f p = rw (finish-ended text f p) (ended-whole (playedOut (p .before)) (last-standing text f p) (p .before .moves))
 
 -- ---- refused calls leave what they got
-refused-same : (n : ℕ) (b next : Board) → answered n b next .answer ≢ 0 → answered n b next .board ≡ b
-unfolding answered
-refused-same n b next h = go (known (eqb n 0))
-  where
-    go : Known (eqb n 0) → answered n b next .board ≡ b
-    go (was-true t) = absurd (h (ap (λ (p : Played). p .answer) (pick-yes (eqb n 0) _ _ t)))
-    go (was-false t) = ap (λ (p : Played). p .board) (pick-no (eqb n 0) _ _ t)
-
-finish-same : (b : Board) → finishCall b .answer ≢ 0 → finishCall b ≡ record { answer = finishCall b .answer; count = 0; board = b }
-unfolding finishCall
-finish-same b h = go (known (eqb (finishRefusal b) 0))
-  where
-    go : Known (eqb (finishRefusal b) 0) → finishCall b ≡ record { answer = finishCall b .answer; count = 0; board = b }
-    go (was-true t) = absurd (h (ap (λ (f : Finished). f .answer) (pick-yes (eqb (finishRefusal b) 0) _ _ t)))
-    go (was-false t) =
-        let same = pick-no (eqb (finishRefusal b) 0) _ _ t in
-        same ∙ (λ j. record { answer = ap (λ (f : Finished). f .answer) (sym same) j; count = 0; board = b })
-
-call-same : (g : Game) (c : Call) → made g c .answer ≢ 0 → made g c .game ≡ g
-unfolding carryCall turnCall undoCall
-call-same g (carry i e) h = ap gameOf (refused-same (carryRefusal (g .board) i e) (g .board) (carried (g .board) i e) h)
-call-same g (turn w) h = ap gameOf (refused-same (turnRefusal (g .board) w) (g .board) (turned (g .board) w) h)
-call-same g undo h = ap gameOf (refused-same (undoRefusal (g .board)) (g .board) _ h)
-call-same g hint h = refl
-call-same g finish h = ap (λ (f : Finished). gameOf (f .board)) (finish-same (g .board) h)
-
 writer-same : (b : Board) (buf : List ℕ) → writeText b (length buf) .answer ≢ 0 → written b buf ≡ buf
 unfolding writtenIn
 writer-same b buf h = pick-no _ _ _ (ne-eqb _ 0 h)
