@@ -1,0 +1,3 @@
+mod Rows
+mod Loops
+pub mod Games

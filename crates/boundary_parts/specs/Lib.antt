@@ -1,0 +1,4 @@
+pub mod Memory
+pub mod Inner
+pub mod Shown
+pub mod Games
