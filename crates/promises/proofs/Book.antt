@@ -10,6 +10,7 @@ use Rattle.promises.proofs.Texts.{about-texts}
 use Rattle.promises.proofs.Moves.{about-moves}
 use Rattle.promises.proofs.Hints.{about-hints}
 use Rattle.promises.proofs.Sheets.{about-sheets}
+use Rattle.promises.proofs.Games.{about-games}
 use Rattle.promises.proofs.Refusals.{about-refusals}
 
 about-cancelling : AboutCancelling
@@ -30,5 +31,6 @@ book = record {
   unfinished-list = unfinished-list;
   every-board = every-board;
   sheets = about-sheets;
+  games = about-games;
   refusals = about-refusals;
 }

@@ -5,4 +5,6 @@ pub mod Hints
 pub mod Refusals
 pub mod Lines
 pub mod Sheets
+pub mod Entries
+pub mod Games
 pub mod Book

@@ -14,6 +14,7 @@ use Rattle.promises.specs.Cancelling.{AboutCancelling}
 use Rattle.promises.specs.Moves.{AboutMoves}
 use Rattle.promises.specs.Hints.{AboutHints}
 use Rattle.promises.specs.Sheets.{AboutSheets}
+use Rattle.promises.specs.Games.{AboutGames}
 use Rattle.promises.specs.Refusals.{AboutRefusals}
 
 pub record Book : Type 0 where
@@ -31,4 +32,6 @@ pub record Book : Type 0 where
   pub every-board : (text : List ℕ) (cs : List Call) → loadText text .answer ≡ 0
       → OfPlay text (played (gameOf (loadText text .board)) cs .board) ⊎ OfFinish text (played (gameOf (loadText text .board)) cs .board)
   pub sheets : AboutSheets
+  -- games as C keeps them, in memory of its own: what include/vulprow.h says of that memory
+  pub games : AboutGames
   pub refusals : AboutRefusals

@@ -6,4 +6,5 @@ pub mod Hints
 pub mod Refusals
 pub mod Lines
 pub mod Sheets
+pub mod Games
 pub mod Book
