@@ -1,1 +1,3 @@
-pub mod Copied
+pub mod Calls
+pub mod Kept
+pub mod Shows

@@ -1,3 +1,2 @@
 pub mod Held
 pub mod Words
-pub mod Ending

@@ -1,4 +1,2 @@
 pub mod Through
-pub mod Ends
-pub mod Inner
 pub mod Lent

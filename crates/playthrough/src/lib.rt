@@ -4,13 +4,11 @@ use journal::WORDS;
 use solve_finish::Finished;
 ghost use mathlib.Core.Path.{_≡_};
 ghost use lib.Seq.{sets};
-ghost use Rattle.journal.specs.Words.{wholeOf, packedAll};
+ghost use Rattle.journal.specs.Words.{packedAll};
 ghost use Rattle.load.specs.Load.{loadText};
 ghost use Rattle.move_list.specs.Calls.{gameOf, answers, hintsOf, noted};
 ghost use Rattle.move_list.specs.Codes.{callsOf};
 ghost use Rattle.playthrough.specs.Through.{outcome, Holds};
-ghost use Rattle.playthrough.specs.Ends.{after, lastBoard};
-ghost use Rattle.playthrough.specs.Inner.{LastOf};
 ghost use Rattle.playthrough.specs.Lent.{outcomeOf};
 
 // What a whole play gives: the answer of the load, the board after the calls, and what the finish gave.
@@ -54,37 +52,4 @@ pub fn play_through(
         board: board,
         finish: finish,
     }
-}
-
-// The board, or where `finishes` is not 0 the board that a finish gives.
-fn last_board(board: Board, journal: &mut [[u64; WORDS]; Board::JOURNAL], finishes: u32) -> Board
-    ensures { λ r. ⌜ (now (journal .entry) ≡ packedAll (wholeOf board (now (journal .entry)) .journal) →
-        LastOf finishes (wholeOf board (now (journal .entry))) r (now (journal .exit))) ⌝ }
-{
-    if finishes == 0 {
-        return board;
-    }
-    let finished = solve_finish::finish(board, journal);
-    finished.board
-}
-
-// Loads a text, makes the calls on the board that it gave, and finishes it where `finishes` is not 0.
-pub fn brought(
-    text: &[u8],
-    codes: &[u32],
-    steps: &[u8],
-    finishes: u32,
-    journal: &mut [[u64; WORDS]; Board::JOURNAL],
-) -> Board
-    ensures { λ r. ⌜ wholeOf r (now (journal .exit)) ≡
-        lastBoard finishes (after (now (text .entry)) (now (steps .entry)) (now (codes .entry))) ⌝ }
-    ensures { λ _. ⌜ now (journal .exit) ≡ packedAll
-        (lastBoard finishes (after (now (text .entry)) (now (steps .entry)) (now (codes .entry))) .journal) ⌝ }
-{
-    let loaded = load::load(text, journal);
-    let start = loaded.board;
-    let mut given = [0u32; 1];
-    let mut hints = [0u32; 1];
-    let board = move_list::run(start, journal, codes, steps, &mut given, &mut hints);
-    last_board(board, journal, finishes)
 }
