@@ -13,6 +13,9 @@ pub const T: &str = "B,4,4,2,0\nC,0,1,3\nC,0,2,3\nC,1,3,3\nC,2,3,3\nW,3,2\nW,3,4
 /// The board with a misfit: a terminal that needs less than a marked edge into its vertex has.
 pub const MISFIT: &str = "B,4,6,2,2 C,2,0,4 C,1,0,1 C,2,1,7 C,2,0,0 C,1,3,8 C,2,1,2 W,0,5 W,3,8 ";
 
+/// Two ways into a vertex and two out of it, each with half of what the terminal needs: an edge that is not singular is in a cycle.
+pub const DOUBLED: &str = "B,3,4,1,0 C,0,1,1 C,0,1,1 C,1,2,1 C,1,2,1 W,2,2 ";
+
 /// Boards whose walk goes some way before it meets the cycle: behind three carries, and as loaded.
 pub const TAIL: &str = "B,5,5,2,0 C,2,4,3 C,3,4,3 C,1,3,3 C,1,2,3 C,0,1,6 W,4,2 W,4,4 ";
 pub const DOWN_AGAIN: &str = "B,4,5,1,0 C,0,1,2 C,1,2,3 C,3,2,2 C,3,1,1 C,0,3,3 W,2,5 ";
@@ -118,7 +121,8 @@ const BY_HAND: [&str; 79] = [
     "B,2,1,1,0 W,1,5 C,0,1,5 ",
 ];
 
-/// A cycle through every vertex, whose edges have two digits: two ways of 16 edges each, of flow 1, from the source to one terminal, behind ten edges without flow.
+/// A cycle through every vertex, whose edges have two digits: two ways of 16 edges each, of flow 1, from the source to one terminal, behind ten edges
+/// without flow.
 pub fn longest_cycle() -> Network {
     let edge = |tail, head, flow| Edge { tail, head, flow };
     let mut edges = vec![edge(0, 1, 0); 10];
@@ -170,8 +174,8 @@ pub fn star() -> Network {
     Network { vertices: 32, edges: out.chain(back).collect(), terminals, source: 0 }
 }
 
-/// Many cycles between two vertices, and behind them a way over all lower vertices, from the highest to the lowest, its edges in that order: each round
-/// asks of every lower vertex whether it is on a cycle, and each pass against the edges adds one vertex to the set that reaches it.
+/// Many cycles between two vertices, and behind them a way over all lower vertices, from the highest to the lowest, its edges in that order: each
+/// round asks of every lower vertex whether it is on a cycle, and each pass against the edges adds one vertex to the set that reaches it.
 fn many_rounds() -> Network {
     let edge = |(tail, head, flow)| Edge { tail, head, flow };
     let way = [31].into_iter().chain((2..30).rev()).zip((1..30).rev()).map(|(tail, head)| (tail, head, 10));

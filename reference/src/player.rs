@@ -257,10 +257,14 @@ impl Player {
         Ok(report(network, acyclic_flows, &self.board().unwrap().routes))
     }
 
-    /// "Board writer: 29, 8." "The board writer gives the loaded text at every stage of play."
+    /// "Board writer: 29, 8."
     pub fn write(&self, buffer: &mut [u8]) -> Written {
-        let network = self.network().ok_or(29u32)?;
-        put(&write(network), buffer)
+        put(&self.board_text()?, buffer)
+    }
+
+    /// "The board writer gives the loaded text at every stage of play." "29 nothing was loaded."
+    pub fn board_text(&self) -> Result<Vec<u8>, Refusal> {
+        self.network().map(write).ok_or(29)
     }
 }
 

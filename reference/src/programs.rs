@@ -2,13 +2,13 @@
 
 use crate::moves::{Move, Step};
 use crate::player::{Call, Player};
-use crate::text::{line_count, number};
+use crate::text::{line_count, number, Refusal};
 
 /// "Program `sheet` reads a board on standard input, finishes it and prints the sheet, or the refusal number alone on a line."
 pub fn sheet(input: &[u8]) -> Vec<u8> {
     let (refusal, mut player) = Player::load(input);
     if refusal != 0 {
-        return format!("{refusal}\n").into_bytes();
+        return number_line(refusal);
     }
     player.finish().expect("a loaded board is in play");
     player.sheet_text().expect("a finished board has a sheet")
@@ -58,34 +58,55 @@ pub fn hint_line(hint: Option<&Move>) -> Vec<u8> {
     hint.map_or(b"N\n".to_vec(), |made| line_of(&Call::of_move(made)))
 }
 
-/// "It prints 0 or the refusal number for each, 1 for a line of another form, and the sheet after an accepted `F`." By E3 the move of a hint, too.
+/// A number alone on a line.
+pub fn number_line(number: Refusal) -> Vec<u8> {
+    format!("{number}\n").into_bytes()
+}
+
+/// The number of a call, and what is printed for it in `play` and at the desk alike: the number, and by E3 the move of a hint.
+pub fn call_lines(player: &mut Player, call: &Call) -> (Refusal, Vec<u8>) {
+    let refusal = player.call(call);
+    let mut output = number_line(refusal);
+    if *call == Call::Hint && refusal == 0 {
+        output.extend(hint_line(player.hint().expect("a hint that was answered 0").as_ref()));
+    }
+    (refusal, output)
+}
+
+/// "It prints 0 or the refusal number for each, 1 for a line of another form, and the sheet after an accepted `F`."
 fn answer(player: &mut Player, call: Option<Call>) -> Vec<u8> {
     let Some(call) = call else {
-        return b"1\n".to_vec();
+        return number_line(1);
     };
-    let refusal = player.call(&call);
-    let mut output = format!("{refusal}\n").into_bytes();
-    match call {
-        Call::Hint if refusal == 0 => output.extend(hint_line(player.hint().expect("a hint that was answered 0").as_ref())),
-        Call::Finish if refusal == 0 => output.extend(player.sheet_text().expect("a finished board has a sheet")),
-        _ => (),
+    let (refusal, mut output) = call_lines(player, &call);
+    if call == Call::Finish && refusal == 0 {
+        output.extend(player.sheet_text().expect("a finished board has a sheet"));
     }
     output
 }
 
+/// The lines of an input, each with its line feed, which the last one may lack.
+pub fn lines_of(input: &[u8]) -> Vec<&[u8]> {
+    input.split_inclusive(|byte| *byte == b'\n').collect()
+}
+
+/// How many of these lines are the text of the board that the first one opens: "as many lines as its first line's counts say", or what there is. A
+/// first line that is refused itself says no counts, and the text is that line alone; its number is the one that the line alone is refused with.
+pub fn board_lines(lines: &[&[u8]]) -> usize {
+    let count = lines.first().map_or(0, |opening| line_count(opening).unwrap_or(1));
+    count.min(lines.len())
+}
+
 /// "Program `play` reads a board, as many lines as its first line's counts say, and then lines .. A refused board prints its number only."
 pub fn play(input: &[u8]) -> Vec<u8> {
-    let lines: Vec<&[u8]> = input.split_inclusive(|byte| *byte == b'\n').collect();
-    let board_lines = match line_count(lines.first().unwrap_or(&&b""[..])) {
-        Ok(count) => count.min(lines.len()),
-        Err(refusal) => return format!("{refusal}\n").into_bytes(),
-    };
-    let (refusal, mut player) = Player::load(&lines[..board_lines].concat());
+    let lines = lines_of(input);
+    let (board, calls) = lines.split_at(board_lines(&lines));
+    let (refusal, mut player) = Player::load(&board.concat());
     if refusal != 0 {
-        return format!("{refusal}\n").into_bytes();
+        return number_line(refusal);
     }
     let mut output = Vec::new();
-    for bytes in &lines[board_lines..] {
+    for bytes in calls {
         // A last line without its line feed is of another form.
         let call = bytes.strip_suffix(b"\n").and_then(line);
         output.extend(answer(&mut player, call));

@@ -76,7 +76,8 @@ const PLAYS: [(&str, &str); 29] = [
     (DOWN_AGAIN, "F U T,1,D,2,U,3,D F U T,0,D,1,D,2,U,4,U F U K,0,2 F U K,0,4 F U U U U U U F "),
 ];
 
-fn lines(text: &str) -> Vec<u8> {
+/// The text with a line feed for each blank.
+pub fn lines(text: &str) -> Vec<u8> {
     text.replace(' ', "\n").into_bytes()
 }
 
@@ -126,8 +127,8 @@ fn calls(text: &[u8]) -> Vec<u8> {
     [output.into_bytes(), player.sheet_text().unwrap_or_default()].concat()
 }
 
-/// How many scripts there are; their bytes in the input of `replay`: for each a letter, the size of its pieces, its length in four bytes, the high byte first, and its bytes; and what it
-/// prints: what was printed for each, and a line with a dash behind it.
+/// How many scripts there are; their bytes in the input of `replay`: for each a letter, the size of its pieces, its length in four bytes, the high
+/// byte first, and its bytes; and what it prints: what was printed for each, and a line with a dash behind it.
 pub fn stored() -> (usize, Vec<u8>, Vec<u8>) {
     let scripts = scripts();
     let count = scripts.len();

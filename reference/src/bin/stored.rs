@@ -1,10 +1,12 @@
-//! stored FOLDER: writes FOLDER/NAME/stdin and FOLDER/NAME/stdout for each program crate NAME, the outputs worked out by the reference; and the table
-//! of the crate `catalog`, in both its forms.
+//! stored FOLDER: writes FOLDER/crates/NAME/stdin and FOLDER/crates/NAME/stdout for each program crate NAME, the outputs worked out by the reference;
+//! the table of the crate `catalog`, in both its forms; and FOLDER/examples/desk.in, a script of the desk, with what is printed for it, desk.out.
 
 use reference::boards::random_board;
 use reference::calls::random_input;
 use reference::cases::{texts, GREATEST, S, T};
 use reference::catalog::{definition_table, listing, source_table};
+use reference::desk::desk;
+use reference::desk_scripts::example;
 use reference::encoded::{call_by_reference, codes_of, entries, finishing_lists, random_list, EngineCall};
 use reference::player::{Call, Player};
 use reference::programs::{hint_line, play, sheet};
@@ -80,7 +82,7 @@ fn trials() -> Part {
         }
         let (loading, mut player) = Player::load(text);
         let mut numbers = vec![loading];
-        numbers.extend(calls.iter().filter_map(|call| call_by_reference(&mut player, call)));
+        numbers.extend(calls.iter().map(|call| call_by_reference(&mut player, call)));
         numbers.extend(match player.finish() {
             Ok(count) => [0, count as u32],
             Err(refusal) => [refusal, 0],
@@ -148,11 +150,15 @@ fn main() -> std::io::Result<()> {
     let folder = std::env::args().nth(1).expect("usage: stored FOLDER");
     let run = long_run();
     let programs = [("replay", replay()), ("sheet", (T.into(), sheet(T.as_bytes()))), ("play", (run.clone(), play(&run)))];
-    let mut files =
-        vec![("catalog/src/table.rt".into(), source_table().into_bytes()), ("catalog/specs/Table.antt".into(), definition_table().into_bytes())];
+    let mut files = vec![
+        ("crates/catalog/src/table.rt".to_string(), source_table().into_bytes()),
+        ("crates/catalog/specs/Table.antt".to_string(), definition_table().into_bytes()),
+        ("examples/desk.in".to_string(), example()),
+        ("examples/desk.out".to_string(), desk(&example())),
+    ];
     for (name, (input, output)) in programs {
-        files.push((format!("{name}/stdin"), input));
-        files.push((format!("{name}/stdout"), output));
+        files.push((format!("crates/{name}/stdin"), input));
+        files.push((format!("crates/{name}/stdout"), output));
     }
     for (file, bytes) in files {
         let path = Path::new(&folder).join(file);
