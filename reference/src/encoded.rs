@@ -1,4 +1,4 @@
-//! Calls and journals in numbers, as the engine's exported functions and the program `replay` take and give them.
+//! Calls with the numbers and bytes that the engine takes; and calls and journals in numbers, as the program `replay` takes and gives them.
 
 use crate::calls::{habits, random_call, Habits};
 use crate::moves::{amount, Board, Move, Step};
@@ -6,8 +6,7 @@ use crate::player::{Call, Player};
 use crate::random::Random;
 use crate::text::Network;
 
-/// A call as the engine takes it: any numbers, and any bytes for steps. Numbers whose first stands for no kind of call are none: they are left out, and
-/// have no answer.
+/// A call as the engine takes it: any numbers, and any bytes for steps.
 #[derive(Clone, Debug, PartialEq, Eq)]
 pub enum EngineCall {
     Carry(u32, u32),
@@ -15,11 +14,7 @@ pub enum EngineCall {
     Undo,
     Hint,
     Finish,
-    NoCall([u32; 3]),
 }
-
-/// The kinds of calls have the numbers from 0 up to, and without, this one.
-const KINDS: u32 = 5;
 
 /// Three numbers a call: 0, terminal and edge; 1, and where its steps begin and end; 2 for an undo; 3 for a hint; 4 for
 /// a finish. And the steps of all turns.
@@ -36,7 +31,6 @@ pub fn codes_of(calls: &[EngineCall]) -> (Vec<u32>, Vec<u8>) {
             EngineCall::Undo => codes.extend([2, 0, 0]),
             EngineCall::Hint => codes.extend([3, 0, 0]),
             EngineCall::Finish => codes.extend([4, 0, 0]),
-            EngineCall::NoCall(numbers) => codes.extend(numbers),
         }
     }
     (codes, steps)
@@ -81,15 +75,14 @@ pub fn entries(player: &Player) -> Vec<[u64; ENTRY]> {
     entries
 }
 
-/// A call on the reference player: its number; none for what is no call.
-pub fn call_by_reference(player: &mut Player, call: &EngineCall) -> Option<u32> {
+/// A call on the reference player: its number.
+pub fn call_by_reference(player: &mut Player, call: &EngineCall) -> u32 {
     match call {
-        EngineCall::Carry(terminal, edge) => Some(player.carry(u64::from(*terminal), u64::from(*edge))),
-        EngineCall::Turn(bytes) => Some(player.turn(&bytes.iter().map(|byte| Step::of_byte(*byte)).collect::<Vec<_>>())),
-        EngineCall::Undo => Some(player.undo()),
-        EngineCall::Hint => Some(player.hint().err().unwrap_or(0)),
-        EngineCall::Finish => Some(player.finish().err().unwrap_or(0)),
-        EngineCall::NoCall(_) => None,
+        EngineCall::Carry(terminal, edge) => player.carry(u64::from(*terminal), u64::from(*edge)),
+        EngineCall::Turn(bytes) => player.turn(&bytes.iter().map(|byte| Step::of_byte(*byte)).collect::<Vec<_>>()),
+        EngineCall::Undo => player.undo(),
+        EngineCall::Hint => player.hint().err().unwrap_or(0),
+        EngineCall::Finish => player.finish().err().unwrap_or(0),
     }
 }
 
@@ -146,22 +139,4 @@ pub fn finishing_lists() -> Vec<Vec<EngineCall>> {
     });
     // Another way after a finish was taken back.
     behind.chain([[Finish, Undo, Carry(0, 3), Finish, Undo, Carry(0, 1), Hint, Finish].to_vec()]).collect()
-}
-
-/// Numbers that are no call: of the first kind that has no number, of one soon behind it, or of any.
-fn no_call(rng: &mut Random) -> EngineCall {
-    let past = rng.pick(&[1, 8, 256, (1 << 32) - KINDS as usize]);
-    EngineCall::NoCall([KINDS + rng.below(past) as u32, rng.below(64) as u32, rng.below(64) as u32])
-}
-
-/// The list with numbers that are no call among the calls, now and then.
-pub fn with_no_calls(rng: &mut Random, calls: Vec<EngineCall>) -> Vec<EngineCall> {
-    let mut mixed = Vec::new();
-    for call in calls {
-        if rng.chance(1, 16) {
-            mixed.push(no_call(rng));
-        }
-        mixed.push(call);
-    }
-    mixed
 }

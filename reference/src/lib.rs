@@ -10,6 +10,7 @@
 // The rules, in document 01's order.
 pub mod cancelling;
 pub mod catalog;
+pub mod desk;
 pub mod moves;
 pub mod player;
 pub mod programs;
@@ -23,12 +24,15 @@ pub mod fast;
 // The engine, where it is linked.
 #[cfg(feature = "engine")]
 pub mod engine;
+#[cfg(feature = "engine")]
+pub mod guarded;
 
 // Inputs for the engine and for the rules themselves, and sheets of before.
 pub mod boards;
 pub mod calls;
 pub mod cases;
 pub mod damage;
+pub mod desk_scripts;
 pub mod encoded;
 pub mod old_sheets;
 pub mod properties;

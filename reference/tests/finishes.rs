@@ -169,9 +169,9 @@ fn at_every_stage() {
     }
 }
 
-/// In numbers a finish is kind 4; the first kind that is no call is 5.
+/// In numbers a finish is kind 4.
 #[test]
 fn in_numbers() {
-    let calls = [EngineCall::Finish, EngineCall::Undo, EngineCall::NoCall([5, 0, 0])];
-    assert_eq!(codes_of(&calls), (vec![4, 0, 0, 2, 0, 0, 5, 0, 0], vec![]));
+    let calls = [EngineCall::Finish, EngineCall::Undo];
+    assert_eq!(codes_of(&calls), (vec![4, 0, 0, 2, 0, 0], vec![]));
 }

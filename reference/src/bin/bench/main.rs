@@ -1,9 +1,13 @@
-//! bench: the time of the engine and of the fast program in one run, as tables. bench run PROGRAM OPERATION SET TIMES: one operation over one set of
-//! boards, so many times, for a tool that counts instructions. bench boards OPERATION SET: how many boards of the set that is made on. `tools/bench` puts them together.
+//! bench: the time of the engine, through its C interface, and of the fast program in one run, as tables. bench calls: the stack and the longest time
+//! of each function of the interface. bench run PROGRAM OPERATION SET TIMES: one operation over one set of boards, so many times, for a tool that
+//! counts instructions. bench boards OPERATION SET: how many boards of the set that is made on. `tools/bench` puts them together.
+
+mod calls;
 
 use reference::boards::random_board_of;
 use reference::catalog::BOARDS;
-use reference::engine::{self, End, EDGES};
+use reference::engine::exported::{vulprow_carry, vulprow_finish, vulprow_load, vulprow_sheet, vulprow_undo};
+use reference::engine::Memory;
 use reference::fast::Board;
 use reference::moves::Move;
 use reference::player::Player;
@@ -74,33 +78,35 @@ fn by_fast(board: &mut Board, operation: &str, sample: &Sample, buffer: &mut [u8
 /// What the operations write into; not cleared between them.
 struct Buffers {
     board: Board,
-    flows: [u32; EDGES],
-    end: End,
-    given: Vec<u32>,
+    game: Box<Memory>,
     report: Vec<u8>,
 }
 
 impl Buffers {
     fn new() -> Buffers {
-        Buffers { board: Board::closed(), flows: [0; EDGES], end: End::unwritten(), given: vec![0; 2 * PAIRS], report: vec![0; 4_096] }
+        Buffers { board: Board::closed(), game: Box::new(Memory::CLOSED), report: vec![0; 4_096] }
     }
 }
 
-/// The same by the engine.
-fn by_engine(buffers: &mut Buffers, operation: &str, sample: &Sample) -> usize {
+/// The same by the engine, one call at a time.
+fn by_engine(Buffers { game, report, .. }: &mut Buffers, operation: &str, sample: &Sample) -> usize {
     let text = black_box(&sample.text[..]);
+    let game: *mut Memory = &mut **game;
     let (mut count, mut used) = (0, 0);
-    let answer = match operation {
-        "load" => engine::acyclic(text, &mut buffers.flows, &mut buffers.end.journal),
-        "finish" => engine::solve(text, &mut count, &mut buffers.end.journal),
-        "report" => engine::sheet(text, (&[], &[]), true, &mut buffers.report, &mut used, &mut buffers.end.journal),
+    let mut refused = unsafe { vulprow_load(game, text.as_ptr(), text.len()) };
+    match operation {
+        "load" => (),
+        "finish" => refused += unsafe { vulprow_finish(game, &mut count) },
+        "report" => unsafe {
+            refused += vulprow_finish(game, &mut count);
+            refused += vulprow_sheet(game, report.as_mut_ptr(), report.len(), &mut used);
+        },
         _ => {
             let (terminal, edge) = sample.carry;
-            let codes = [0, terminal, edge, 2, 0, 0].repeat(PAIRS);
-            engine::play(text, (&codes, &[]), &mut buffers.given, &mut [], &mut buffers.end)
+            refused += (0..PAIRS).map(|_| unsafe { vulprow_carry(game, black_box(terminal), edge) + vulprow_undo(game) }).sum::<u32>();
         }
-    };
-    assert_eq!(answer, 0);
+    }
+    assert_eq!(refused, 0);
     count as usize + used
 }
 
@@ -150,6 +156,7 @@ fn main() {
     let words: Vec<String> = std::env::args().skip(1).collect();
     match words.iter().map(String::as_str).collect::<Vec<_>>()[..] {
         [] => times(),
+        ["calls"] => calls::table(),
         ["run", program, operation, set, count] if PROGRAMS.contains(&program) && OPERATIONS.contains(&operation) && SETS.contains(&set) => {
             let samples = samples(operation, set);
             let mut buffers = Buffers::new();
@@ -159,7 +166,7 @@ fn main() {
         }
         ["boards", operation, set] if OPERATIONS.contains(&operation) && SETS.contains(&set) => println!("{}", samples(operation, set).len()),
         _ => {
-            eprintln!("usage: bench [boards OPERATION SET | run engine|fast load|finish|report|pair 8/16/4|16/32/8|32/64/16|catalog TIMES]");
+            eprintln!("usage: bench [calls | boards OPERATION SET | run engine|fast load|finish|report|pair 8/16/4|16/32/8|32/64/16|catalog TIMES]");
             std::process::exit(2);
         }
     }

@@ -1,104 +1,18 @@
-//! Boards finished move by move: the program `play` is asked for a hint and given its line back, again and again until it prints `N`; and the same
-//! moves as a list of calls through the linked engine.
+//! Boards finished move by move: the program `play` is asked for a hint and given its line back, again and again until it prints `N`; and the engine
+//! is asked for a hint and given the very bytes back.
 
-use crate::play::compare_hinted_list;
-use crate::report::{compare_program, started};
-use crate::{same, Tally};
+use crate::driven::{compare_shown, make_noise};
+use crate::fault;
+use crate::programs::compare_program;
+use crate::session::Session;
+use crate::tally::{same, Tally};
+use crate::wanted::{advice_of, whole_of};
+use reference::engine::{Advice, Game, CARRY};
 use reference::moves::{Board, Move};
 use reference::player::Player;
 use reference::programs::{hint_line, sheet};
+use reference::random::Random;
 use reference::solver::next_move;
-use std::io::{BufRead, BufReader, Write};
-use std::process::{Child, ChildStdin, ChildStdout};
-use std::sync::mpsc::{channel, Receiver, RecvTimeoutError, Sender};
-use std::thread;
-use std::time::Duration;
-
-/// How long `play` may take to print a line.
-const PATIENCE: Duration = Duration::from_secs(20);
-
-/// The program `play`, which is given lines and waited for: each answer is read before the next line is written.
-struct Session {
-    child: Child,
-    input: Option<ChildStdin>,
-    lines: Receiver<Vec<u8>>,
-    /// All that it was given.
-    given: Vec<u8>,
-}
-
-/// Hands on the lines of the output, each with its line feed, as they come.
-fn hand_on(output: ChildStdout, lines: Sender<Vec<u8>>) {
-    let mut output = BufReader::new(output);
-    loop {
-        let mut line = Vec::new();
-        match output.read_until(b'\n', &mut line) {
-            Ok(length) if length > 0 && lines.send(line).is_ok() => (),
-            _ => return,
-        }
-    }
-}
-
-impl Session {
-    fn start() -> Result<Session, String> {
-        let mut child = started("play")?;
-        let (input, output) = (child.stdin.take(), child.stdout.take().expect("the output is a pipe"));
-        let (sender, lines) = channel();
-        thread::spawn(move || hand_on(output, sender));
-        Ok(Session { child, input, lines, given: Vec::new() })
-    }
-
-    fn told(&self, fault: &str) -> String {
-        format!("play, fed line by line, {fault}; it was given:\n{}", String::from_utf8_lossy(&self.given))
-    }
-
-    fn give(&mut self, bytes: &[u8]) -> Result<(), String> {
-        self.given.extend(bytes);
-        let input = self.input.as_mut().expect("the input is open");
-        input.write_all(bytes).and_then(|()| input.flush()).map_err(|error| self.told(&format!("takes no more: {error}")))
-    }
-
-    /// The next line that is printed; none where the output ends.
-    fn line(&self) -> Result<Option<Vec<u8>>, String> {
-        match self.lines.recv_timeout(PATIENCE) {
-            Ok(line) => Ok(Some(line)),
-            Err(RecvTimeoutError::Disconnected) => Ok(None),
-            Err(RecvTimeoutError::Timeout) => Err(self.told(&format!("prints nothing for {} s", PATIENCE.as_secs()))),
-        }
-    }
-
-    /// A line, and what is to be printed for it: as many lines are read. Gives the last of them.
-    fn ask(&mut self, line: &[u8], wanted: &[u8]) -> Result<Vec<u8>, String> {
-        self.give(line)?;
-        let mut last = Vec::new();
-        for wanted in wanted.split_inclusive(|byte| *byte == b'\n') {
-            last = self.line()?.ok_or_else(|| self.told("ends its output"))?;
-            let told = |text: &[u8]| String::from_utf8_lossy(text).into_owned();
-            same(&self.given, told(wanted), told(&last)).map_err(|difference| format!("play, fed line by line: {difference}"))?;
-        }
-        Ok(last)
-    }
-
-    /// The end of the input: nothing more is printed, and the program ends well.
-    fn end(mut self) -> Result<(), String> {
-        drop(self.input.take());
-        if let Some(line) = self.line()? {
-            return Err(self.told(&format!("prints a line too many: {}", String::from_utf8_lossy(&line))));
-        }
-        let status = self.child.wait().map_err(|error| self.told(&format!("does not end: {error}")))?;
-        match status.success() {
-            true => Ok(()),
-            false => Err(self.told(&format!("ends with {status}"))),
-        }
-    }
-}
-
-impl Drop for Session {
-    fn drop(&mut self) {
-        // Nothing is left to end where the program has ended.
-        let _ = self.child.kill();
-        let _ = self.child.wait();
-    }
-}
 
 /// Feeds every hint of `play` back to it until `N`, which it answers with 1. Each line is the reference's hint. Gives the moves.
 fn fed_back(session: &mut Session, text: &[u8]) -> Result<Vec<Move>, String> {
@@ -133,17 +47,70 @@ fn finished_twice(session: &mut Session, last: Option<&Move>, finish: &[u8]) -> 
     session.ask(b"F\n", finish).map(drop)
 }
 
+/// The move of a hint, given back just as it came.
+fn give_back(game: &mut Game, advice: &Advice) -> u32 {
+    match advice.kind {
+        CARRY => game.carry(advice.terminal, advice.edge),
+        _ => game.turn(&advice.steps[..advice.length as usize]),
+    }
+}
+
+/// A game in play, given back its own hints until there is none. Each is the reference's, field by field. Gives the game's bytes before each move.
+fn played_by_hints(rng: &mut Random, game: &mut Game, text: &[u8], moves: &[Move]) -> Result<Vec<Vec<u8>>, String> {
+    let mut before = Vec::new();
+    for made in moves {
+        before.push(game.bytes().to_vec());
+        let (_, advice) = same(text, (0, advice_of(Some(made))), game.hint())?;
+        same(text, 0, give_back(game, &advice))?;
+        if rng.chance(1, 6) {
+            game.move_elsewhere();
+        }
+    }
+    same(text, (0, Advice::NONE), game.hint())?;
+    Ok(before)
+}
+
+/// The game of the hints: the finish behind them finds nothing left to do, and the board is then the one that a finish alone gives, yet another game,
+/// since its undo takes back less. All moves are taken back one by one, each to the very bytes before it.
+fn compare_hinted_game(rng: &mut Random, text: &[u8], moves: &[Move], tally: &mut Tally) -> Result<(), String> {
+    let mut game = Game::anywhere();
+    make_noise(rng, &mut game);
+    fault::loads(text);
+    same(text, 0, game.load(text))?;
+    let mut alone = game.clone();
+    let mut before = played_by_hints(rng, &mut game, text, moves)?;
+    before.push(game.bytes().to_vec());
+    same(text, (0, 0), game.finish())?;
+    same(text, (0, moves.len() as u32), alone.finish())?;
+    let (_, mut player) = Player::load(text);
+    player.finish().expect("a loaded board is in play");
+    let whole = whole_of(&player);
+    compare_shown(text, &game, 0, &whole, tally)?;
+    compare_shown(text, &alone, 0, &whole, tally)?;
+    let told = |fault: &str| Err(format!("{fault}, of the board's own hints\nas text:\n{}", String::from_utf8_lossy(text)));
+    if game.bytes() == alone.bytes() {
+        return told("a finish behind all its moves has the bytes of one that made them");
+    }
+    while let Some(wanted) = before.pop() {
+        same(text, 0, game.undo())?;
+        if wanted != game.bytes() {
+            return told("an undo gave other bytes than those from before");
+        }
+    }
+    same(text, 27, game.undo()).map(drop)
+}
+
 /// An accepted board finished by its hints. `F` then prints the very sheet that it prints alone, and once more when it
 /// was taken back.
-pub fn compare_hinted(text: &[u8], tally: &mut Tally) -> Result<(), String> {
+pub fn compare_hinted(rng: &mut Random, text: &[u8], tally: &mut Tally) -> Result<(), String> {
     let finish = [b"0\n", &sheet(text)[..]].concat();
     compare_program("play", &[text, b"F\nU\nF\n"].concat(), [&finish[..], b"0\n", &finish].concat(), tally)?;
-    let mut session = Session::start()?;
+    let mut session = Session::start("play")?;
     let moves = fed_back(&mut session, text)?;
     finished_twice(&mut session, moves.last(), &finish)?;
     session.end()?;
-    compare_hinted_list(text, &moves)?;
-    *tally.entry("boards finished by hints".into()).or_default() += 1;
-    *tally.entry("hints fed back".into()).or_default() += moves.len() as u64;
+    compare_hinted_game(rng, text, &moves, tally).map_err(|difference| format!("the engine, given its own hints: {difference}"))?;
+    tally.count("boards finished by hints");
+    tally.add("hints fed back", moves.len() as u64);
     Ok(())
 }
