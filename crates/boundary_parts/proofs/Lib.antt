@@ -1,3 +1,4 @@
 mod Rows
 mod Loops
 pub mod Games
+pub mod Shows

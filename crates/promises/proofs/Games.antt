@@ -44,6 +44,7 @@ use Rattle.boundary_parts.proofs.Games.{board-again, refused-memory, made-answe
 use Rattle.promises.specs.Games.{boardAfter, gameAfter, AboutGames}
 use Rattle.promises.proofs.Plays.{play-standing}
 use Rattle.promises.proofs.Entries.{stood-again}
+use Rattle.promises.proofs.Given.{hint-zeros, look-zeros, entry-zeros, past-edge-rows, past-terminal-rows}
 use Rattle.promises.proofs.Refusals.{no-carry, no-turn, hint-number, no-finish, undo-shut}
 
 -- ---- The closed board.
@@ -264,4 +265,9 @@ about-games = record {
   game-equal = all-equal;
   not-loaded = λ m c shut. (shut-answer m shut c, shut-made m shut c);
   hint-steps = λ text b p. hint-say b (play-standing text b p);
+  refused-hint = hint-zeros;
+  refused-look = look-zeros;
+  refused-entry = entry-zeros;
+  edges-past = past-edge-rows;
+  terminals-past = past-terminal-rows;
 }

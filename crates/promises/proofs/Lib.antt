@@ -6,5 +6,6 @@ pub mod Refusals
 pub mod Lines
 pub mod Sheets
 pub mod Entries
+pub mod Given
 pub mod Games
 pub mod Book

@@ -1,10 +1,11 @@
 -- Games as C keeps them (include/vulprow.h).
 use mathlib.Core.Path.{_≡_}
-use mathlib.Core.Bool.{false}
+use mathlib.Core.Bool.{true, false}
 use mathlib.Core.Logic.{_↔_, _≢_}
-use mathlib.Core.List.{List}
-use Prim.Native.Nat.{ℕ}
-use lib.ListN.{take}
+use mathlib.Core.List.{List, []}
+use Prim.Native.Nat.{ℕ, _<_, _≤_}
+use lib.ListN.{getD, take, replicate}
+use Rattle.board.specs.Limits.{maxEdges, maxTerminals}
 use Rattle.board.specs.Record.{closedBoard}
 use Rattle.board.specs.Whole.{Board}
 use Rattle.load.specs.Load.{loadText}
@@ -13,7 +14,18 @@ use Rattle.move_cycle.specs.Steps.{stepsOf, codeSteps}
 use Rattle.solve_next.specs.Hints.{hintCall}
 use Rattle.move_list.specs.Calls.{Call, gameOf, played, answers}
 use Rattle.boundary_parts.specs.Memory.{Memory, boardOf, memoryLoaded}
-use Rattle.boundary_parts.specs.Shown.{adviceBytes}
+use Rattle.boundary_parts.specs.Shown.{
+  adviceNumbers,
+  adviceBytes,
+  noRow,
+  lookRefusal,
+  viewNumbers,
+  viewEdges,
+  viewTerminals,
+  entryRefusal,
+  entryNumbers,
+  entryRows,
+}
 use Rattle.boundary_parts.specs.Games.{zeroMemory, gameMemory, memoryAnswer, memoryMade, memoryPlayed, memoryAnswers}
 use Rattle.promises.specs.Plays.{OfPlay}
 
@@ -41,3 +53,13 @@ pub record AboutGames : Type 0 where
   -- "just as vulprow_carry and vulprow_turn take them": a hint's steps
   pub hint-steps : (text : List ℕ) (b : Board) → OfPlay text b → let a = hintCall b .advice in
       stepsOf (take (a .count) (adviceBytes a)) ≡ codeSteps (take (a .count) (a .steps))
+  -- "After a refusal `*move` is all zeros", and so are `*view` and `*entry`
+  pub refused-hint : (b : Board) → hintCall b .answer ≢ 0
+      → (adviceNumbers (hintCall b .advice) ≡ replicate 4 0) × (adviceBytes (hintCall b .advice) ≡ replicate maxEdges 0)
+  pub refused-look : (b : Board) → lookRefusal b ≢ 0
+      → (viewNumbers b ≡ replicate 6 0) × (viewEdges b ≡ replicate 5 noRow) × (viewTerminals b ≡ replicate 3 (replicate maxTerminals 0))
+  pub refused-entry : (b : Board) (i : ℕ) → entryRefusal b i ≢ 0 → (entryNumbers b i ≡ replicate 6 0) × (entryRows b i ≡ replicate 3 noRow)
+  -- "Places past the counts hold 0": row k of what a screen draws
+  pub edges-past : (b : Board) (k e : ℕ) → loaded b ≡ true → b .network .edges ≤ e → e < maxEdges → getD (getD (viewEdges b) k []) e 0 ≡ 0
+  pub terminals-past : (b : Board) (k j : ℕ) → loaded b ≡ true → b .network .terminals ≤ j → j < maxTerminals
+      → getD (getD (viewTerminals b) k []) j 0 ≡ 0

@@ -4,7 +4,7 @@ use denote.Ref.{now}
 use Rattle.board.specs.Whole.{Entry, Board}
 use Rattle.journal.specs.Words.{entriesOf}
 use Rattle.boundary_parts.specs.Shown.{entryRefusal}
-use Rattle.boundary.proofs.Shows.{entry-refused, entry-given, entry-stands, standing-at}
+use Rattle.boundary_parts.proofs.Shows.{entry-refused, entry-given, entry-stands, standing-at}
 use borrow.Author.Needs.{needs}
 use Rattle.boundary.proofs.vulprow_parts_journal.Statement.{statement}
 use Rattle.boundary.proofs.vulprow_parts_journal.Tie as tie

@@ -4,7 +4,7 @@ use denote.Ref.{now}
 use borrow.Author.Tests.{not-true, not-false}
 use Rattle.move_guard.specs.Guard.{loaded}
 use Rattle.boundary_parts.specs.Shown.{boardNumbers, boardEdges, boardTerminals}
-use Rattle.boundary.proofs.Shows.{look-refused, look-given}
+use Rattle.boundary_parts.proofs.Shows.{look-refused, look-given}
 use borrow.Author.Needs.{needs}
 use Rattle.boundary.proofs.vulprow_parts_look.Statement.{statement}
 use Rattle.boundary.proofs.vulprow_parts_look.Tie as tie

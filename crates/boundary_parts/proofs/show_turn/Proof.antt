@@ -1,3 +1,4 @@
+-- The sets that its calls give are those of the turn, so the lists are those of its edges.
 use borrow.Author.Needs.{needs}
 use Rattle.boundary_parts.proofs.show_turn.Statement.{statement}
 use Rattle.boundary_parts.proofs.show_turn.Tie as tie

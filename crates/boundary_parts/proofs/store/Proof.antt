@@ -1,3 +1,4 @@
+-- The version is what its call ensures; every other number and row is one of the board.
 use mathlib.Core.Path.{refl}
 use borrow.Author.Needs.{needs}
 use Rattle.boundary_parts.proofs.store.Statement.{statement}
