@@ -14,8 +14,8 @@ on_board_in net i e = both (ltb i net.terminals) (ltb e net.edges)
 
 -- "Carry: 20, 6, 21, 22, 23"
 unfoldable pub carry_refusal_in : Bool → Network → List ℕ → ℕ → List ℕ → ℕ → ℕ → ℕ
-carry_refusal_in inPlay net flows marks places i e =
-    unless inPlay 20
+carry_refusal_in in_play net flows marks places i e =
+    unless in_play 20
     (unless (on_board_in net i e) 6
     (when (is_home_in net.source places i) 21
     (unless (enters_in net places i e) 22

@@ -33,5 +33,5 @@ module _ (b : Board) where
   counts_right last edges terminals small room rest fits counts ee et el es er e ef =
       ef ∙ rw (e, er, es, el, et, ee) (sym (both_yes _ _ counts))
 
-  pub staged : (fits inPlay : Bool) → fits ≡ intact b → inPlay ≡ both (eqb b.stage play_stage) fits → inPlay ≡ playing b
-  staged fits inPlay ef ep = rw (playing-staged b, ep, ef)
+  pub staged : (fits in_play : Bool) → fits ≡ intact b → in_play ≡ both (eqb b.stage play_stage) fits → in_play ≡ playing b
+  staged fits in_play ef ep = rw (playing-staged b, ep, ef)

@@ -12,8 +12,8 @@ use Rattle.move_guard.specs.Moved.{last_entry}
 
 -- an edge's numbers fit; its acyclic flow is at most the text's, and where that is 0 its flow is 0
 abbrev pub edge_numbers_intact : Bool → ℕ → ℕ → ℕ → ℕ → ℕ → ℕ → Bool
-edge_numbers_intact isEdge tail head text acyclic flow vertices =
-    both (edge_numbers_fit isEdge tail head text vertices) (both (leb acyclic text) (pick (eqb acyclic 0) (eqb flow 0) (leb flow max_total)))
+edge_numbers_intact is_edge tail head text acyclic flow vertices =
+    both (edge_numbers_fit is_edge tail head text vertices) (both (leb acyclic text) (pick (eqb acyclic 0) (eqb flow 0) (leb flow max_total)))
 
 -- the same at place i of lists: the tails, the heads, the flows of the text, the acyclic flows and the flows
 abbrev pub edge_lists_intact : ℕ → ℕ → List ℕ → List ℕ → List ℕ → List ℕ → List ℕ → ℕ → Bool
@@ -30,8 +30,8 @@ edge_intact b i = edge_intact_in b.network b.acyclic b.flows i
 
 -- a terminal's numbers fit, and it is at a vertex; the numbers of a place past the terminals are 0
 abbrev pub terminal_numbers_intact : Bool → ℕ → ℕ → ℕ → ℕ → Bool
-terminal_numbers_intact isTerminal home demand place vertices =
-    both (terminal_numbers_fit isTerminal home demand vertices) (pick isTerminal (ltb place vertices) (eqb place 0))
+terminal_numbers_intact is_terminal home demand place vertices =
+    both (terminal_numbers_fit is_terminal home demand vertices) (pick is_terminal (ltb place vertices) (eqb place 0))
 
 -- the same at place j of lists: the homes, the demands and the places
 abbrev pub terminal_lists_intact : ℕ → ℕ → List ℕ → List ℕ → List ℕ → ℕ → Bool

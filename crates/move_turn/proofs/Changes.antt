@@ -23,31 +23,31 @@ use Rattle.move_carry.specs.Opens.{some_open}
 use Rattle.move_turn.specs.Turns.{turn_refusal_in, turn_refusal, turned, turned_in, turn_change, turn_call}
 
 -- by the number of the refusal
-module _ (play anyOpen : Bool) (net : Network) (flows : List ℕ) (marks : ℕ) (places : List ℕ) (w : List Step) where
-  pub change_accepted : turn_refusal_in play anyOpen net flows w ≡ 0 → turn_change play anyOpen net flows marks places w ≡ turned_in net flows marks places w
+module _ (play any_open : Bool) (net : Network) (flows : List ℕ) (marks : ℕ) (places : List ℕ) (w : List Step) where
+  pub change_accepted : turn_refusal_in play any_open net flows w ≡ 0 → turn_change play any_open net flows marks places w ≡ turned_in net flows marks places w
   unfolding turn_change
   change_accepted h = pick_yes _ _ _ (eq-eqb _ 0 h)
 
-  pub change_refused : turn_refusal_in play anyOpen net flows w ≢ 0
-      → turn_change play anyOpen net flows marks places w ≡ unchanged (turn_refusal_in play anyOpen net flows w) flows marks places
+  pub change_refused : turn_refusal_in play any_open net flows w ≢ 0
+      → turn_change play any_open net flows marks places w ≡ unchanged (turn_refusal_in play any_open net flows w) flows marks places
   unfolding turn_change
   change_refused h = pick_no _ _ _ (ne_eqb _ 0 h)
 
   -- the number, and the places, which no turn changes
-  pub change_answer : (turn_change play anyOpen net flows marks places w).answer ≡ turn_refusal_in play anyOpen net flows w
+  pub change_answer : (turn_change play any_open net flows marks places w).answer ≡ turn_refusal_in play any_open net flows w
   unfolding turned_in
-  change_answer = go (eq_or_ne (turn_refusal_in play anyOpen net flows w) 0)
+  change_answer = go (eq_or_ne (turn_refusal_in play any_open net flows w) 0)
     where
-      go : (turn_refusal_in play anyOpen net flows w ≡ 0) ⊎ (turn_refusal_in play anyOpen net flows w ≢ 0)
-          → (turn_change play anyOpen net flows marks places w).answer ≡ turn_refusal_in play anyOpen net flows w
+      go : (turn_refusal_in play any_open net flows w ≡ 0) ⊎ (turn_refusal_in play any_open net flows w ≢ 0)
+          → (turn_change play any_open net flows marks places w).answer ≡ turn_refusal_in play any_open net flows w
       go (inl z) = ap (λ (c : Change). c.answer) (change_accepted z) ∙ sym z
       go (inr n) = ap (λ (c : Change). c.answer) (change_refused n)
 
-  pub change_places : (turn_change play anyOpen net flows marks places w).places ≡ places
+  pub change_places : (turn_change play any_open net flows marks places w).places ≡ places
   unfolding turned_in
-  change_places = go (eq_or_ne (turn_refusal_in play anyOpen net flows w) 0)
+  change_places = go (eq_or_ne (turn_refusal_in play any_open net flows w) 0)
     where
-      go : (turn_refusal_in play anyOpen net flows w ≡ 0) ⊎ (turn_refusal_in play anyOpen net flows w ≢ 0) → (turn_change play anyOpen net flows marks places w).places ≡ places
+      go : (turn_refusal_in play any_open net flows w ≡ 0) ⊎ (turn_refusal_in play any_open net flows w ≢ 0) → (turn_change play any_open net flows marks places w).places ≡ places
       go (inl z) = ap (λ (c : Change). c.places) (change_accepted z)
       go (inr n) = ap (λ (c : Change). c.places) (change_refused n)
 

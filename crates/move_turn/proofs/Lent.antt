@@ -49,14 +49,14 @@ bounds_turnable net flows places leaving marks positive resume bounds leave is_p
 
 module _ (frame : Frame) (tails heads demands leaving flows : List ℕ) (can : Turnable frame tails heads demands leaving flows) where
   -- no test of the steps looks at the demands
-  turn_tests : (anyOpen : Bool) (w : List Step)
-      → turn_refusal_in true anyOpen (net_of frame tails heads []) flows w ≡ turn_refusal_in true anyOpen (net_of frame tails heads demands) flows w
+  turn_tests : (any_open : Bool) (w : List Step)
+      → turn_refusal_in true any_open (net_of frame tails heads []) flows w ≡ turn_refusal_in true any_open (net_of frame tails heads demands) flows w
   unfolding turn_refusal_in
-  turn_tests anyOpen w = refl
+  turn_tests any_open w = refl
 
-  pub turn_sets : (anyOpen : Bool) (s : List ℕ) → turn_refusal_in true anyOpen (net_of frame tails heads []) flows (code_steps s) ≡ 0 → InSets s
+  pub turn_sets : (any_open : Bool) (s : List ℕ) → turn_refusal_in true any_open (net_of frame tails heads []) flows (code_steps s) ≡ 0 → InSets s
   unfolding turn_refusal_in
-  turn_sets anyOpen s h =
+  turn_sets any_open s h =
       in_sets frame.edges flows (singular_in tails heads flows frame.vertices) can.room s
       (pick_passed (every (meets_in OnBoard frame.edges flows (singular_in tails heads flows frame.vertices)) (code_steps s)) _ 5 (pick_passed true _ 19 h).1).0
 
@@ -74,26 +74,26 @@ module _ (frame : Frame) (tails heads demands leaving flows : List ℕ) (can : T
       })
       (fresh_same tails heads flows leaving frame.positive can.chart fits frame.vertices frame.marks)
 
-  module _ (anyOpen : Bool) (places : List ℕ) (w : List Step) (number : ℕ)
-      (h : number ≡ turn_refusal_in true anyOpen (net_of frame tails heads []) flows w) where
+  module _ (any_open : Bool) (places : List ℕ) (w : List Step) (number : ℕ)
+      (h : number ≡ turn_refusal_in true any_open (net_of frame tails heads []) flows w) where
     pub turn_not_made : (entry : Entry) → number ≢ 0 → entry ≡ blank
         → record { answer = number; flows = flows; marks = frame.marks; places = places; entry = entry }
-        ≡ turn_change true anyOpen (net_of frame tails heads demands) flows frame.marks places w
+        ≡ turn_change true any_open (net_of frame tails heads demands) flows frame.marks places w
     turn_not_made entry n e =
-        let same = h ∙ turn_tests anyOpen w in
-        rw (e, same) (sym (change_refused true anyOpen (net_of frame tails heads demands) flows frame.marks places w (λ z. n (same ∙ z))))
+        let same = h ∙ turn_tests any_open w in
+        rw (e, same) (sym (change_refused true any_open (net_of frame tails heads demands) flows frame.marks places w (λ z. n (same ∙ z))))
 
     pub turn_is_made : (c : Change) → frame.positive < 2 ^ set_width → number ≡ 0 → c ≡ augmented_by frame heads demands leaving flows places w
-        → c ≡ turn_change true anyOpen (net_of frame tails heads demands) flows frame.marks places w
+        → c ≡ turn_change true any_open (net_of frame tails heads demands) flows frame.marks places w
     turn_is_made c fits z e =
         e ∙ augmented fits places w
-        ∙ sym (change_accepted true anyOpen (net_of frame tails heads demands) flows frame.marks places w (sym (h ∙ turn_tests anyOpen w) ∙ z))
+        ∙ sym (change_accepted true any_open (net_of frame tails heads demands) flows frame.marks places w (sym (h ∙ turn_tests any_open w) ∙ z))
 
 -- a network and its bare one
-pub turn_of_bare : (net : Network) (play anyOpen : Bool) (flows : List ℕ) (marks : ℕ) (places : List ℕ) (w : List Step)
-    → turn_change play anyOpen (bare_of net) flows marks places w ≡ turn_change play anyOpen net flows marks places w
+pub turn_of_bare : (net : Network) (play any_open : Bool) (flows : List ℕ) (marks : ℕ) (places : List ℕ) (w : List Step)
+    → turn_change play any_open (bare_of net) flows marks places w ≡ turn_change play any_open net flows marks places w
 unfolding turn_change turn_refusal_in turned_in
-turn_of_bare net play anyOpen flows marks places w = refl
+turn_of_bare net play any_open flows marks places w = refl
 
 module _ (b : Board) (w : List Step) where
   -- on a board that is not in play a turn changes nothing
@@ -104,9 +104,9 @@ module _ (b : Board) (w : List Step) where
       sym (change_refused (playing b) (some_open b) b.network b.flows b.marks b.places w (λ z. omega (arith, z, number))
       ∙ ap (λ (n : ℕ). unchanged n b.flows b.marks b.places) number)
 
-  pub open_made : (c : Change) (anyOpen : Bool) → playing b ≡ true → anyOpen ≡ some_open_in b.network b.flows b.marks b.places
-      → c ≡ turn_change true anyOpen b.network b.flows b.marks b.places w → c ≡ turn_made b w
-  open_made c anyOpen play o e = rw (play, ← o) e
+  pub open_made : (c : Change) (any_open : Bool) → playing b ≡ true → any_open ≡ some_open_in b.network b.flows b.marks b.places
+      → c ≡ turn_change true any_open b.network b.flows b.marks b.places w → c ≡ turn_made b w
+  open_made c any_open play o e = rw (play, ← o) e
 
   -- the call and its words by the change
   module _ (c : Change) (e : c ≡ turn_made b w) (words : List (List ℕ)) where

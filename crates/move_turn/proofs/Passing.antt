@@ -53,9 +53,9 @@ in_sets edges flows single room s on i h =
     omega arith
 
 -- the tests in their order, each with the number it refuses with, on a board in play; the rules by any test for a singular edge that is the definition's
-module _ (anyOpen : Bool) (net : Network) (flows : List ℕ) (w : List Step) where
+module _ (any_open : Bool) (net : Network) (flows : List ℕ) (w : List Step) where
   abbrev number : ℕ
-  number = turn_refusal_in true anyOpen net flows w
+  number = turn_refusal_in true any_open net flows w
 
   abbrev pub meet : StepRule → Bool
   meet rule = every (meets_in rule net.edges flows (singular_in net.tails net.heads flows net.vertices)) w
@@ -70,11 +70,11 @@ module _ (anyOpen : Bool) (net : Network) (flows : List ℕ) (w : List Step) whe
     refused_7 y = rw (o, y)
 
     module _ (y : is_cycle net.tails net.heads w ≡ true) where
-      pub refused_24 : anyOpen ≡ true → 24 ≡ number
+      pub refused_24 : any_open ≡ true → 24 ≡ number
       unfolding turn_refusal_in pick
       refused_24 s = rw (o, y, s)
 
-      module _ (s : anyOpen ≡ false) where
+      module _ (s : any_open ≡ false) where
         pub refused_25 : meet Positive ≡ false → 25 ≡ number
         unfolding turn_refusal_in pick
         refused_25 f = rw (o, y, s, f)

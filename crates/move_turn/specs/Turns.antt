@@ -28,12 +28,12 @@ meets rule b s = meets_in rule b.network.edges b.flows (singular b) s
 
 -- "Turn: 20, 6, 7, 24, 25, 26", by the parts of a board: whether it is in play, whether a carry is open, the network and the flows
 unfoldable pub turn_refusal_in : Bool → Bool → Network → List ℕ → List Step → ℕ
-turn_refusal_in inPlay anyOpen net flows w =
+turn_refusal_in in_play any_open net flows w =
     let single = singular_in net.tails net.heads flows net.vertices in
-    unless inPlay 20
+    unless in_play 20
     (unless (every (meets_in OnBoard net.edges flows single) w) 6
     (unless (is_cycle net.tails net.heads w) 7
-    (when anyOpen 24
+    (when any_open 24
     (unless (every (meets_in Positive net.edges flows single) w) 25
     (unless (every (meets_in UpSingular net.edges flows single) w) 26 0)))))
 
@@ -70,6 +70,6 @@ turn_unkept b greatest = unless (playing b) 20 (unless (ltb greatest b.network.e
 -- `turn_call` by the parts of a board: what the call changes
 unfoldable pub turn_change : Bool → Bool → Network → List ℕ → ℕ → List ℕ → List Step → Change
 unfolding turn_refusal_in turned_in
-turn_change play anyOpen net flows marks places w =
-    let number = turn_refusal_in play anyOpen net flows w in
+turn_change play any_open net flows marks places w =
+    let number = turn_refusal_in play any_open net flows w in
     pick (eqb number 0) (turned_in net flows marks places w) (unchanged number flows marks places)

@@ -31,9 +31,9 @@ pub record HoldsSteps (w : List Step) (f : Form) : Type 0 where
   pub steps : length w ≤ max_edges → greatest_edge w < code_up → code_steps (take f.count f.steps) ≡ w
 
 -- the step of an edge that has a code
-kept_step : (goesUp : Bool) (e : ℕ) → e < code_up → code_step (kept_code goesUp e) ≡ stride goesUp e
+kept_step : (goes_up : Bool) (e : ℕ) → e < code_up → code_step (kept_code goes_up e) ≡ stride goes_up e
 unfolding kept_code
-kept_step goesUp e h = rw (pick_yes (ltb e code_up) (step_code (stride goesUp e)) 0 (lt-ltb e code_up h)) (stride_code goesUp e h)
+kept_step goes_up e h = rw (pick_yes (ltb e code_up) (step_code (stride goes_up e)) 0 (lt-ltb e code_up h)) (stride_code goes_up e h)
 
 -- the larger of two numbers
 larger : (a b : ℕ) → pick (ltb a b) b a ≡ max a b
@@ -49,27 +49,27 @@ greatest_join [] s = larger (edge_of s) 0 ∙ omega arith
 greatest_join (t ∷ w) s = rw (larger (edge_of t) (greatest_edge (w ++ (s ∷ []))), larger (edge_of t) (greatest_edge w), greatest_join w s) (omega arith)
 
 -- one step more
-module _ (w : List Step) (f : Form) (goesUp : Bool) (h : HoldsSteps w f) where
+module _ (w : List Step) (f : Form) (goes_up : Bool) (h : HoldsSteps w f) where
   abbrev added : List Step
-  added = w ++ (stride goesUp f.first ∷ [])
+  added = w ++ (stride goes_up f.first ∷ [])
 
   long : length added ≡ length w + 1
-  long = length-append w (stride goesUp f.first ∷ [])
+  long = length-append w (stride goes_up f.first ∷ [])
 
   greatest_added : greatest_edge added ≡ max (greatest_edge w) f.first
-  greatest_added = greatest_join w (stride goesUp f.first) ∙ ap (max (greatest_edge w)) (stride_edge goesUp f.first)
+  greatest_added = greatest_join w (stride goes_up f.first) ∙ ap (max (greatest_edge w)) (stride_edge goes_up f.first)
 
-  grown_greatest : (with_step goesUp f).greatest ≡ greatest_edge added
+  grown_greatest : (with_step goes_up f).greatest ≡ greatest_edge added
   unfolding with_step
   grown_greatest = larger f.greatest f.first ∙ rw (h.greatest, greatest_added)
 
-  grown_few : length w + 1 ≤ max_edges → (with_step goesUp f).count ≡ suc f.count
+  grown_few : length w + 1 ≤ max_edges → (with_step goes_up f).count ≡ suc f.count
   unfolding with_step
   grown_few l =
       let c = h.few (omega arith) in
       pick_yes (leb f.count max_edges) (f.count + 1) f.count (le-leb f.count max_edges (omega arith)) ∙ add-one f.count
 
-  grown_many : max_edges < length w + 1 → max_edges < (with_step goesUp f).count
+  grown_many : max_edges < length w + 1 → max_edges < (with_step goes_up f).count
   unfolding with_step
   grown_many l = split (known (leb f.count max_edges)) (lt_or_ge max_edges (length w))
     where
@@ -79,23 +79,23 @@ module _ (w : List Step) (f : Form) (goesUp : Bool) (h : HoldsSteps w f) where
       split (was_false e) m = rw (pick_no (leb f.count max_edges) (f.count + 1) f.count e) (leb-false f.count max_edges e)
 
   grown_steps : length w + 1 ≤ max_edges → greatest_edge w < code_up → f.first < code_up
-      → code_steps (take (with_step goesUp f).count (with_step goesUp f).steps) ≡ added
+      → code_steps (take (with_step goes_up f).count (with_step goes_up f).steps) ≡ added
   unfolding with_step code_steps
   grown_steps l g b =
       let c = h.few (omega arith) in
       let i : f.count < length f.steps = omega (arith, h.places) in
       rw (
         grown_few l,
-        take-suc-set f.steps f.count (kept_code goesUp f.first) i,
-        steps_join (take f.count f.steps) (kept_code goesUp f.first ∷ []),
+        take-suc-set f.steps f.count (kept_code goes_up f.first) i,
+        steps_join (take f.count f.steps) (kept_code goes_up f.first ∷ []),
         h.steps (omega arith) g,
-        kept_step goesUp f.first b,
+        kept_step goes_up f.first b,
       )
 
-  pub grown : HoldsSteps added (with_step goesUp f)
+  pub grown : HoldsSteps added (with_step goes_up f)
   unfolding with_step
   grown = record {
-    places = length-set f.steps f.count (kept_code goesUp f.first) ∙ h.places;
+    places = length-set f.steps f.count (kept_code goes_up f.first) ∙ h.places;
     greatest = grown_greatest;
     few = λ l. let n = long in grown_few (omega arith) ∙ omega (arith, h.few (omega arith));
     many = λ l. grown_many (omega (arith, long));

@@ -90,17 +90,17 @@ numbered k f Malformed = of_kind other_form f
 
 -- a step's code, 0 for an edge too large for one
 unfoldable pub kept_code : Bool → ℕ → ℕ
-kept_code goesUp e = pick (ltb e code_up) (step_code (stride goesUp e)) 0
+kept_code goes_up e = pick (ltb e code_up) (step_code (stride goes_up e)) 0
 
 -- one step more: how many, more than there are edges counted as one more than these; the greatest edge; and the first of them
 unfoldable pub with_step : Bool → Form → Form
-with_step goesUp f = record {
+with_step goes_up f = record {
   kind = turn_form;
   first = 0;
   second = f.second;
   count = pick (leb f.count max_edges) (f.count + 1) f.count;
   greatest = pick (ltb f.greatest f.first) f.first f.greatest;
-  steps = set f.steps f.count (kept_code goesUp f.first);
+  steps = set f.steps f.count (kept_code goes_up f.first);
 }
 
 -- the first field

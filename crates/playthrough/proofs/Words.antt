@@ -22,7 +22,7 @@ use Rattle.solve_finish.specs.Lent.{ended_of}
 use Rattle.solve_finish.proofs.Lent.{further_out, finish_packed}
 use Rattle.checkpoints.specs.Games.{game_of}
 use Rattle.move_list.specs.Calls.{Call, played}
-use Rattle.move_list.specs.Words.{wordsPlayed}
+use Rattle.move_list.specs.Words.{words_played}
 use Rattle.move_list.proofs.Worded.{Kept}
 use Rattle.theorem_list.proofs.Words.{calls_kept}
 use Rattle.playthrough.specs.Through.{outcome}
@@ -50,7 +50,7 @@ finish_moves b = go (known (eqb (finish_refusal b) 0))
 
 -- what load, the calls and finish gave, each from what the one before gave, and the words after each
 module _ (text : List ℕ) (cs : List Call) (l : Opened) (w₁ : List (List ℕ)) (loads : loaded_of l w₁ ≡ load_text text) (empty : w₁ ≡ no_words) (t : Table)
-    (w₂ : List (List ℕ)) (plays : whole_of t w₂ ≡ (played (game_of (whole_of l.board w₁)) cs).board) (packs : w₂ ≡ wordsPlayed (game_of (whole_of l.board w₁)) cs w₁) where
+    (w₂ : List (List ℕ)) (plays : whole_of t w₂ ≡ (played (game_of (whole_of l.board w₁)) cs).board) (packs : w₂ ≡ words_played (game_of (whole_of l.board w₁)) cs w₁) where
   start : whole_of l.board w₁ ≡ (load_text text).board
   start = ap (λ (x : Loaded). x.board) loads
 
@@ -59,7 +59,7 @@ module _ (text : List ℕ) (cs : List Call) (l : Opened) (w₁ : List (List ℕ)
 
   pub kept : Kept (whole_of t w₂) w₂
   kept =
-      packs ∙ ap (λ (b : Board). wordsPlayed (game_of b) cs w₁) start ∙ ap (wordsPlayed (game_of (load_text text).board) cs) empty ∙ calls_kept text cs
+      packs ∙ ap (λ (b : Board). words_played (game_of b) cs w₁) start ∙ ap (words_played (game_of (load_text text).board) cs) empty ∙ calls_kept text cs
       ∙ ap (λ (b : Board). packed_all b.journal) (sym after_calls)
 
   pub from_load : {A : Type 0} (f : Board → A) → f (whole_of l.board w₁) ≡ f (load_text text).board

@@ -33,7 +33,7 @@ use Rattle.solve_next.proofs.Advised.{next_carry, next_turn, cycle_held}
 use Rattle.solve_finish.specs.Finishes.{Finished}
 use Rattle.theorem_keep.proofs.Standing.{Standing}
 use Rattle.theorem_keep.proofs.Turnable.{turn_facts}
-use Rattle.theorem_list.specs.Player.{Item, listed_all, afresh, standingAfter, standing_moves}
+use Rattle.theorem_list.specs.Player.{Item, listed_all, afresh, standing_after, standing_moves}
 use Rattle.theorem_list.proofs.Next.{next_accepted}
 use Rattle.theorem_list.proofs.HintFirst.{hint_none, hint_advice}
 use Rattle.theorem_list.proofs.Stands.{none, Stood, going}
@@ -68,7 +68,7 @@ module _ (text : List ℕ) (loads : (load_text text).answer ≡ 0) where
   stood_board ms s = board_again (afresh text ms) (packed_all (afresh text ms).journal) (stood_again text loads ms s)
 
   -- one call
-  stood_made : (ms : List Item) (c : Call) → Stood text ms → memory_made (game_memory (afresh text ms)) c ≡ game_memory (afresh text (standingAfter text ms c))
+  stood_made : (ms : List Item) (c : Call) → Stood text ms → memory_made (game_memory (afresh text ms)) c ≡ game_memory (afresh text (standing_after text ms c))
   stood_made ms c s =
       let b : Board = afresh text ms in
       made-memory b (stood_board ms s) c (λ n. ap (λ (g : Game). g.board) (call_same (game_of b) c n))
@@ -81,7 +81,7 @@ module _ (text : List ℕ) (loads : (load_text text).answer ≡ 0) where
   stood_memory ms (c ∷ cs) s =
       let q = same text loads ms c s in
       ap (λ (m : Memory). memory_played m cs) (stood_made ms c s)
-      ∙ stood_memory (standingAfter text ms c) cs q.stood
+      ∙ stood_memory (standing_after text ms c) cs q.stood
       ∙ ap (λ (g : Game). game_memory (played g cs).board) (sym q.game)
 
   stood_answers : (ms : List Item) (cs : List Call) → Stood text ms → memory_answers (game_memory (afresh text ms)) cs ≡ answers (game_of (afresh text ms)) cs
@@ -91,7 +91,7 @@ module _ (text : List ℕ) (loads : (load_text text).answer ≡ 0) where
       let q = same text loads ms c s in
       let rest =
       ap (λ (m : Memory). memory_answers m cs) (stood_made ms c s)
-      ∙ stood_answers (standingAfter text ms c) cs q.stood
+      ∙ stood_answers (standing_after text ms c) cs q.stood
       ∙ ap (λ (g : Game). answers g cs) (sym q.game) in
       λ i. made_answer (afresh text ms) (stood_board ms s) c i ∷ rest i
 

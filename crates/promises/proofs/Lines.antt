@@ -22,7 +22,7 @@ use Rattle.play_lines.specs.Orders.{Order, call, other, order_of}
 use Rattle.play_session.specs.Replies.{replied, behind_zero, reply_text, replies_from, play_output}
 use Rattle.play_session.proofs.Lines.{reply_alone}
 use Rattle.theorem_keep.proofs.Standing.{Standing}
-use Rattle.theorem_list.specs.Player.{Item, ending, is_over, listed_all, afresh, says_to, standingAfter}
+use Rattle.theorem_list.specs.Player.{Item, ending, is_over, listed_all, afresh, says_to, standing_after}
 use Rattle.theorem_list.proofs.Stands.{over_ending, none, Stood, going, over, stands_standing}
 use Rattle.theorem_list.proofs.EveryList.{same}
 use Rattle.theorem_list.proofs.Reports.{finished_reported}
@@ -71,9 +71,9 @@ module _ (text : List ℕ) (loads : (load_text text).answer ≡ 0) where
   unfolding said replied
   line-said ms st (call c) s ih =
       let q = same text loads ms c st in
-      let board : (made (game_of (afresh text ms)) c).game.board ≡ afresh text (standingAfter text ms c) = ap (λ (g : Game). g.board) q.game in
-      rw (call_told ms c st, board, ih (standingAfter text ms c) q.stood)
-      (append_assoc (number_line (says_to text ms c)) (pick (eqb (says_to text ms c) 0) (shown (afresh text ms) c) []) (said text (standingAfter text ms c) (orders_from [] s)))
+      let board : (made (game_of (afresh text ms)) c).game.board ≡ afresh text (standing_after text ms c) = ap (λ (g : Game). g.board) q.game in
+      rw (call_told ms c st, board, ih (standing_after text ms c) q.stood)
+      (append_assoc (number_line (says_to text ms c)) (pick (eqb (says_to text ms c) 0) (shown (afresh text ms) c) []) (said text (standing_after text ms c) (orders_from [] s)))
   line-said ms st other s ih = rw (reply_alone (afresh text ms) other refl, ih ms st)
 
   lines-said : (l s : List ℕ) (ms : List Item) → Stood text ms → replies_from (afresh text ms) l s ≡ said text ms (orders_from l s)

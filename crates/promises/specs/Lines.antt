@@ -9,7 +9,7 @@ use Rattle.report.specs.Reports.{report_text}
 use Rattle.sheet_output.specs.Outputs.{number_line}
 use Rattle.play_lines.specs.Orders.{Order, call, other, order_of}
 use Rattle.play_lines.specs.MoveLines.{hint_line}
-use Rattle.theorem_list.specs.Player.{Item, afresh, says_to, standingAfter}
+use Rattle.theorem_list.specs.Player.{Item, afresh, says_to, standing_after}
 
 -- what the lines s ask for, where the bytes l of the first of them were read before: a call or nothing; a last line without its line feed is of another form
 unfoldable pub orders_from : List ℕ → List ℕ → List Order
@@ -28,5 +28,5 @@ shown b finish = report_text (finish_call b).board
 unfoldable pub said : List ℕ → List Item → List Order → List ℕ
 said text ms [] = []
 said text ms (call c ∷ os) =
-    number_line (says_to text ms c) ++ (pick (eqb (says_to text ms c) 0) (shown (afresh text ms) c) [] ++ said text (standingAfter text ms c) os)
+    number_line (says_to text ms c) ++ (pick (eqb (says_to text ms c) 0) (shown (afresh text ms) c) [] ++ said text (standing_after text ms c) os)
 said text ms (other ∷ os) = number_line 1 ++ said text ms os

@@ -28,8 +28,8 @@ load_row b = load_row_in (acyclic_flow b) (load b)
 
 -- `R,mills,channels`, then a line for each terminal and one for each edge: by the two counts and the rows, and of a board
 abbrev pub report_text_in : ℕ → ℕ → (ℕ → List ℕ) → (ℕ → List ℕ) → List ℕ
-report_text_in terminals edges routeRows loadRows =
-    line_text 82 (terminals ∷ edges ∷ []) ++ (lines_text 77 routeRows 0 terminals ++ lines_text 76 loadRows 0 edges)
+report_text_in terminals edges route_rows load_rows =
+    line_text 82 (terminals ∷ edges ∷ []) ++ (lines_text 77 route_rows 0 terminals ++ lines_text 76 load_rows 0 edges)
 
 unfoldable pub report_text : Board → List ℕ
 report_text b = report_text_in b.network.terminals b.network.edges (route_row b) (load_row b)

@@ -28,8 +28,8 @@ pub data Act : Type 0 where
 
 -- the number that a move is refused with, 0 where it is accepted; and what it changes
 abbrev pub judge_in : Bool → Network → List ℕ → ℕ → List ℕ → Act → ℕ
-judge_in inPlay net flows marks places (relocate i e) = carry_refusal_in inPlay net flows marks places i e
-judge_in inPlay net flows marks places (augment w) = turn_refusal_in inPlay (some_open_in net flows marks places) net flows w
+judge_in in_play net flows marks places (relocate i e) = carry_refusal_in in_play net flows marks places i e
+judge_in in_play net flows marks places (augment w) = turn_refusal_in in_play (some_open_in net flows marks places) net flows w
 
 abbrev pub acted_in : Network → List ℕ → ℕ → List ℕ → Act → Change
 acted_in net flows marks places (relocate i e) = carried_in net flows marks places i e

@@ -37,25 +37,25 @@ module _ (x n : ℕ) (rs : List Range) (k i at : ℕ) (s : List ℕ) (f : List (
       (sym (lines_turn x rs (k - suc i) (drop at s) f (take n l.values) (drop l.used (drop at s)) (sym next ∙ answer_read_got _ _ _ _ z)) ∙ more)
 
 -- the same where the lines are stored: out is the network so far, next the one with the line just read
-module _ (x n : ℕ) (rangesOf : Network → List Range) (place : Network → ℕ → List (List ℕ) → Network)
-    (same-ranges : (net : Network) (i : ℕ) (row : List ℕ) → rangesOf (place net i (row ∷ [])) ≡ rangesOf net)
+module _ (x n : ℕ) (ranges_of : Network → List Range) (place : Network → ℕ → List (List ℕ) → Network)
+    (same-ranges : (net : Network) (i : ℕ) (row : List ℕ) → ranges_of (place net i (row ∷ [])) ≡ ranges_of net)
     (one_more : (net : Network) (i : ℕ) (row : List ℕ) (rows : List (List ℕ)) → place (place net i (row ∷ [])) (suc i) rows ≡ place net i (take n row ∷ rows))
   where
     abbrev pub storing : Network → ℕ → ℕ → List ℕ → Read Network
-    storing net i k s = then (lines x (rangesOf net) k s) (λ rows s1. got (place net i rows) s1)
+    storing net i k s = then (lines x (ranges_of net) k s) (λ rows s1. got (place net i rows) s1)
 
     module _ (out next : Network) (ranges : List Range) (k i at : ℕ) (s : List ℕ) (total : Read Network)
-        (inv : storing out i (k - i) (drop at s) ≡ total) (h : i < k) (l : Line) (rs : take n ranges ≡ rangesOf out)
+        (inv : storing out i (k - i) (drop at s) ≡ total) (h : i < k) (l : Line) (rs : take n ranges ≡ ranges_of out)
         (was_read : line_read n l (take (length s - at) (drop at s)) ≡ line x (take n ranges) (take (length s - at) (drop at s))) where
-      the_line : line_read n l (take (length s - at) (drop at s)) ≡ line x (rangesOf out) (take (length s - at) (drop at s))
+      the_line : line_read n l (take (length s - at) (drop at s)) ≡ line x (ranges_of out) (take (length s - at) (drop at s))
       the_line = rw rs at was_read
 
       pub storing_stop : (l.answer ≡ 0 → ⊥) → refused l.answer ≡ total
-      storing_stop = lines_step_stop x n (rangesOf out) k i at s _ total inv h l the_line
+      storing_stop = lines_step_stop x n (ranges_of out) k i at s _ total inv h l the_line
 
       pub storing_step : l.answer ≡ 0 → next ≡ place out i (l.values ∷ []) → storing next (i + 1) (k - (i + 1)) (drop (at + l.used) s) ≡ total
       storing_step z e =
-          let t = lines_step x n (rangesOf out) k i at s (λ rows s1. got (place out i rows) s1) total inv h l the_line z in
+          let t = lines_step x n (ranges_of out) k i at s (λ rows s1. got (place out i rows) s1) total inv h l the_line z in
           simp (e, add-one i, same-ranges, one_more) (simp (add-one i) at t)
 
 -- a row's first numbers are those of all its values

@@ -32,8 +32,8 @@ balanced net = balanced_in (inflow net) (λ v. outflow net v + demand_at net v) 
 
 -- 2: the numbers of an edge are in their ranges; those of a place past the edges are 0
 abbrev pub edge_numbers_fit : Bool → ℕ → ℕ → ℕ → ℕ → Bool
-edge_numbers_fit isEdge tail head flow vertices =
-    pick isEdge (both (ltb tail vertices) (both (ltb head vertices) (leb flow max_flow))) (both (eqb tail 0) (both (eqb head 0) (eqb flow 0)))
+edge_numbers_fit is_edge tail head flow vertices =
+    pick is_edge (both (ltb tail vertices) (both (ltb head vertices) (leb flow max_flow))) (both (eqb tail 0) (both (eqb head 0) (eqb flow 0)))
 
 -- the same at place i of a network
 abbrev pub edge_fits : Network → ℕ → Bool
@@ -41,8 +41,8 @@ edge_fits net i = edge_numbers_fit (ltb i net.edges) (get_or net.tails i 0) (get
 
 -- 2: the numbers of a terminal are in their ranges; those of a place past the terminals are 0
 abbrev pub terminal_numbers_fit : Bool → ℕ → ℕ → ℕ → Bool
-terminal_numbers_fit isTerminal home demand vertices =
-    pick isTerminal (both (ltb home vertices) (both (leb 1 demand) (leb demand max_flow))) (both (eqb home 0) (eqb demand 0))
+terminal_numbers_fit is_terminal home demand vertices =
+    pick is_terminal (both (ltb home vertices) (both (leb 1 demand) (leb demand max_flow))) (both (eqb home 0) (eqb demand 0))
 
 -- the same at place j of a network
 abbrev pub terminal_fits : Network → ℕ → Bool

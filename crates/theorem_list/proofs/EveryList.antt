@@ -32,7 +32,7 @@ use Rattle.theorem_keep.proofs.Standing.{Standing, standing-playing, standing-lo
 use Rattle.checkpoints.specs.Games.{Game, game_of, Reply}
 use Rattle.move_list.specs.Calls.{Call, carry, turn, undo, hint, finish, call_for, reply_of, reply_of_finish, made, played, answers, hint_given, hints_of}
 use Rattle.journal.specs.Words.{no_words, packed_all}
-use Rattle.move_list.specs.Words.{wordsPlayed}
+use Rattle.move_list.specs.Words.{words_played}
 use Rattle.theorem_list.specs.Player.{
   Item,
   act,
@@ -42,7 +42,7 @@ use Rattle.theorem_list.specs.Player.{
   afresh,
   says_to,
   standing_with,
-  standingAfter,
+  standing_after,
   standing_moves,
   says,
   suggests,

@@ -31,7 +31,7 @@ use Rattle.theorem_list.specs.Player.{
   afresh,
   says_to,
   standing_with,
-  standingAfter,
+  standing_after,
   standing_moves,
   says,
   expanded_from,
@@ -86,13 +86,13 @@ module _ (text : List ℕ) where
       go (was_false t) = rw (pick_no (eqb (judge (afresh text ms) a) 0) (ms ++ (act a ∷ [])) ms t) h
 
   -- undo takes one away
-  back_open : (ms : List Item) → Stands text ms → is_over (standingAfter text ms undo) ≡ false
-  unfolding standingAfter is_over
+  back_open : (ms : List Item) → Stands text ms → is_over (standing_after text ms undo) ≡ false
+  unfolding standing_after is_over
   back_open ms none = refl
   back_open all (more ms a s h q) = rw (q, without_last ms (act a)) (stands_open text ms s)
 
-  still_open : (ms : List Item) (c : Call) (cs : List Call) → Stands text ms → no_finish (c ∷ cs) ≡ true → is_over (standingAfter text ms c) ≡ false
-  unfolding standingAfter no_finish
+  still_open : (ms : List Item) (c : Call) (cs : List Call) → Stands text ms → no_finish (c ∷ cs) ≡ true → is_over (standing_after text ms c) ≡ false
+  unfolding standing_after no_finish
   still_open ms (carry i e) cs s h = with_open ms (relocate i e) (stands_open text ms s)
   still_open ms (turn w) cs s h = with_open ms (augment w) (stands_open text ms s)
   still_open ms undo cs s h = back_open ms s
@@ -113,21 +113,21 @@ module _ (text : List ℕ) where
   stood_stands all (over ms s q) h = absurd (true≢false (sym (over_ending ms) ∙ sym (ap is_over q) ∙ h))
 
 module _ (text : List ℕ) (loads : (load_text text).answer ≡ 0) where
-  next_stands : (ms : List Item) (c : Call) (cs : List Call) → Stands text ms → no_finish (c ∷ cs) ≡ true → Stands text (standingAfter text ms c)
-  next_stands ms c cs s h = stood_stands text (standingAfter text ms c) (same text loads ms c (going s)).stood (still_open text ms c cs s h)
+  next_stands : (ms : List Item) (c : Call) (cs : List Call) → Stands text ms → no_finish (c ∷ cs) ≡ true → Stands text (standing_after text ms c)
+  next_stands ms c cs s h = stood_stands text (standing_after text ms c) (same text loads ms c (going s)).stood (still_open text ms c cs s h)
 
   all_open : (ms : List Item) (cs : List Call) → Stands text ms → no_finish cs ≡ true → is_over (standing_moves text ms cs) ≡ false
   unfolding standing_moves
   all_open ms [] s h = stands_open text ms s
-  all_open ms (c ∷ cs) s h = all_open (standingAfter text ms c) cs (next_stands ms c cs s h) (rest_unfinished text c cs h)
+  all_open ms (c ∷ cs) s h = all_open (standing_after text ms c) cs (next_stands ms c cs s h) (rest_unfinished text c cs h)
 
   none_over : (ms : List Item) (cs : List Call) → Stands text ms → no_finish cs ≡ true → has 20 (says text ms cs) ≡ false
   unfolding says has
   none_over ms [] s h = refl
   none_over ms (c ∷ cs) s h =
       let play = standing-playing (afresh text ms) (stands_standing text loads ms s) in
-      both_missed 20 (says_to text ms c) (says text (standingAfter text ms c) cs) (λ q. never_over text ms play (stands_open text ms s) c (sym q))
-      (none_over (standingAfter text ms c) cs (next_stands ms c cs s h) (rest_unfinished text c cs h))
+      both_missed 20 (says_to text ms c) (says text (standing_after text ms c) cs) (λ q. never_over text ms play (stands_open text ms s) c (sym q))
+      (none_over (standing_after text ms c) cs (next_stands ms c cs s h) (rest_unfinished text c cs h))
 
 pub unfinished_list : (text : List ℕ) (cs : List Call) → (load_text text).answer ≡ 0 → no_finish cs ≡ true → Unfinished text cs (played (game_of (load_text text).board) cs).board
 unfinished_list text cs loads h =
