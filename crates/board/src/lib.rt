@@ -1,4 +1,6 @@
 // The board record and its limits.
+#![tactic(auto)]
+
 ghost use Rattle.std.specs.Prelude.{◌≡◌};
 ghost use Rattle.sets.specs.Sets.{set_of};
 ghost use Rattle.board.specs.Record.{staged, blank, empty_network, closed_table};
@@ -7,7 +9,7 @@ ghost use Rattle.board.specs.Whole.{augmentation_of, entry_of};
 use sets::EdgeSet;
 
 // An accepted carry: the terminal was relocated over the edge, to its tail.
-#[derive(Drop)]
+#[derive(Clone, Copy)]
 pub struct Relocation {
     pub terminal: u32,
     pub edge: u32,
@@ -15,7 +17,7 @@ pub struct Relocation {
 
 // An accepted turn: along a cycle the flow fell by the amount on `down` and rose on `up`; `marked` are the edges it
 // newly marked.
-#[derive(Drop)]
+#[derive(Clone, Copy)]
 pub struct Augmentation {
     pub amount: u32,
     pub down: EdgeSet,
@@ -23,20 +25,20 @@ pub struct Augmentation {
     pub marked: EdgeSet,
 }
 
-#[derive(Drop)]
+#[derive(Clone, Copy)]
 pub enum Move {
     Carry(Relocation),
     Turn(Augmentation),
 }
 
 // A place of the journal.
-#[derive(Drop)]
+#[derive(Clone, Copy)]
 pub struct Entry {
     pub step: Move,
 }
 
 // What a board text says. Places past the counts hold 0.
-#[derive(Drop)]
+#[derive(Clone, Copy)]
 pub struct Network {
     pub vertices: u32,
     pub edges: u32,
@@ -51,7 +53,7 @@ pub struct Network {
 
 // A board in play: the network, the flow without its cycles, the flow now, the marked edges, where each terminal is,
 // and how many moves stand. The moves are in the journal, which is lent beside it (crates/journal).
-#[derive(Drop)]
+#[derive(Clone, Copy)]
 pub struct Board {
     pub stage: u32,
     pub network: Network,
@@ -66,7 +68,7 @@ pub struct Board {
 
 // What a call on a board gives: 0 and the board after it; or the number that the call is refused with, and the board as
 // it was.
-#[derive(Drop)]
+#[derive(Clone, Copy)]
 pub struct Played {
     pub answer: u32,
     pub board: Board,

@@ -1,5 +1,7 @@
 // The engine as C links it: the calls over the parts of a game's memory. library/vulprow.c has the functions of
 // include/vulprow.h, each of which makes one of these calls.
+#![tactic(auto)]
+
 ghost use Rattle.std.specs.Prelude.{◌≡◌, length};
 ghost use Rattle.text.specs.Results.{write_text, written};
 ghost use Rattle.load.specs.Load.{load_text};

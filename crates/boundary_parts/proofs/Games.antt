@@ -18,8 +18,7 @@ use Rattle.journal.specs.Words.{standing, journal_of, words_after, packed_all}
 use Rattle.journal.proofs.Laws.{Fits, unpacked-packed}
 use Rattle.move_cycle.specs.Steps.{steps_of, code_step, code_steps, up_from}
 use Rattle.move_cycle.proofs.Codes.{step_byte_lem}
-use Rattle.checkpoints.specs.Games.{game_of}
-use Rattle.move_list.specs.Calls.{Call, carry, turn, undo, hint, finish, made}
+use Rattle.move_list.specs.Calls.{Call, carry, turn, undo, hint, finish, game_of, made}
 use Rattle.move_list.proofs.Worded.{made_kept}
 use Rattle.boundary_parts.specs.Memory.{Memory, board_of, stage_read, version_of, memory_of, memory_after}
 use Rattle.boundary_parts.specs.Shown.{byte_at}

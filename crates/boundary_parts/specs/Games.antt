@@ -4,8 +4,7 @@ use Rattle.sets.specs.Sets.{none}
 use Rattle.board.specs.Limits.{max_edges, max_terminals}
 use Rattle.board.specs.Whole.{Board}
 use Rattle.journal.specs.Words.{no_words, packed_all}
-use Rattle.checkpoints.specs.Games.{game_of}
-use Rattle.move_list.specs.Calls.{Call, carry, turn, undo, hint, finish, made}
+use Rattle.move_list.specs.Calls.{Call, carry, turn, undo, hint, finish, game_of, made}
 use Rattle.boundary_parts.specs.Memory.{Memory, board_of, memory_of, memory_after}
 
 -- a game of zeros

@@ -1,4 +1,6 @@
 // A game's memory, as C lends it, and the rows of what calls give.
+#![tactic(auto)]
+
 ghost use Rattle.std.specs.Prelude.{◌≡◌, [], map, length};
 ghost use Rattle.board.specs.Limits.{max_edges};
 ghost use Rattle.board.specs.Whole.{Carry, Turn, relocation_of, augmentation_of, move_of};
@@ -178,7 +180,7 @@ pub fn store(
 // ---- The rows of what calls give.
 
 // The edges of a set by ascending number, and of each whether it is in another set; zeros behind them.
-#[derive(Drop)]
+#[derive(Clone, Copy)]
 pub struct EdgeList {
     pub count: u32,
     pub edges: [u32; Board::MAX_EDGES],

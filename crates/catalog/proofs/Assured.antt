@@ -5,8 +5,7 @@ use Prim.Native.Nat.{ℕ, ◌<◌}
 use lib.ListN.{length, take}
 use Rattle.load.specs.Load.{load_text}
 use Rattle.load.proofs.Loads.{load_answer}
-use Rattle.checkpoints.specs.Games.{game_of}
-use Rattle.move_list.specs.Calls.{Call, played}
+use Rattle.move_list.specs.Calls.{Call, game_of, played}
 use Rattle.theorem_list.specs.Faithful.{Faithful}
 use Rattle.theorem_list.proofs.EveryList.{every_list}
 use Rattle.theorem_list.specs.Reported.{Printed}

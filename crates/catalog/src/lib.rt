@@ -1,4 +1,6 @@
 // The catalog: forty boards, and the call that writes the text of one of them.
+#![tactic(auto)]
+
 mod table;
 
 ghost use Rattle.std.specs.Prelude.{◌≡◌, ◌+◌, ◌*◌, ◌≤◌, length, drop};

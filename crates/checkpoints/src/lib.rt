@@ -1,4 +1,6 @@
 // Checkpoints: the calls `keep`, `back` and `restart`. A checkpoint is a whole board that is kept under a letter.
+#![tactic(auto)]
+
 ghost use Rattle.std.specs.Prelude.{◌≡◌, List, ℕ, length};
 ghost use Rattle.board.specs.Limits.{max_moves};
 ghost use Rattle.journal.specs.Words.{whole_of, no_words};
@@ -48,7 +50,7 @@ pub fn keep_refusal(board: Board, journal: &[[u64; WORDS]; Board::JOURNAL], lett
 }
 
 // What `keep` gives: its answer, and what is kept then.
-#[derive(Drop)]
+#[derive(Clone, Copy)]
 pub struct Kept {
     pub answer: u32,
     pub checkpoints: [Board; LETTERS],
@@ -151,7 +153,7 @@ pub fn back(
 }
 
 // What `restart` gives: the answer of the load, its board, and what is kept then: nothing.
-#[derive(Drop)]
+#[derive(Clone, Copy)]
 pub struct Restarted {
     pub answer: u32,
     pub board: Board,

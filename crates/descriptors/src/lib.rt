@@ -1,4 +1,6 @@
 // What the programs do with descriptors: bytes are handed on, and what the library answers is printed.
+#![tactic(auto)]
+
 ghost use Rattle.std.specs.Prelude.{◌≡◌, true, ◌≤◌, length};
 ghost use Rattle.std.proofs.lemmas.List.Edits.{sets};
 ghost use Rattle.sheet_output.specs.Outputs.{sheet_output};
@@ -12,7 +14,7 @@ use libc::STDOUT_FILENO;
 use play_session::Session;
 
 // A session behind a piece of its input, how many bytes of the piece it took, and whether what it said was printed.
-#[derive(Drop)]
+#[derive(Clone, Copy)]
 struct Handed {
     session: Session,
     taken: usize,
@@ -20,7 +22,7 @@ struct Handed {
 }
 
 // A session, and whether it goes on: what it said was printed, and its board was not refused.
-#[derive(Drop)]
+#[derive(Clone, Copy)]
 pub struct Served {
     pub session: Session,
     pub going: bool,

@@ -1,5 +1,7 @@
 // Reachability over positive edges, over plain slices: edge e leads from from[e] to to[e]. A set of vertices has a bool
 // for each; a bitset has a bit.
+#![tactic(auto)]
+
 ghost use Rattle.std.specs.Prelude.{◌≡◌, true, false, ℕ, ◌<◌, ◌≤◌, ltb, get_or, set, length, replicate};
 ghost use Rattle.lists.specs.Choice.{pick};
 ghost use Rattle.sets.specs.Sets.{none, with_bit, joined, collect, set_of};

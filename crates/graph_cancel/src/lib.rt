@@ -1,5 +1,7 @@
 // Cycle cancelling, over plain slices: edge e goes from tails[e] to heads[e], and a set of vertices has a bool for
 // each, a bitset a bit.
+#![tactic(auto)]
+
 ghost use Rattle.std.specs.Prelude.{◌≡◌, true, [], ℕ, ◌+◌, ◌≤◌, ◌<◌, ltb, length, take, drop, get_or};
 ghost use Rattle.lists.specs.Choice.{pick};
 ghost use Rattle.sets.specs.Sets.{has_bit, with_bit};
@@ -15,7 +17,7 @@ use sets::VertexSet;
 // ---- The lowest vertex on a cycle of positive edges, and the walk from it.
 
 // A part of a slice: where it starts, and how long it is.
-#[derive(Drop)]
+#[derive(Clone, Copy)]
 pub struct Span {
     pub from: usize,
     pub count: usize,

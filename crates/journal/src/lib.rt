@@ -1,4 +1,6 @@
 // The journal as words that the caller lends.
+#![tactic(auto)]
+
 ghost use Rattle.std.specs.Prelude.{◌≡◌, [], ◌+◌, ◌-◌, ◌≤◌, get_or, set};
 ghost use Rattle.board.specs.Record.{blank};
 ghost use Rattle.board.specs.Limits.{max_moves};

@@ -124,7 +124,9 @@ without-length x [] d = omega arith
 without-length x (y ∷ ys) d = go (known (eqb x y)) (without-length x ys d.1)
   where
     go : Known (eqb x y) → length ys ≤ suc (length (without x ys)) → suc (length ys) ≤ suc (length (without x (y ∷ ys)))
-    go (was_true t) ih = let q = eqb-true x y t in rw (t, without, q, without_absent y ys d.0) (omega arith)
+    go (was_true t) ih =
+        let absent : without x ys ≡ ys = ap (λ (z : ℕ). without z ys) (eqb-true x y t) ∙ without_absent y ys d.0 in
+        rw (t, without, absent) (omega arith)
     go (was_false t) ih = rw (t, without) (omega arith)
 
 pub pigeon : (n : ℕ) (xs : List ℕ) → Distinct xs → Below n xs → length xs ≤ n

@@ -1,4 +1,6 @@
 // Total access to slices, and the loops that more than one layer uses.
+#![tactic(auto)]
+
 ghost use Rattle.std.specs.Prelude.{◌≡◌, false, ◌-◌, get_or, set};
 ghost use Rattle.lists.specs.Choice.{both, either};
 ghost use Rattle.lists.specs.Lists.{index_of};

@@ -1,4 +1,6 @@
 // The call `load`.
+#![tactic(auto)]
+
 ghost use Rattle.std.specs.Prelude.{◌≡◌, ◌≤◌};
 ghost use Rattle.board.specs.Limits.{max_vertices};
 ghost use Rattle.journal.specs.Words.{no_words};
@@ -23,7 +25,7 @@ fn acyclic_flows(net: Network) -> [u32; Board::MAX_EDGES]
 
 // What a load gives: 0 and the board, ready to be played; or the number that the text is refused with, and the closed
 // board.
-#[derive(Drop)]
+#[derive(Clone, Copy)]
 pub struct Loaded {
     pub answer: u32,
     pub board: Board,

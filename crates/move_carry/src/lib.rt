@@ -1,4 +1,6 @@
 // Which flows a carry fits, and the call `carry`.
+#![tactic(auto)]
+
 ghost use Rattle.std.specs.Prelude.{◌≡◌, []};
 ghost use Rattle.sets.specs.Sets.{set_of};
 ghost use Rattle.board.specs.Whole.{entry_of};
@@ -13,7 +15,7 @@ use sets::EdgeSet;
 
 // The numbers that a move goes by, beside the lists of its board: the counts, the source, the marked edges, the
 // positive ones, and where the search for an open carry goes on: no terminal below `resume` has one.
-#[derive(Drop)]
+#[derive(Clone, Copy)]
 pub struct Frame {
     pub vertices: u32,
     pub edges: u32,

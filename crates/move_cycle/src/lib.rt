@@ -1,4 +1,6 @@
 // The steps of a turn, the amount that they allow, and the flows that they change.
+#![tactic(auto)]
+
 ghost use Rattle.std.specs.Prelude.{◌≡◌, ◌<◌, ◌≤◌, ltb, set};
 ghost use Rattle.graph_flows.specs.Trails.{down, up, edge_of, start_of, end_of};
 ghost use Rattle.move_cycle.specs.Steps.{

@@ -1,15 +1,13 @@
 -- Why the loop over the positive edges that are not marked finds the fresh ones. At any time an edge is fresh where it is in the set found so far, or is still
 -- to be looked at and singular. One turn looks at one edge, which joins the set where it is singular; at the end none is left.
-use mathlib.Core.Path.{◌≡◌, refl, sym, ap, ◌∙◌}
-use mathlib.Core.Bool.{Bool, true, false, not, true≢false}
+use mathlib.Core.Path.{◌≡◌, refl, sym, ◌∙◌}
+use mathlib.Core.Bool.{Bool, true, false, not}
 use mathlib.Core.Logic.{◌⊎◌, inl, inr, ◌≢◌}
-use Prim.Native.Nat.{ℕ, ◌+◌, ◌-◌, ◌<◌, ◌≤◌, ◌^◌}
-use native.Mathlib.Omega.{arith}
+use Prim.Native.Nat.{ℕ, ◌<◌, ◌≤◌, ◌^◌}
 use lib.Dec.{ltb}
-use borrow.Author.Tests.{lt-ltb, le-ltb, ltb-true, eq-eqb, ne_eqb}
+use borrow.Author.Tests.{lt-ltb, le-ltb, eq-eqb, ne_eqb}
 use Rattle.lists.specs.Choice.{pick, both, either}
-use Rattle.lists.specs.Lists.{lowest}
-use Rattle.lists.proofs.Laws.{Known, was_true, was_false, known, lt_or_ge, eq_or_ne, pick_yes, pick_no, both_left, both_right, both_true}
+use Rattle.lists.proofs.Laws.{Known, was_true, was_false, known, lt_or_ge, eq_or_ne, pick_yes, pick_no}
 use Rattle.sets.specs.Sets.{none, has_bit, with_bit, without, collect}
 use Rattle.sets.specs.Inner.{set_width, dropped}
 use Rattle.sets.proofs.Bits.{has_past, has-none, has_with_same, has_with_other}

@@ -1,7 +1,7 @@
 -- The lowest edge of the set that the code looks at is the one that the search over all edges finds. Where the set is empty the search finds none; and where
 -- the set without its lowest edge is empty, the search from the next edge on finds none: any edge of the set but the lowest is above it.
 use mathlib.Core.Path.{◌≡◌, sym, ap, ◌∙◌}
-use mathlib.Core.Bool.{Bool, true, false, not, true≢false}
+use mathlib.Core.Bool.{Bool, true, not, true≢false}
 use mathlib.Core.List.{List}
 use mathlib.Core.Logic.{◌⊎◌, inl, inr, ◌≢◌}
 use Prim.Native.Nat.{ℕ, suc, ◌+◌, ◌-◌, ◌<◌, ◌≤◌, ◌^◌}

@@ -1,4 +1,6 @@
 // The edges at a vertex as sets, which edges are singular, and which ones a turn marks newly.
+#![tactic(auto)]
+
 ghost use Rattle.std.specs.Prelude.{◌≡◌, ◌<◌, get_or, set};
 ghost use Rattle.sets.specs.Sets.{none, with_bit, collect, set_of};
 ghost use Rattle.sets.specs.Inner.{set_width, sets_of};

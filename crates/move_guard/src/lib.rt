@@ -1,4 +1,6 @@
 // Which boards a call of play works on.
+#![tactic(auto)]
+
 ghost use Rattle.std.specs.Prelude.{◌≡◌, ◌-◌, ◌≤◌, leb, ltb, eqb};
 ghost use Rattle.journal.specs.Words.{whole_of};
 ghost use Rattle.lists.specs.Choice.{pick};

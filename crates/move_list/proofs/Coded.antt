@@ -17,8 +17,7 @@ use Rattle.board.specs.Whole.{Board}
 use Rattle.solve_next.specs.declared.Advice.{Advice}
 use Rattle.solve_next.specs.declared.Suggestion.{Suggestion}
 use Rattle.solve_next.specs.Hints.{hint_call}
-use Rattle.checkpoints.specs.Games.{Game, Reply}
-use Rattle.move_list.specs.Calls.{Call, hint, made, played, answers, hint_given, hints_of, advice_code, advice_width, behind, noted}
+use Rattle.move_list.specs.Calls.{Call, hint, Game, Reply, made, played, answers, hint_given, hints_of, advice_code, advice_width, behind, noted}
 use Rattle.move_list.specs.Codes.{part, call_of, calls_of}
 
 -- the steps of a turn

@@ -1,4 +1,4 @@
--- A refused call gives the board as it was, and what is kept.
+-- A refused call gives the board as it was.
 use mathlib.Core.Path.{◌≡◌, refl, sym, ap, ◌∙◌}
 use mathlib.Core.Logic.{◌≢◌}
 use Prim.Native.Nat.{ℕ}
@@ -10,9 +10,7 @@ use Rattle.move_carry.specs.Carries.{carry_refusal, carried, carry_call}
 use Rattle.move_turn.specs.Turns.{turn_refusal, turned, turn_call}
 use Rattle.move_undo.specs.Undone.{undo_refusal, undo_call}
 use Rattle.solve_finish.specs.Finishes.{Finished, finish_refusal, finish_call}
-use Rattle.checkpoints.specs.Games.{Game, Reply, settled, checkpoint_at, with_checkpoint, back_at, keep_refusal, keep_call, back_refusal, back_call}
-use Rattle.checkpoints.specs.Letters.{letter_of}
-use Rattle.move_list.specs.Calls.{Call, carry, turn, undo, hint, finish, keep, back, with_board, made}
+use Rattle.move_list.specs.Calls.{Call, carry, turn, undo, hint, finish, Game, game_of, made}
 
 pub refused_same : (n : ℕ) (b next : Board) → (answered n b next).answer ≢ 0 → (answered n b next).board ≡ b
 unfolding answered
@@ -32,20 +30,10 @@ finish_same b h = go (known (eqb (finish_refusal b) 0))
         let same = pick_no (eqb (finish_refusal b) 0) _ _ t in
         same ∙ (λ j. record { answer = ap (λ (f : Finished). f.answer) (sym same) j; count = 0; board = b })
 
-pub settled_same : (n : ℕ) (g next : Game) → (settled n g next).answer ≢ 0 → (settled n g next).game ≡ g
-unfolding settled
-settled_same n g next h = go (known (eqb n 0))
-  where
-    go : Known (eqb n 0) → (settled n g next).game ≡ g
-    go (was_true t) = absurd (h (ap (λ (r : Reply). r.answer) (pick_yes (eqb n 0) _ _ t)))
-    go (was_false t) = ap (λ (r : Reply). r.game) (pick_no (eqb n 0) _ _ t)
-
 pub call_same : (g : Game) (c : Call) → (made g c).answer ≢ 0 → (made g c).game ≡ g
-unfolding carry_call turn_call undo_call keep_call back_call
-call_same g (carry i e) h = ap (with_board g) (refused_same (carry_refusal g.board i e) g.board (carried g.board i e) h)
-call_same g (turn w) h = ap (with_board g) (refused_same (turn_refusal g.board w) g.board (turned g.board w) h)
-call_same g undo h = ap (with_board g) (refused_same (undo_refusal g.board) g.board _ h)
+unfolding carry_call turn_call undo_call
+call_same g (carry i e) h = ap game_of (refused_same (carry_refusal g.board i e) g.board (carried g.board i e) h)
+call_same g (turn w) h = ap game_of (refused_same (turn_refusal g.board w) g.board (turned g.board w) h)
+call_same g undo h = ap game_of (refused_same (undo_refusal g.board) g.board _ h)
 call_same g hint h = refl
-call_same g finish h = ap (λ (f : Finished). with_board g f.board) (finish_same g.board h)
-call_same g (keep l) h = settled_same (keep_refusal g.board l) g (with_checkpoint g (letter_of l)) h
-call_same g (back l) h = settled_same (back_refusal g.board (checkpoint_at g (letter_of l)) l) g (back_at g (letter_of l)) h
+call_same g finish h = ap (λ (f : Finished). game_of f.board) (finish_same g.board h)

@@ -15,43 +15,46 @@ use Rattle.solve_next.specs.Choosing.{Act, relocate, augment}
 use Rattle.solve_next.specs.Hints.{hint_refusal, hint_call}
 use Rattle.solve_finish.specs.Finishes.{Finished}
 use Rattle.solve_finish.specs.Finishes.{finish_call}
-use Rattle.checkpoints.specs.Games.{Game, Reply, keep_call, back_call}
 
--- a call with its arguments: a carry of a terminal over an edge, a turn along steps, an undo, a hint, a finish; a keep and a back, each with its letter
+-- a call with its arguments: a carry of a terminal over an edge, a turn along steps, an undo, a hint, or a finish
 pub data Call : Type 0 where
   carry : ℕ → ℕ → Call
   turn : List Step → Call
   undo : Call
   hint : Call
   finish : Call
-  keep : ℕ → Call
-  back : ℕ → Call
 
 -- the call that makes a move
 abbrev pub call_for : Act → Call
 call_for (relocate i e) = carry i e
 call_for (augment w) = turn w
 
--- a game with another board: the checkpoints stay
-abbrev pub with_board : Game → Board → Game
-with_board g b = record { board = b; checkpoints = g.checkpoints }
+-- what calls are made on, and what a list of calls hands on from one to the next
+pub record Game : Type 0 where
+  pub board : Board
 
-abbrev pub reply_of : Game → Played → Reply
-reply_of g p = record { answer = p.answer; game = with_board g p.board }
+abbrev pub game_of : Board → Game
+game_of b = record { board = b }
 
-abbrev pub reply_of_finish : Game → Finished → Reply
-reply_of_finish g f = record { answer = f.answer; game = with_board g f.board }
+-- what one call gives: its number, and the game after it
+pub record Reply : Type 0 where
+  pub answer : ℕ
+  pub game : Game
+
+abbrev pub reply_of : Played → Reply
+reply_of p = record { answer = p.answer; game = game_of p.board }
+
+abbrev pub reply_of_finish : Finished → Reply
+reply_of_finish f = record { answer = f.answer; game = game_of f.board }
 
 abbrev pub made : Game → Call → Reply
-made g (carry i e) = reply_of g (carry_call g.board i e)
-made g (turn w) = reply_of g (turn_call g.board w)
-made g undo = reply_of g (undo_call g.board)
+made g (carry i e) = reply_of (carry_call g.board i e)
+made g (turn w) = reply_of (turn_call g.board w)
+made g undo = reply_of (undo_call g.board)
 made g hint = record { answer = hint_refusal g.board; game = g }
-made g finish = reply_of_finish g (finish_call g.board)
-made g (keep letter) = keep_call g letter
-made g (back letter) = back_call g letter
+made g finish = reply_of_finish (finish_call g.board)
 
--- "Each call gets the board as the call before it gave or left it"; "each call getting the letters as the call before left them"
+-- "Each call gets the board as the call before it gave or left it"
 unfoldable pub played : Game → List Call → Game
 played g [] = g
 played g (c ∷ cs) = played (made g c).game cs
@@ -67,8 +70,6 @@ hint_given b (turn w) = []
 hint_given b undo = []
 hint_given b hint = hint_call b ∷ []
 hint_given b finish = []
-hint_given b (keep letter) = []
-hint_given b (back letter) = []
 
 unfoldable pub hints_of : Game → List Call → List Suggestion
 hints_of g [] = []

@@ -76,12 +76,12 @@ module _ (b : Board) (w : List Step) (c : Change) (e : c ≡ turn_made b w) wher
   by_change = ap (changed b) e ∙ sym (turn_changes b w)
 
   pub turn_refused : c.answer ≢ 0 → numbered c b ≡ turn_call b w
-  turn_refused h = stores.change-refused b c h ∙ by_change
+  turn_refused h = stores.change_refused b c h ∙ by_change
 
   turn_change-made : c.answer ≡ 0 → numbered c (moved b c.flows c.marks b.places c.entry) ≡ turn_call b w
   turn_change-made h =
       let kept : c.places ≡ b.places = ap (λ (k : Change). k.places) e ∙ change_places _ _ _ _ _ _ _ in
-      ap (λ (p : List ℕ). numbered c (moved b c.flows c.marks p c.entry)) (sym kept) ∙ stores.change-stored b c h ∙ by_change
+      ap (λ (p : List ℕ). numbered c (moved b c.flows c.marks p c.entry)) (sym kept) ∙ stores.change_stored b c h ∙ by_change
 
   -- the board's parts as the code stores them, the journal whole
   pub turn_stored : (j : List Entry) → c.answer ≡ 0 → j ≡ set b.journal b.moves c.entry

@@ -1,4 +1,6 @@
 // The call `turn`.
+#![tactic(auto)]
+
 ghost use Rattle.std.specs.Prelude.{◌≡◌, true, [], ◌-◌, ◌≤◌, ◌<◌, ltb, length, get_or, take};
 ghost use Rattle.sets.specs.Sets.{set_of};
 ghost use Rattle.sets.specs.Inner.{sets_of};
@@ -22,7 +24,7 @@ use move_cycle::StepCode;
 use sets::EdgeSet;
 
 // The rules that each step of a turn keeps.
-#[derive(Drop)]
+#[derive(Clone, Copy)]
 pub enum StepRule {
     OnBoard,
     Positive,
@@ -30,7 +32,7 @@ pub enum StepRule {
 }
 
 // What a turn gives beside the flows that it changes.
-#[derive(Drop)]
+#[derive(Clone, Copy)]
 pub struct Augmented {
     pub answer: u32,
     pub marks: EdgeSet,

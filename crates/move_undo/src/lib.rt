@@ -1,4 +1,6 @@
 // The call `undo`.
+#![tactic(auto)]
+
 ghost use Rattle.std.specs.Prelude.{◌≡◌, true, set};
 ghost use Rattle.board.specs.Record.{finished_stage};
 ghost use Rattle.move_guard.specs.Guard.{intact, loaded};

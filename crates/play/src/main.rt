@@ -1,4 +1,6 @@
 // Reads a board on standard input and then lines, and prints what each is answered with.
+#![tactic(auto)]
+
 ghost use Rattle.play_session.specs.Lent.{session_of};
 ghost use Rattle.descriptors.specs.Inner.{BehindPieces};
 

@@ -1,4 +1,6 @@
 // A line of a play, read byte by byte in fixed memory.
+#![tactic(auto)]
+
 ghost use Rattle.std.specs.Prelude.{◌≡◌, ◌+◌, ◌-◌, ◌*◌, ◌≤◌, min, leb, ltb, eqb, length};
 ghost use Rattle.std.proofs.lemmas.List.Edits.{sets};
 ghost use Rattle.lists.specs.Choice.{pick, both};
@@ -41,7 +43,7 @@ use solve_next::Advice;
 
 // A field as far as it was read: how many bytes, with 8 for more than 7, the first of them, whether all are digits, and
 // their number.
-#[derive(Drop)]
+#[derive(Clone, Copy)]
 pub struct Piece {
     pub size: u32,
     pub initial: u8,
@@ -52,7 +54,7 @@ pub struct Piece {
 // What the fields before it make: the kind of line; the numbers of a carry, or the edge of a step whose way is to come;
 // and the steps of a turn: how many, one more than there may be edges standing for all
 // above, their greatest edge, and the first of them.
-#[derive(Drop)]
+#[derive(Clone, Copy)]
 pub struct Form {
     pub kind: u32,
     pub first: u32,
@@ -63,7 +65,7 @@ pub struct Form {
 }
 
 // A line as far as it was read.
-#[derive(Drop)]
+#[derive(Clone, Copy)]
 pub struct Scan {
     pub form: Form,
     pub piece: Piece,

@@ -4,8 +4,7 @@ use Rattle.lists.specs.Choice.{pick}
 use Rattle.board.specs.Whole.{Board}
 use Rattle.board.specs.Whole.{Played}
 use Rattle.solve_next.specs.Hints.{hint_call}
-use Rattle.checkpoints.specs.Games.{game_of}
-use Rattle.move_list.specs.Calls.{made, carry, turn, undo, hint, finish}
+use Rattle.move_list.specs.Calls.{game_of, made, carry, turn, undo, hint, finish}
 use Rattle.solve_finish.specs.Finishes.{finish_call}
 use Rattle.load.specs.Load.{load_text}
 use Rattle.play_lines.specs.Orders.{Order, call, other, order_of}

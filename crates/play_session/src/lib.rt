@@ -1,4 +1,6 @@
 // The program `play` over pieces of its input.
+#![tactic(auto)]
+
 ghost use Rattle.std.specs.Prelude.{◌≡◌, false, List, ℕ, min, ◌+◌, ◌≤◌, leb, eqb, length};
 ghost use Rattle.std.proofs.lemmas.List.Edits.{sets};
 ghost use Rattle.lists.specs.Choice.{pick};
@@ -46,7 +48,7 @@ use solve_next::Suggestion;
 // The board is read, lines are played, or the board was refused; how many lines of the board are still to come, 0
 // before the first has ended; the text of the board as far as it is kept; the line as far as it was read; and the
 // board.
-#[derive(Drop)]
+#[derive(Clone, Copy)]
 pub struct Session {
     pub stage: u32,
     pub left: u32,
@@ -57,14 +59,14 @@ pub struct Session {
 }
 
 // The session behind a line feed, and how many bytes were printed.
-#[derive(Drop)]
+#[derive(Clone, Copy)]
 pub struct AfterLine {
     pub session: Session,
     pub used: usize,
 }
 
 // The session behind a piece of the input, how many bytes of the piece were taken, and how many were printed.
-#[derive(Drop)]
+#[derive(Clone, Copy)]
 pub struct Fed {
     pub session: Session,
     pub taken: usize,

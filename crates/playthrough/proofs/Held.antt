@@ -8,8 +8,7 @@ use lib.Seq.{sets}
 use Rattle.board.specs.Whole.{Board}
 use Rattle.load.specs.Load.{load_text}
 use Rattle.solve_next.specs.declared.Suggestion.{Suggestion}
-use Rattle.checkpoints.specs.Games.{game_of}
-use Rattle.move_list.specs.Calls.{Call, played, answers, hints_of, noted}
+use Rattle.move_list.specs.Calls.{Call, game_of, played, answers, hints_of, noted}
 use Rattle.theorem_list.specs.Faithful.{Faithful}
 use Rattle.solve_finish.proofs.Stepping.{finish_closed}
 use Rattle.theorem_list.proofs.EveryList.{every_list, off_stage}

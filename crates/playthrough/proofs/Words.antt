@@ -20,8 +20,7 @@ use Rattle.solve_finish.specs.Lent.{Ended}
 use Rattle.solve_finish.specs.Finishes.{played_out, finish_refusal, ended, finish_call}
 use Rattle.solve_finish.specs.Lent.{ended_of}
 use Rattle.solve_finish.proofs.Lent.{further_out, finish_packed}
-use Rattle.checkpoints.specs.Games.{game_of}
-use Rattle.move_list.specs.Calls.{Call, played}
+use Rattle.move_list.specs.Calls.{Call, game_of, played}
 use Rattle.move_list.specs.Words.{words_played}
 use Rattle.move_list.proofs.Worded.{Kept}
 use Rattle.theorem_list.proofs.Words.{calls_kept}

@@ -4,8 +4,7 @@ use Rattle.std.proofs.lemmas.List.Edits.{sets}
 use Rattle.board.specs.Whole.{Board}
 use Rattle.load.specs.Load.{load_text}
 use Rattle.solve_finish.specs.Finishes.{Finished, finish_call}
-use Rattle.checkpoints.specs.Games.{game_of}
-use Rattle.move_list.specs.Calls.{Call, played, noted}
+use Rattle.move_list.specs.Calls.{Call, game_of, played, noted}
 use Rattle.theorem_list.specs.Player.{is_over, standing_moves, says, suggests}
 use Rattle.theorem_list.specs.Complete.{Complete}
 use Rattle.theorem_list.specs.Faithful.{Faithful}

@@ -1,10 +1,11 @@
 // A whole play as one call: load, a list of calls, and a finish.
+#![tactic(auto)]
+
 ghost use Rattle.std.specs.Prelude.{◌≡◌};
 ghost use Rattle.std.proofs.lemmas.List.Edits.{sets};
 ghost use Rattle.journal.specs.Words.{packed_all};
 ghost use Rattle.load.specs.Load.{load_text};
-ghost use Rattle.checkpoints.specs.Games.{game_of};
-ghost use Rattle.move_list.specs.Calls.{answers, hints_of, noted};
+ghost use Rattle.move_list.specs.Calls.{game_of, answers, hints_of, noted};
 ghost use Rattle.move_list.specs.Codes.{calls_of};
 ghost use Rattle.playthrough.specs.Through.{outcome, Holds};
 ghost use Rattle.playthrough.specs.Lent.{outcome_of};
@@ -14,7 +15,7 @@ use journal::WORDS;
 use solve_finish::Finished;
 
 // What a whole play gives: the answer of the load, the board after the calls, and what the finish gave.
-#[derive(Drop)]
+#[derive(Clone, Copy)]
 pub struct Outcome {
     pub loading: u32,
     pub board: Board,

@@ -23,8 +23,7 @@ use Rattle.move_guard.specs.Guard.{loaded, playing}
 use Rattle.move_carry.specs.Opens.{some_open}
 use Rattle.move_cycle.specs.Steps.{steps_of, code_steps, codes_of}
 use Rattle.move_list.proofs.Refused.{call_same}
-use Rattle.checkpoints.specs.Games.{Game, game_of}
-use Rattle.move_list.specs.Calls.{Call, carry, turn, undo, hint, finish, made, played, answers}
+use Rattle.move_list.specs.Calls.{Call, carry, turn, undo, hint, finish, Game, game_of, made, played, answers}
 use Rattle.solve_walk.proofs.Packed.{cycle_short}
 use Rattle.solve_next.specs.declared.Advice.{Advice}
 use Rattle.solve_next.specs.Choosing.{Act, augment, all_home, judge, next_cycle, next_act, advice_of}

@@ -13,8 +13,7 @@ use Rattle.lists.proofs.Laws.{Known, was_true, was_false, known, pick_yes, pick_
 use Rattle.board.specs.Whole.{Board}
 use Rattle.load.specs.Load.{load_text}
 use Rattle.solve_finish.specs.Finishes.{finish_call}
-use Rattle.checkpoints.specs.Games.{Game, game_of}
-use Rattle.move_list.specs.Calls.{Call, carry, turn, undo, hint, finish, made}
+use Rattle.move_list.specs.Calls.{Call, carry, turn, undo, hint, finish, Game, game_of, made}
 use Rattle.report.specs.Reports.{report_text, unreported}
 use Rattle.sheet_output.specs.Inputs.{board_part, moves_part}
 use Rattle.sheet_output.specs.Outputs.{number_line, report_of}

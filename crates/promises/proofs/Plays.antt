@@ -11,8 +11,7 @@ use Rattle.board.specs.Record.{play_stage, finished_stage}
 use Rattle.board.specs.Whole.{Board}
 use Rattle.text.specs.Results.{read_text}
 use Rattle.load.specs.Load.{acyclic_of, load_text}
-use Rattle.checkpoints.specs.Games.{Game, game_of}
-use Rattle.move_list.specs.Calls.{Call, played}
+use Rattle.move_list.specs.Calls.{Call, Game, game_of, played}
 use Rattle.solve_finish.specs.Finishes.{Finished}
 use Rattle.solve_finish.specs.Finishes.{played_out, ended}
 use Rattle.theorem_keep.proofs.Standing.{Standing}

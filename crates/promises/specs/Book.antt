@@ -2,8 +2,7 @@
 -- met, each where it belongs. Demand 1 besides: no function traps, wraps or runs on, which is what the checker proves of each.
 use Rattle.std.specs.Prelude.{◌≡◌, true, ◌⊎◌, List, ℕ}
 use Rattle.load.specs.Load.{load_text}
-use Rattle.checkpoints.specs.Games.{game_of}
-use Rattle.move_list.specs.Calls.{Call, played}
+use Rattle.move_list.specs.Calls.{Call, game_of, played}
 use Rattle.theorem_list.specs.Faithful.{Faithful, no_finish, Unfinished}
 use Rattle.promises.specs.Plays.{OfPlay, OfFinish}
 use Rattle.promises.specs.Texts.{AboutTexts}

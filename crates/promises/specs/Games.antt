@@ -7,8 +7,7 @@ use Rattle.load.specs.Load.{load_text}
 use Rattle.move_guard.specs.Guard.{loaded}
 use Rattle.move_cycle.specs.Steps.{steps_of, code_steps}
 use Rattle.solve_next.specs.Hints.{hint_call}
-use Rattle.checkpoints.specs.Games.{game_of}
-use Rattle.move_list.specs.Calls.{Call, played, answers}
+use Rattle.move_list.specs.Calls.{Call, game_of, played, answers}
 use Rattle.boundary_parts.specs.Memory.{Memory, board_of, memory_loaded}
 use Rattle.boundary_parts.specs.Shown.{
   advice_numbers,

@@ -7,8 +7,7 @@ use Rattle.solve_next.specs.declared.Advice.{Advice}
 use Rattle.solve_next.specs.Choosing.{Act, no_kind, all_home, judge, acted, no_advice, act_of}
 use Rattle.solve_next.specs.Hints.{hint_call}
 use Rattle.solve_finish.specs.Finishes.{finish_call}
-use Rattle.checkpoints.specs.Games.{game_of}
-use Rattle.move_list.specs.Calls.{call_for, made}
+use Rattle.move_list.specs.Calls.{call_for, game_of, made}
 use Rattle.report.specs.Reports.{report_text}
 use Rattle.play_lines.specs.Orders.{call, other, order_of}
 use Rattle.play_lines.specs.MoveLines.{move_text, hint_line, longest_hint}

@@ -4,8 +4,7 @@ use Rattle.board.specs.Record.{play_stage}
 use Rattle.board.specs.Whole.{Board}
 use Rattle.load.specs.Load.{load_text}
 use Rattle.solve_finish.specs.Finishes.{finish_call}
-use Rattle.checkpoints.specs.Games.{game_of}
-use Rattle.move_list.specs.Calls.{Call, played}
+use Rattle.move_list.specs.Calls.{Call, game_of, played}
 
 -- "The list starts from the board that an accepted load gave": a board in play after any list of calls, refused ones and finishes that were taken back included
 pub record OfPlay (text : List ℕ) (b : Board) : Type 0 where

@@ -10,8 +10,7 @@ use Rattle.move_guard.specs.Guard.{loaded}
 use Rattle.move_carry.specs.Carries.{carry_call}
 use Rattle.move_turn.specs.Turns.{turn_call}
 use Rattle.move_undo.specs.Undone.{undo_call}
-use Rattle.checkpoints.specs.Games.{Game, game_of}
-use Rattle.move_list.specs.Calls.{Call, made, played}
+use Rattle.move_list.specs.Calls.{Call, Game, game_of, made, played}
 use Rattle.solve_next.specs.Choosing.{no_advice}
 use Rattle.solve_next.specs.Hints.{hint_refusal, hint_call}
 use Rattle.solve_finish.specs.Finishes.{finish_refusal, finish_call}

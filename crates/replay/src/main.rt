@@ -1,6 +1,8 @@
 // The test program. Reads parts from standard input: a letter, a count in four bytes, the highest first, and so many
 // pieces of that kind, which it answers: texts (T), lists of calls (L), inputs of the programs (P), boards of the
 // catalog (C). A part of boards that no load gave (U) has no pieces: its count says how often each call is made again.
+#![tactic(auto)]
+
 mod corpus;
 mod framing;
 mod listing;

@@ -35,7 +35,7 @@ fn read_piece(space: &mut [u8], piece: u8, left: u32) -> usize
 }
 
 // A session behind a piece, and how many bytes the piece had.
-#[derive(Drop)]
+#[derive(Clone, Copy)]
 struct Stepped {
     session: Session,
     taken: u32,

@@ -8,7 +8,7 @@ use native.Mathlib.Omega.{arith}
 use lib.Dec.{ltb}
 use borrow.Author.Tests.{lt-ltb, le-ltb, ltb-true}
 use Rattle.lists.specs.Choice.{both, either}
-use Rattle.lists.proofs.Laws.{Known, was_true, was_false, known, lt_or_ge, both_left, both_right, both_true}
+use Rattle.lists.proofs.Laws.{lt_or_ge, both_left, both_right, both_true}
 use Rattle.sets.specs.Sets.{none, has_bit, joined, common, without, collect}
 use Rattle.sets.specs.Inner.{set_width}
 use Rattle.sets.proofs.Bits.{has_past, has-none, has-joined, joined_less, collect_new, collect_from}

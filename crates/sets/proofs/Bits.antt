@@ -40,8 +40,8 @@ odd_or a b =
     ap (λ (n : ℕ). n % 2) (or_step a b)
     ∙ digits_mod (bit_or (a / 2) (b / 2)) (max_small (a % 2) (b % 2) (mod-lt a (lit< tt)) (mod-lt b (lit< tt)))
 
-bit_or : (a b k : ℕ) → bit_at (bit_or a b) k ≡ max (bit_at a k) (bit_at b k)
-bit_or a b k = ap (λ (n : ℕ). n % 2) (or_shr a b k) ∙ odd_or (a / 2 ^ k) (b / 2 ^ k)
+bit_at-bit_or : (a b k : ℕ) → bit_at (bit_or a b) k ≡ max (bit_at a k) (bit_at b k)
+bit_at-bit_or a b k = ap (λ (n : ℕ). n % 2) (or_shr a b k) ∙ odd_or (a / 2 ^ k) (b / 2 ^ k)
 
 max_either : (x y : ℕ) → x < 2 → y < 2 → eqb (max x y) 1 ≡ either (eqb x 1) (eqb y 1)
 unfolding either
@@ -54,7 +54,7 @@ max_either x y p q = go (eq_or_ne x 1) (eq_or_ne y 1)
 
 pub has-joined : (a b c : ℕ) → has_bit (bit_or a b) c ≡ either (has_bit a c) (has_bit b c)
 unfolding has_bit
-has-joined a b c = ap (λ (n : ℕ). eqb n 1) (bit_or a b c) ∙ max_either (bit_at a c) (bit_at b c) (bit_small a c) (bit_small b c)
+has-joined a b c = ap (λ (n : ℕ). eqb n 1) (bit_at-bit_or a b c) ∙ max_either (bit_at a c) (bit_at b c) (bit_small a c) (bit_small b c)
 
 -- the bits of 2 ^ c
 pow_bit_same : (k : ℕ) → bit_at (2 ^ k) k ≡ 1
@@ -83,12 +83,12 @@ pow_bit_other c k ne = go (lt_or_ge k c)
 -- a set with c
 pub has_with_same : (m c : ℕ) → has_bit (with_bit m c) c ≡ true
 unfolding has_bit with_bit
-has_with_same m c = eq-eqb (bit_at (bit_or m (2 ^ c)) c) 1 (omega (arith, bit_or m (2 ^ c) c, pow_bit_same c, bit_small m c))
+has_with_same m c = eq-eqb (bit_at (bit_or m (2 ^ c)) c) 1 (omega (arith, bit_at-bit_or m (2 ^ c) c, pow_bit_same c, bit_small m c))
 
 pub has_with_other : (m c k : ℕ) → k ≢ c → has_bit (with_bit m c) k ≡ has_bit m k
 unfolding has_bit with_bit
 has_with_other m c k ne =
-    ap (λ (n : ℕ). eqb n 1) (bit_or m (2 ^ c) k ∙ ap (λ (n : ℕ). max (bit_at m k) n) (pow_bit_other c k ne) ∙ max-zero (bit_at m k))
+    ap (λ (n : ℕ). eqb n 1) (bit_at-bit_or m (2 ^ c) k ∙ ap (λ (n : ℕ). max (bit_at m k) n) (pow_bit_other c k ne) ∙ max-zero (bit_at m k))
 
 pub has_with_old : (m c k : ℕ) → has_bit m k ≡ true → has_bit (with_bit m c) k ≡ true
 has_with_old m c k h = go (eq_or_ne k c)

@@ -28,8 +28,8 @@ odd_and a b =
     let s : min (a % 2) (b % 2) < 2 = omega arith in
     ap (λ (n : ℕ). n % 2) (and_step a b) ∙ digits_mod (bit_and (a / 2) (b / 2)) s
 
-bit_and : (a b k : ℕ) → bit_at (bit_and a b) k ≡ min (bit_at a k) (bit_at b k)
-bit_and a b k = ap (λ (n : ℕ). n % 2) (and_shr a b k) ∙ odd_and (a / 2 ^ k) (b / 2 ^ k)
+bit_at-bit_and : (a b k : ℕ) → bit_at (bit_and a b) k ≡ min (bit_at a k) (bit_at b k)
+bit_at-bit_and a b k = ap (λ (n : ℕ). n % 2) (and_shr a b k) ∙ odd_and (a / 2 ^ k) (b / 2 ^ k)
 
 min_both : (x y : ℕ) → x < 2 → y < 2 → eqb (min x y) 1 ≡ both (eqb x 1) (eqb y 1)
 unfolding both
@@ -42,7 +42,7 @@ min_both x y p q = go (eq_or_ne x 1) (eq_or_ne y 1)
 
 pub has-common : (a b c : ℕ) → has_bit (common a b) c ≡ both (has_bit a c) (has_bit b c)
 unfolding has_bit
-has-common a b c = ap (λ (n : ℕ). eqb n 1) (bit_and a b c) ∙ min_both (bit_at a c) (bit_at b c) (bit_small a c) (bit_small b c)
+has-common a b c = ap (λ (n : ℕ). eqb n 1) (bit_at-bit_and a b c) ∙ min_both (bit_at a c) (bit_at b c) (bit_small a c) (bit_small b c)
 
 -- equal bits, equal sets
 low_bit : (m : ℕ) → has_bit m 0 ≡ eqb (m % 2) 1

@@ -1,4 +1,6 @@
 // Sets of small numbers as bits.
+#![tactic(auto)]
+
 pub mod word;
 
 ghost use Rattle.std.specs.Prelude.{◌≡◌, ◌<◌};

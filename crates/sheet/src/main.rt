@@ -1,4 +1,6 @@
 // Reads a board on standard input, finishes it and prints its route report, or the number that it is refused with.
+#![tactic(auto)]
+
 use board::Board;
 use journal::WORDS;
 use libc::STDIN_FILENO;

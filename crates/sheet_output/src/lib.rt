@@ -1,4 +1,6 @@
 // What the programs read and print, over slices.
+#![tactic(auto)]
+
 ghost use Rattle.std.specs.Prelude.{◌≡◌, ◌+◌, ◌≤◌, length};
 ghost use Rattle.std.proofs.lemmas.List.Edits.{sets};
 ghost use Rattle.journal.specs.Words.{whole_of, packed_all};

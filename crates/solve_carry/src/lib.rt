@@ -1,4 +1,6 @@
 // The open carry that the solver makes, by sets of edges.
+#![tactic(auto)]
+
 ghost use Rattle.std.specs.Prelude.{◌≡◌, [], get_or};
 ghost use Rattle.sets.specs.Inner.{sets_of};
 ghost use Rattle.sets.specs.Sets.{has_bit, set_of};
@@ -11,7 +13,7 @@ use move_carry::Frame;
 use sets::EdgeSet;
 
 // A terminal and the edge of its carry. Where no carry is open, the counts of terminals and of edges.
-#[derive(Drop)]
+#[derive(Clone, Copy)]
 pub struct Found {
     pub terminal: u32,
     pub edge: u32,

@@ -1,4 +1,6 @@
 // The call `finish`.
+#![tactic(auto)]
+
 ghost use Rattle.std.specs.Prelude.{◌≡◌, true, false, List, [], ℕ, ◌-◌, ◌≤◌, length};
 ghost use Rattle.sets.specs.Sets.{set_of};
 ghost use Rattle.sets.specs.Inner.{sets_of};
@@ -41,7 +43,7 @@ use solve_next::Advice;
 
 // What a finish gives: 0, how many moves it made, and the board at the end; or the number that it is refused with, and
 // the board as it was.
-#[derive(Drop)]
+#[derive(Clone, Copy)]
 pub struct Finished {
     pub answer: u32,
     pub count: u32,
@@ -50,7 +52,7 @@ pub struct Finished {
 
 // A move of the solver on lists that are lent: its number, and where that is 0 its entry, the marks and the positive
 // edges after it, and whether the flows are small then.
-#[derive(Drop)]
+#[derive(Clone, Copy)]
 pub struct Progress {
     pub answer: u32,
     pub entry: Entry,
@@ -60,7 +62,7 @@ pub struct Progress {
 }
 
 // What a look at flows shows: the positive edges, and whether the flows are small.
-#[derive(Drop)]
+#[derive(Clone, Copy)]
 pub struct Seen {
     pub positive: EdgeSet,
     pub small: bool,
@@ -68,7 +70,7 @@ pub struct Seen {
 
 // How a run ended: the marks and the count of moves then, and how many of these the journal holds: all of them, or
 // those before the first place that was not blank.
-#[derive(Drop)]
+#[derive(Clone, Copy)]
 pub struct Ran {
     pub filled: u32,
     pub marks: EdgeSet,

@@ -1,4 +1,6 @@
 // The solver's next move, and the call `hint`.
+#![tactic(auto)]
+
 ghost use Rattle.std.specs.Prelude.{◌≡◌, ◌≤◌};
 ghost use Rattle.sets.specs.Sets.{set_of};
 ghost use Rattle.sets.specs.Inner.{sets_of};
@@ -19,7 +21,7 @@ use sets::EdgeSet;
 // ---- The move that the solver makes next.
 
 // A move to make: its kind, and its parts. What a kind does not need is 0.
-#[derive(Drop)]
+#[derive(Clone, Copy)]
 pub struct Advice {
     pub kind: u32,
     pub terminal: u32,
@@ -130,7 +132,7 @@ pub fn next_move<'a>(
 // ---- The call `hint`.
 
 // What a hint gives: 0 and the move that a finish would make next, or none; or the number that it is refused with.
-#[derive(Drop)]
+#[derive(Clone, Copy)]
 pub struct Suggestion {
     pub answer: u32,
     pub advice: Advice,

@@ -1,4 +1,6 @@
 // The cycle that the solver turns.
+#![tactic(auto)]
+
 ghost use Rattle.std.specs.Prelude.{◌≡◌, [], ◌∷◌, ◌++◌, ◌+◌, ◌≤◌, ◌<◌, get_or, drop};
 ghost use Rattle.board.specs.Limits.{max_vertices};
 ghost use Rattle.sets.specs.Sets.{with_bit, set_of};
@@ -13,21 +15,21 @@ use move_cycle::StepCode;
 use sets::{EdgeSet, VertexSet};
 
 // The steps of a walk, from the first on; 0 in the places past them.
-#[derive(Drop)]
+#[derive(Clone, Copy)]
 pub struct Walk {
     pub count: u32,
     pub steps: [StepCode; Board::MAX_EDGES],
 }
 
 // The steps of a walk so far, from the first on: no more than there are vertices.
-#[derive(Drop)]
+#[derive(Clone, Copy)]
 pub struct Way {
     pub count: u32,
     pub steps: [StepCode; Board::MAX_VERTICES],
 }
 
 // Where a walk stopped: its steps, and how many of them came before the vertex that it met again.
-#[derive(Drop)]
+#[derive(Clone, Copy)]
 pub struct Stop {
     pub count: u32,
     pub from: u32,

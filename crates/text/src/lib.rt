@@ -1,4 +1,6 @@
 // The board text: what its reader and its writer hand on.
+#![tactic(auto)]
+
 ghost use Rattle.std.specs.Prelude.{◌≡◌, ◌<◌, leb, ltb};
 ghost use Rattle.lists.specs.Choice.{pick, both};
 ghost use Rattle.text.specs.Text.{vertex_below};
@@ -8,21 +10,21 @@ ghost use Rattle.text.specs.Views.{refused_part};
 use board::Network;
 
 // What reading a text gives: 0 and its network, or the number it is refused with and the empty network.
-#[derive(Drop)]
+#[derive(Clone, Copy)]
 pub struct Reading {
     pub answer: u32,
     pub network: Network,
 }
 
 // The numbers that a field may hold: low to high, both included.
-#[derive(Drop)]
+#[derive(Clone, Copy)]
 pub struct Range {
     pub low: u32,
     pub high: u32,
 }
 
 // A number field that was read: 0, its value and how many bytes it took; or the number it is refused with.
-#[derive(Drop)]
+#[derive(Clone, Copy)]
 pub struct Field {
     pub answer: u32,
     pub value: u32,
@@ -30,7 +32,7 @@ pub struct Field {
 }
 
 // A line that was read, in the same way.
-#[derive(Drop)]
+#[derive(Clone, Copy)]
 pub struct Line {
     pub answer: u32,
     pub values: [u32; 4],
@@ -38,7 +40,7 @@ pub struct Line {
 }
 
 // The lines of a text up to a place, in the same way.
-#[derive(Drop)]
+#[derive(Clone, Copy)]
 pub struct Part {
     pub answer: u32,
     pub network: Network,
@@ -46,7 +48,7 @@ pub struct Part {
 }
 
 // What writing gives: 0 and the length of the text, or the number it is refused with and 0.
-#[derive(Drop)]
+#[derive(Clone, Copy)]
 pub struct Written {
     pub answer: u32,
     pub used: usize,

@@ -1,4 +1,6 @@
 // Which rules a network breaks first, and whether it is one that an accepted text gives.
+#![tactic(auto)]
+
 ghost use Rattle.std.specs.Prelude.{◌≡◌, true, ℕ, ◌+◌, ◌*◌, ◌≤◌, ◌<◌, leb, length, get_or, set};
 ghost use Rattle.lists.specs.Choice.{both};
 ghost use Rattle.lists.specs.Lists.{all, sum_at};

@@ -1,4 +1,6 @@
 // Reading the lines of a board text: one field, one line, then the edge lines and the terminal lines.
+#![tactic(auto)]
+
 ghost use Rattle.std.specs.Prelude.{◌≡◌, ◌≢◌, ◌≤◌, ◌<◌, length, take, drop, [], ◌∷◌, ◌++◌};
 ghost use Rattle.text.specs.Text.{field, line, between, edge_ranges, terminal_ranges, edge_lines, terminal_lines};
 ghost use Rattle.text.specs.Views.{field_read, line_read, part_read, refused_field, refused_line, refused_part, LineRest};

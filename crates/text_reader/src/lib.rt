@@ -1,4 +1,6 @@
 // The board text, read: every line and every field is a part of the slice.
+#![tactic(auto)]
+
 ghost use Rattle.std.specs.Prelude.{◌≡◌, ◌≢◌, ◌≤◌, length};
 ghost use Rattle.text.specs.Text.{head_ranges, headed, layout};
 ghost use Rattle.text.specs.Views.{part_read, refused_part, header_part};

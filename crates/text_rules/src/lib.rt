@@ -1,4 +1,6 @@
 // The rules of a network, each at one place.
+#![tactic(auto)]
+
 ghost use Rattle.std.specs.Prelude.{◌≡◌};
 ghost use Rattle.text_rules.specs.Rules.{
   edge_numbers_fit,
@@ -11,7 +13,7 @@ ghost use Rattle.text_rules.specs.Rules.{
 use board::{Board, Network};
 
 // The rules that a network is tested for one place after the other.
-#[derive(Drop)]
+#[derive(Clone, Copy)]
 pub enum Rule {
     EdgeFits,
     TerminalFits,

@@ -1,4 +1,6 @@
 // Writing a board text: a network's lines into a buffer, and the call `write`.
+#![tactic(auto)]
+
 ghost use Rattle.std.specs.Prelude.{◌≡◌, ◌+◌, ◌*◌, ◌≤◌, length};
 ghost use Rattle.std.proofs.lemmas.List.Edits.{sets};
 ghost use Rattle.board.specs.Limits.{max_edges, max_terminals};

@@ -37,8 +37,7 @@ use Rattle.solve_walk.specs.Walk.{touches, another, parts, first_met, down_walk,
 use Rattle.solve_next.specs.Choosing.{all_home_in, next_act_in}
 use Rattle.solve_finish.specs.Finishes.{Finished}
 use Rattle.solve_finish.specs.Finishes.{stepped, stepped_on, played_out, finish_refusal, finish_call}
-use Rattle.checkpoints.specs.Games.{game_of}
-use Rattle.move_list.specs.Calls.{Call, carry, turn, undo, finish, played, answers}
+use Rattle.move_list.specs.Calls.{Call, carry, turn, undo, finish, game_of, played, answers}
 use Rattle.report_routes.specs.Routes.{route_in, route, load}
 use Rattle.solve_carry.specs.Search.{chosen_edge_in, marked_edge_in, marked_open_in}
 

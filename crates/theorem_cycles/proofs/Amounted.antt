@@ -231,7 +231,7 @@ module _ (tails heads : List ℕ) (level : ℕ → ℕ) where
       → ((s : Step) → In s w → level (get_or tails (edge_of s) 0) < level (get_or heads (edge_of s) 0)) → SomeDown w ⊎ (level c + length w ≤ level a)
   down_or_lower [] stay rises = inr (omega arith)
   down_or_lower (down e ∷ w) (go s q t) rises = inl (record { edge = e; among = inl refl })
-  down_or_lower {a} {c} (up e ∷ w) (go s q t) rises = at (down_or_lower w t (λ d i. rises d (inr i)))
+  down_or_lower {a} {c} (up e ∷ w) (go s q t) rises = at (down_or_lower {a = get_or tails e 0} w t (λ d i. rises d (inr i)))
     where
       at : SomeDown w ⊎ (level c + length w ≤ level (get_or tails e 0)) → SomeDown (up e ∷ w) ⊎ (level c + length (up e ∷ w) ≤ level a)
       at (inl d) = inl (record { edge = d.edge; among = inr d.among })

@@ -35,10 +35,10 @@ module _ (b : Board) (inv : Invariant b) where
     mark : Marked b edge
     into : head b edge ≡ v
 
-  marked_along : (e : ℕ) → Marked b e → {u : ℕ} → Path b.network.tails b.network.heads b.flows (head b e) u → MarkedInto u
-  marked_along e m here = record { edge = e; mark = m; into = refl }
-  marked_along e m (on p d) =
-      let i = marked_along e m p in
+  marked_along : {v u : ℕ} → MarkedInto v → Path b.network.tails b.network.heads b.flows v u → MarkedInto u
+  marked_along first here = first
+  marked_along first (on p d) =
+      let i = marked_along first p in
       record {
         edge = d.edge;
         mark = record { mark = inv.down_closed i.edge d.edge i.mark (d.start ∙ sym i.into) d.above; above = d.above };
@@ -48,4 +48,4 @@ module _ (b : Board) (inv : Invariant b) where
   pub marked-singular : (e : ℕ) → Marked b e → singular b e ≡ true
   marked-singular e m =
       unparted_single b inv e (λ u p g g' q h q' h'.
-      let i = marked_along e m p in inv.one_out i.edge g g' i.mark (q ∙ sym i.into) h (q' ∙ sym i.into) h')
+      let i = marked_along (record { edge = e; mark = m; into = refl }) p in inv.one_out i.edge g g' i.mark (q ∙ sym i.into) h (q' ∙ sym i.into) h')

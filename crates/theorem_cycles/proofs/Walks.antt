@@ -79,7 +79,7 @@ module _ (tails heads : List ℕ) where
   end_met : {a b : ℕ} (s : Step) (w : List Step) → Trail tails heads a w b → In s w → Met w b (end_of tails heads s)
   end_met s [] t i = absurd i
   end_met {b = b} s (_ ∷ w) (go r e t) (inl q) = met_later r w b (end_of tails heads s) (rw q (begin_met w t))
-  end_met {b = b} s (_ ∷ w) (go r e t) (inr i) = met_later r w b (end_of tails heads s) (end_met s w t i)
+  end_met {a = a} {b = b} s (_ ∷ w) (go r e t) (inr i) = met_later r w b (end_of tails heads s) (end_met {a = end_of tails heads r} s w t i)
 
   abbrev Touches : ℕ → ℕ → Type 0
   Touches e u = (get_or tails e 0 ≡ u) ⊎ (get_or heads e 0 ≡ u)
@@ -99,7 +99,7 @@ module _ (tails heads : List ℕ) where
       → Trail tails heads v (drop (first_met tails heads w v) w) b
   unfolding first_met index_of
   since_trail v [] t h = absurd (not-suc-le-zero h)
-  since_trail {a} {b} v (_ ∷ w) (go s e t) h = at (known (eqb (start_of tails heads s) v)) (λ g. since_trail v w t g)
+  since_trail {a} {b} v (_ ∷ w) (go s e t) h = at (known (eqb (start_of tails heads s) v)) (λ g. since_trail {a = end_of tails heads s} v w t g)
     where
       at : Known (eqb (start_of tails heads s) v)
           → (index_of v (starts_of tails heads w) < length w → Trail tails heads v (drop (index_of v (starts_of tails heads w)) w) b)

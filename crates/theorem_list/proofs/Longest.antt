@@ -30,8 +30,7 @@ use Rattle.graph_flows.specs.Trails.{Trail, go, downs}
 use Rattle.move_guard.specs.Parts.{acyclic_flow}
 use Rattle.solve_finish.specs.Finishes.{Finished}
 use Rattle.solve_finish.specs.Finishes.{finish_call}
-use Rattle.checkpoints.specs.Games.{game_of}
-use Rattle.move_list.specs.Calls.{Call, played}
+use Rattle.move_list.specs.Calls.{Call, game_of, played}
 use Rattle.report_routes.specs.Routes.{route, share, load, largest}
 use Rattle.report.specs.Reports.{route_row, load_row, report_text}
 use Rattle.theorem_cycles.proofs.Network.{acyclic_of_below}

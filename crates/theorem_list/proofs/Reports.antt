@@ -21,8 +21,7 @@ use Rattle.report.specs.Reports.{started, unreported, report_text}
 use Rattle.sheet_output.specs.Outputs.{report_of, finish_output, sheet_output}
 use Rattle.solve_finish.specs.Finishes.{Finished}
 use Rattle.solve_finish.specs.Finishes.{played_out, ended, finish_call}
-use Rattle.checkpoints.specs.Games.{game_of}
-use Rattle.move_list.specs.Calls.{Call, played}
+use Rattle.move_list.specs.Calls.{Call, game_of, played}
 use Rattle.theorem_keep.proofs.Standing.{Standing, loaded-standing, standing-playing}
 use Rattle.theorem_list.specs.Player.{Item, ending, is_over, afresh, standing_moves}
 use Rattle.theorem_list.proofs.Finish.{finish_result, finish_completes}

@@ -13,7 +13,6 @@ use lib.Seq.{take-append_seam}
 use borrow.Author.Tests.{eq-eqb, ne_eqb}
 use Rattle.lists.proofs.Laws.{Known, was_true, was_false, known, eq_or_ne, pick_yes, pick_no}
 use Rattle.board.specs.Limits.{max_moves}
-use Rattle.board.specs.Record.{closed_board}
 use Rattle.board.specs.Whole.{Board, Played}
 use Rattle.load.specs.Load.{load_text}
 use Rattle.load.proofs.Loads.{load_accepted}
@@ -29,9 +28,7 @@ use Rattle.solve_next.specs.Choosing.{Act, relocate, augment, all_home, judge, a
 use Rattle.solve_finish.specs.Finishes.{Finished}
 use Rattle.solve_finish.specs.Finishes.{stepped, stepped_on, played_out}
 use Rattle.theorem_keep.proofs.Standing.{Standing, loaded-standing, carry_room, carry_undone, turn_undone}
-use Rattle.checkpoints.specs.Letters.{letters}
-use Rattle.checkpoints.specs.Games.{Game, game_of, Reply}
-use Rattle.move_list.specs.Calls.{call_for, reply_of, reply_of_finish, made, played, answers}
+use Rattle.move_list.specs.Calls.{call_for, Game, game_of, Reply, reply_of, reply_of_finish, made, played, answers}
 use Rattle.theorem_list.specs.Player.{
   Item,
   act,
@@ -56,8 +53,7 @@ use Rattle.theorem_list.proofs.FinishBack.{finish_undone_lem}
 
 -- ---- one accepted item m on board b
 pub record Accepted (b : Board) (m : Item) : Type 0 where
-  -- with whatever is kept
-  pub called : (cps : List Board) → made (record { board = b; checkpoints = cps }) (call_again m) ≡ record { answer = 0; game = record { board = listed b m; checkpoints = cps } }
+  pub called : made (game_of b) (call_again m) ≡ record { answer = 0; game = game_of (listed b m) }
   pub back : undo_call (listed b m) ≡ record { answer = 0; board = b }
   pub network : (listed b m).network ≡ b.network
   pub acyclic : (listed b m).acyclic ≡ b.acyclic
@@ -65,10 +61,10 @@ pub record Accepted (b : Board) (m : Item) : Type 0 where
   pub routes : (i : ℕ) → route (listed b m) i ≡ route_of i (moves_of b m) ++ route b i
 
 -- what calling a move gives
-pub called_act : (g : Game) (a : Act) → made g (call_for a) ≡ reply_of g (answered (judge g.board a) g.board (acted g.board a))
+pub called_act : (b : Board) (a : Act) → made (game_of b) (call_for a) ≡ reply_of (answered (judge b a) b (acted b a))
 unfolding carry_call turn_call
-called_act g (relocate i e) = refl
-called_act g (augment w) = refl
+called_act b (relocate i e) = refl
+called_act b (augment w) = refl
 
 module _ (b : Board) (i e : ℕ) (st : Standing b) (h : carry_refusal b i e ≡ 0) where
   -- the journal has a place for the carry
@@ -94,7 +90,7 @@ module _ (b : Board) where
   pub act_accepted : (a : Act) → Standing b → judge b a ≡ 0 → Accepted b (act a)
   unfolding route_of
   act_accepted a st h = record {
-    called = λ cps. let g : Game = record { board = b; checkpoints = cps } in called_act g a ∙ ap (reply_of g) (answered_yes (judge b a) b (acted b a) h);
+    called = called_act b a ∙ ap reply_of (answered_yes (judge b a) b (acted b a) h);
     back = act_undone a st h;
     network = act_network b a;
     acyclic = act_acyclic b a;
@@ -148,9 +144,7 @@ module _ (b : Board) (st : Standing b) where
   finish_accepted =
       let gives = finish_result b st in
       record {
-        called = λ cps.
-            ap (reply_of_finish (record { board = b; checkpoints = cps })) gives
-            ∙ (λ j. record { answer = 0; game = record { board = ap (λ (f : Finished). f.board) (sym gives) j; checkpoints = cps } });
+        called = ap reply_of_finish gives ∙ (λ j. record { answer = 0; game = game_of (ap (λ (f : Finished). f.board) (sym gives) j) });
         back = finish_undone_lem b st;
         network = (finish_completes b st).network;
         acyclic = (finish_completes b st).acyclic;
@@ -268,11 +262,11 @@ module _ (text : List ℕ) (loads : (load_text text).answer ≡ 0) where
       again =
           played_more (game_of (load_text text).board) ms m
           ∙ ap (λ (g : Game). (made g (call_again m)).game) f.again
-          ∙ ap (λ (r : Reply). r.game) (a.called (replicate letters closed_board))
+          ∙ ap (λ (r : Reply). r.game) a.called
           ∙ ap game_of (sym (afresh_more text ms m));
       accepted =
           let zeroed : (made (played (game_of (load_text text).board) (calls_again ms)) (call_again m)).answer ≡ 0 =
-          rw f.again (ap (λ (r : Reply). r.answer) (a.called (replicate letters closed_board))) in
+          rw f.again (ap (λ (r : Reply). r.answer) a.called) in
           answers_more (game_of (load_text text).board) ms m ∙ rw (f.accepted, zeroed) (zeros_more ms m);
     }
 

@@ -20,8 +20,7 @@ use Rattle.move_carry.specs.Opens.{is_home_in}
 use Rattle.move_turn.specs.Turns.{turn_refusal_in}
 use Rattle.solve_next.specs.Choosing.{Act, relocate, augment, judge}
 use Rattle.theorem_keep.proofs.Standing.{standing-playing}
-use Rattle.checkpoints.specs.Games.{game_of}
-use Rattle.move_list.specs.Calls.{Call, carry, turn, undo, hint, finish, played}
+use Rattle.move_list.specs.Calls.{Call, carry, turn, undo, hint, finish, game_of, played}
 use Rattle.theorem_list.specs.Player.{
   Item,
   act,

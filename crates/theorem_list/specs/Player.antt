@@ -1,16 +1,13 @@
--- The reference player: document 01, "The player who never strayed"; document 02, E1 and E2.
-use Rattle.std.specs.Prelude.{Bool, true, false, List, [], ◌∷◌, ◌++◌, map, ℕ, zero, suc, ◌-◌, ltb, eqb, length, get_or, take, set, replicate}
-use Rattle.lists.specs.Choice.{pick, unless}
+-- The reference player: document 01, "The player who never strayed"; document 02, E1.
+use Rattle.std.specs.Prelude.{Bool, true, false, List, [], ◌∷◌, ◌++◌, ℕ, zero, suc, ◌-◌, eqb, length, take}
+use Rattle.lists.specs.Choice.{pick}
 use Rattle.board.specs.Limits.{max_moves}
-use Rattle.board.specs.Record.{closed_board}
 use Rattle.board.specs.Whole.{Board}
 use Rattle.load.specs.Load.{load_text}
 use Rattle.solve_next.specs.declared.Suggestion.{Suggestion}
 use Rattle.solve_next.specs.Choosing.{Act, relocate, augment, judge, acted, next_act}
 use Rattle.solve_finish.specs.Finishes.{stepped, finish_call}
-use Rattle.checkpoints.specs.Letters.{letters, letter_of}
-use Rattle.checkpoints.specs.Games.{Game}
-use Rattle.move_list.specs.Calls.{Call, carry, turn, undo, hint, finish, keep, back, call_for, hint_given}
+use Rattle.move_list.specs.Calls.{Call, carry, turn, undo, hint, finish, call_for, hint_given}
 
 -- what stands in the player's list: a move, that is a carry or a turn with its arguments; or a finish, which "not taken back stands like a move"
 pub data Item : Type 0 where
@@ -33,97 +30,44 @@ unfoldable pub listed_all : Board → List Item → Board
 listed_all b [] = b
 listed_all b (m ∷ ms) = listed_all (listed b m) ms
 
--- what the player has noted under a letter: nothing, or the list that stood when it was kept
-pub data Note : Type 0 where
-  unkept : Note
-  kept_list : List Item → Note
-
-unfoldable pub is_kept : Note → Bool
-is_kept unkept = false
-is_kept (kept_list ms) = true
-
--- "the standing items and what each letter keeps"
-pub record Player : Type 0 where
-  pub items : List Item
-  pub notes : List Note
-
--- "empty at first"
-abbrev pub new_player : Player
-new_player = record { items = []; notes = replicate letters unkept }
-
--- what is noted under the letter of a number
-abbrev pub note_at : Player → ℕ → Note
-note_at p k = get_or p.notes k unkept
-
--- the player with other items: what is noted stays
-abbrev pub with_items : Player → List Item → Player
-with_items p ms = record { items = ms; notes = p.notes }
-
--- the player with the list noted under the letter of a number
-abbrev pub with_note : Player → ℕ → Player
-with_note p k = record { items = p.items; notes = set p.notes k (kept_list p.items) }
-
--- the list after going back to a note: the one noted; nothing is noted under a letter outside A to D
-unfoldable pub items_back : List Item → Note → List Item
-items_back ms unkept = ms
-items_back ms (kept_list ks) = ks
-
 -- "This player is fed the loaded text": the board is made afresh each time, from the text and the standing moves
 module _ (text : List ℕ) where
   unfoldable pub afresh : List Item → Board
   afresh ms = listed_all (load_text text).board ms
 
-  -- "Each call is judged on that board"; undo: "27 on an empty list. Else 0"; a hint and a finish are refused only where play is over; keep: "30 for a letter outside
-  -- A to D"; back: then "31 for going back to an empty letter"
-  unfoldable pub says_to : Player → Call → ℕ
-  says_to p (carry i e) = judge (afresh p.items) (relocate i e)
-  says_to p (turn w) = judge (afresh p.items) (augment w)
-  says_to p undo = pick (eqb (length p.items) 0) 27 0
-  says_to p hint = pick (is_over p.items) 20 0
-  says_to p finish = pick (is_over p.items) 20 0
-  says_to p (keep letter) = unless (ltb (letter_of letter) letters) 30 0
-  says_to p (back letter) = unless (ltb (letter_of letter) letters) 30 (unless (is_kept (note_at p (letter_of letter))) 31 0)
+  -- "Each call is judged on that board"; undo: "27 on an empty list. Else 0"; a hint and a finish are refused only where play is over
+  unfoldable pub says_to : List Item → Call → ℕ
+  says_to ms (carry i e) = judge (afresh ms) (relocate i e)
+  says_to ms (turn w) = judge (afresh ms) (augment w)
+  says_to ms undo = pick (eqb (length ms) 0) 27 0
+  says_to ms hint = pick (is_over ms) 20 0
+  says_to ms finish = pick (is_over ms) 20 0
 
   -- a move: "if refused .. the list stays. Else .. the move joins the list's end"
   unfoldable pub standing_with : List Item → Act → List Item
   standing_with ms a = pick (eqb (judge (afresh ms) a) 0) (ms ++ (act a ∷ [])) ms
 
-  -- undo: "the last move leaves the list", a finish whole; "Hint: the list stays"; a finish joins the list where it is not refused; keep notes the list under the letter,
-  -- and back makes the noted list the player's
-  unfoldable pub player_after : Player → Call → Player
-  player_after p (carry i e) = with_items p (standing_with p.items (relocate i e))
-  player_after p (turn w) = with_items p (standing_with p.items (augment w))
-  player_after p undo = with_items p (take (length p.items - 1) p.items)
-  player_after p hint = p
-  player_after p finish = with_items p (pick (is_over p.items) p.items (p.items ++ (ending ∷ [])))
-  player_after p (keep letter) = pick (ltb (letter_of letter) letters) (with_note p (letter_of letter)) p
-  player_after p (back letter) = with_items p (items_back p.items (note_at p (letter_of letter)))
+  -- undo: "the last move leaves the list", a finish whole; "Hint: the list stays"; a finish joins the list where it is not refused
+  unfoldable pub standing_after : List Item → Call → List Item
+  standing_after ms (carry i e) = standing_with ms (relocate i e)
+  standing_after ms (turn w) = standing_with ms (augment w)
+  standing_after ms undo = take (length ms - 1) ms
+  standing_after ms hint = ms
+  standing_after ms finish = pick (is_over ms) ms (ms ++ (ending ∷ []))
 
-  -- a list of calls: the player after it, and the answers
-  unfoldable pub player_moved : Player → List Call → Player
-  player_moved p [] = p
-  player_moved p (c ∷ cs) = player_moved (player_after p c) cs
+  -- a list of calls: the standing moves after it, and the answers
+  unfoldable pub standing_moves : List Item → List Call → List Item
+  standing_moves ms [] = ms
+  standing_moves ms (c ∷ cs) = standing_moves (standing_after ms c) cs
 
-  unfoldable pub says : Player → List Call → List ℕ
-  says p [] = []
-  says p (c ∷ cs) = says_to p c ∷ says (player_after p c) cs
+  unfoldable pub says : List Item → List Call → List ℕ
+  says ms [] = []
+  says ms (c ∷ cs) = says_to ms c ∷ says (standing_after ms c) cs
 
   -- the hints: each is that of "this player's board at that point"
-  unfoldable pub suggests : Player → List Call → List Suggestion
-  suggests p [] = []
-  suggests p (c ∷ cs) = hint_given (afresh p.items) c ++ suggests (player_after p c) cs
-
-  -- what stands after a list of calls from the load on: "the moves kept and the ones after"
-  unfoldable pub standing_moves : List Call → List Item
-  standing_moves cs = (player_moved new_player cs).items
-
-  -- the boards that the player's lists make: the closed board where nothing is noted
-  abbrev pub board_noted : Note → Board
-  board_noted unkept = closed_board
-  board_noted (kept_list ms) = afresh ms
-
-  abbrev pub game_for : Player → Game
-  game_for p = record { board = afresh p.items; checkpoints = map board_noted p.notes }
+  unfoldable pub suggests : List Item → List Call → List Suggestion
+  suggests ms [] = []
+  suggests ms (c ∷ cs) = hint_given (afresh ms) c ++ suggests (standing_after ms c) cs
 
 -- the solver's moves on a board to its end, k of them at most
 unfoldable pub solver_moves : ℕ → Board → List Act

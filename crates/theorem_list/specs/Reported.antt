@@ -1,5 +1,5 @@
 -- For inner contracts only: what the report and the program `sheet` say of a board that a load gave.
-use Rattle.std.specs.Prelude.{◌≡◌, true, false, List, ℕ}
+use Rattle.std.specs.Prelude.{◌≡◌, true, false, List, [], ℕ}
 use Rattle.board.specs.Whole.{Board}
 use Rattle.solve_finish.specs.Finishes.{finish_call}
 use Rattle.report.specs.Reports.{report_text, unreported}
@@ -16,8 +16,8 @@ pub record Reported (b : Board) : Type 0 where
 
 -- the board after the calls cs: in play, or it has its report
 pub record ReportedAfter (text : List ℕ) (cs : List Call) (b : Board) : Type 0 where
-  pub goes_on : is_over (standing_moves text cs) ≡ false → Reported b
-  pub over : is_over (standing_moves text cs) ≡ true → unreported b ≡ 0
+  pub goes_on : is_over (standing_moves text [] cs) ≡ false → Reported b
+  pub over : is_over (standing_moves text [] cs) ≡ true → unreported b ≡ 0
 
 -- the program `sheet` prints the report of that board
 pub record Printed (text : List ℕ) (b : Board) : Type 0 where

@@ -1,26 +1,25 @@
--- The calls that are left, from the game and the words as they are now, end in the same game and words as all of them; their answers and hints fill the buffers in the
+-- The calls that are left, from the board and the words as they are now, end in the same board and words as all of them; their answers and hints fill the buffers in the
 -- same way.
-use mathlib.Core.Path.{refl, sym, ap, ◌∙◌}
+use mathlib.Core.Path.{refl, ap, ◌∙◌}
 use Prim.Native.Nat.{ℕ, ◌+◌, ◌-◌}
 use lib.ListN.{length, get_or}
 use mathlib.Core.Logic.{⊎_elim}
 use native.Mathlib.Omega.{arith}
 use borrow.Author.Rules.{rules}
 use Rattle.journal.specs.Words.{whole_of, given_of}
-use Rattle.checkpoints.specs.Games.{Game}
-use Rattle.checkpoints.specs.Lent.{lent_of, game_in}
+use Rattle.solve_finish.specs.Lent.{ended_of}
+use Rattle.move_list.specs.Calls.{Game, game_of}
 use Rattle.move_list.proofs.Coded.{all_left, played_end, answers_end, hints_end}
-use Rattle.move_list.proofs.Going.{code_same, few_coded, hint_coded, keep_coded, back_coded, one_kept, one_back, none_coded, past, Round, round_moved, round_hinted, round_skipped, words_end}
+use Rattle.move_list.proofs.Going.{few_coded, hint_coded, none_coded, past, finish_made, Round, round_moved, round_hinted, round_skipped, words_end}
 use Rattle.move_list.proofs.run.Statement.{statement}
 use Rattle.move_list.proofs.run.Tie as tie
 
 abbrev invariant-loop : tie.invariant-loop
-invariant-loop journal₀ journals₀ codes steps buf₀ hints₀ b₀ held₀ left₀ k₀ j₀ journal journals buf hints b held left k j =
-    Round steps codes buf₀ hints₀ (game_in b₀ held₀ (lent_of journal₀ journals₀)) (lent_of journal₀ journals₀)
-    buf hints (game_in b held (lent_of journal journals)) (lent_of journal journals) left k j
+invariant-loop journal₀ codes steps buf₀ hints₀ b₀ left₀ k₀ j₀ journal buf hints b left k j =
+    Round steps codes buf₀ hints₀ (whole_of b₀ journal₀) journal₀ buf hints (whole_of b journal) journal left k j
 
 abbrev decreases-loop : tie.decreases-loop
-decreases-loop journal₀ journals₀ codes steps buf₀ hints₀ b₀ held₀ left₀ k₀ j₀ journal journals buf hints b held left k j = left
+decreases-loop journal₀ codes steps buf₀ hints₀ b₀ left₀ k₀ j₀ journal buf hints b left k j = left
 
 loop-holds : tie.Need-loop-init invariant-loop decreases-loop
 loop-holds c = record {
@@ -33,98 +32,95 @@ loop-holds c = record {
   hints_say = rw all_left;
 }
 
-sub-code-at : tie.Need-overflow-sub-code-at invariant-loop decreases-loop
-sub-code-at c = omega (arith, c.before.loop.invariant.inside)
+sub-i : tie.Need-overflow-sub-i invariant-loop decreases-loop
+sub-i c = omega arith
 
-code-at-requires : tie.Need-code-at-requires invariant-loop decreases-loop
-code-at-requires c κs = omega (arith, c.before.loop.invariant.inside, c.loop-test.true)
+mul-t18 : tie.Need-overflow-mul-t18 invariant-loop decreases-loop
+mul-t18 c = search rules
 
-is-move-requires : tie.Need-is-move-requires invariant-loop decreases-loop
-is-move-requires c κs = tt
+shared-slice-read-t20 : tie.Need-shared-slice-read-t20 invariant-loop decreases-loop
+shared-slice-read-t20 c = omega arith
+
+add-t21 : tie.Need-overflow-add-t21 invariant-loop decreases-loop
+add-t21 c = omega arith
+
+mul-t22 : tie.Need-overflow-mul-t22 invariant-loop decreases-loop
+mul-t22 c = search rules
+
+shared-slice-read-t24 : tie.Need-shared-slice-read-t24 invariant-loop decreases-loop
+shared-slice-read-t24 c = omega arith
+
+add-t25 : tie.Need-overflow-add-t25 invariant-loop decreases-loop
+add-t25 c = omega arith
+
+mul-t26 : tie.Need-overflow-mul-t26 invariant-loop decreases-loop
+mul-t26 c = search rules
+
+shared-slice-read-t28 : tie.Need-shared-slice-read-t28 invariant-loop decreases-loop
+shared-slice-read-t28 c = omega arith
 
 make-requires : tie.Need-make-requires invariant-loop decreases-loop
-make-requires c κs =
-    let chosen = c.before in
-    sym chosen.before.is_move.ensures ∙ chosen.if1.true
+make-requires c κs = search rules
 
 put-word-requires : tie.Need-put-word-requires invariant-loop decreases-loop
-put-word-requires c κs = tt
+put-word-requires c κs = search rules
 
 hint-requires : tie.Need-hint-requires invariant-loop decreases-loop
-hint-requires c κs = tt
+hint-requires c κs = search rules
 
 put-word-requires-2 : tie.Need-put-word-requires-2 invariant-loop decreases-loop
-put-word-requires-2 c κs = tt
+put-word-requires-2 c κs = search rules
 
 note-requires : tie.Need-note-requires invariant-loop decreases-loop
-note-requires c κs = tt
+note-requires c κs = search rules
 
-keep-requires : tie.Need-keep-requires invariant-loop decreases-loop
-keep-requires c κs = tt
+finish-requires : tie.Need-finish-requires invariant-loop decreases-loop
+finish-requires c κs = search rules
 
 put-word-requires-3 : tie.Need-put-word-requires-3 invariant-loop decreases-loop
-put-word-requires-3 c κs = tt
-
-back-requires : tie.Need-back-requires invariant-loop decreases-loop
-back-requires c κs = tt
-
-put-word-requires-4 : tie.Need-put-word-requires-4 invariant-loop decreases-loop
-put-word-requires-4 c κs = tt
+put-word-requires-3 c κs = search rules
 
 answer-count-requires : tie.Need-answer-count-requires invariant-loop decreases-loop
-answer-count-requires c κs = tt
+answer-count-requires c κs = search rules
 
 add-k : tie.Need-overflow-add-k invariant-loop decreases-loop
 add-k c =
-    let read = c.before.before.before in
-    let at_test = read.before in
+    let at_test = c.before.before.before.before.before.before in
     let loop = at_test.before.loop in
     let start = at_test.before.before.before.before.before.before in
     let steps = start.args.steps.now in
-    omega (arith, loop.invariant.inside, at_test.loop-test.true, start.well-formed, few_coded steps read.code_at.result.kind 0 0, c.answer-count.ensures steps 0 0)
+    let kind = get_or start.args.codes.now (length start.args.codes.now - loop.left) 0 in
+    omega (arith, loop.invariant.inside, at_test.loop-test.true, start.well-formed, few_coded steps kind 0 0, c.answer-count.ensures steps 0 0)
 
 loop-less : tie.Need-loop-smaller invariant-loop decreases-loop
 loop-less c = omega arith
 
 loop-again : tie.Need-loop-preserved invariant-loop decreases-loop
 loop-again c =
-    let asked = c.before.before in
-    let read = asked.before in
-    let at_test = read.before in
+    let at_test = c.before.before.before.before.before.before in
     let loop = at_test.before.loop in
     let start = at_test.before.before.before.before.before.before in
     let some = at_test.loop-test.true in
     let steps = start.args.steps.now in
-    let codes = read.code_at.ensures in
-    let call = read.code_at.result in
-    let is = code_same steps codes.0 codes.1 codes.2 in
-    let counted = ap (λ (n : ℕ). loop.k + n) (c.answer-count.ensures steps call.first call.second) in
+    let counted = ap (λ (n : ℕ). loop.k + n) (c.answer-count.ensures steps _ _) in
     ⊎_elim
     (λ w.
     let words = w.2.last.1.0 in
-    let one = w.2.ensures loop.held loop.journals in
-    round_moved _ _ _ _ _ _ _ _ _ _ _ _ _ some loop.invariant _ is _ _ _ _ _ _ counted _ (lent_of words loop.journals) one (w.10 ∙ w.4.ensures) w.11 w.14
-    (λ i. game_in (w.12 i) (w.13 i) (lent_of (w.8 i) (w.9 i))) (λ i. lent_of (w.8 i) (w.9 i)))
+    round_moved _ _ _ _ _ _ _ _ _ _ _ _ _ some loop.invariant _ _ _ _ _ _ counted (given_of w.2.result words) words w.2.ensures (w.9 ∙ w.4.ensures) w.10 w.12
+    (λ i. whole_of (w.11 i) (w.8 i)) w.8)
     (⊎_elim
     (λ w.
-    round_hinted _ _ _ _ _ _ _ _ _ _ _ _ _ some loop.invariant _ is _ _ _ _ _ _ counted w.4.result (hint_coded steps _ _ _ (omega (arith, w.2.taken))) w.4.ensures
-    (w.16 ∙ w.6.ensures) (w.17 ∙ w.11.ensures.1) (w.20 ∙ w.11.ensures.0) (λ i. game_in (w.18 i) (w.19 i) (lent_of (w.14 i) (w.15 i))) (λ i. lent_of (w.14 i) (w.15 i)))
+    round_hinted _ _ _ _ _ _ _ _ _ _ _ _ _ some loop.invariant _ _ _ _ _ _ counted w.4.result (hint_coded steps _ _ _ (omega (arith, w.2.taken))) w.4.ensures
+    (w.15 ∙ w.6.ensures) (w.16 ∙ w.11.ensures.1) (w.18 ∙ w.11.ensures.0) (λ i. whole_of (w.17 i) (w.14 i)) w.14)
     (⊎_elim
     (λ w.
-    let words = w.7.last.1.1.1.0 in
-    let one = one_kept _ _ _ _ _ _ (keep_coded steps call.kind call.first call.second w.4.taken) w.7.ensures.0 w.7.ensures.1 in
-    round_moved _ _ _ _ _ _ _ _ _ _ _ _ _ some loop.invariant _ is _ _ _ _ _ _ counted _ (lent_of loop.journal words) one (w.15 ∙ w.9.ensures) w.16 w.19
-    (λ i. game_in (w.17 i) (w.18 i) (lent_of (w.13 i) (w.14 i))) (λ i. lent_of (w.13 i) (w.14 i)))
-    (⊎_elim
+    let words = w.6.last.1.0 in
+    round_moved _ _ _ _ _ _ _ _ _ _ _ _ _ some loop.invariant _ _ _ _ _ _ counted _ words
+    (finish_made _ _ words steps _ _ _ (ended_of w.6.result words) w.4.taken w.6.ensures.0 w.6.ensures.1) (w.13 ∙ w.8.ensures) w.14 w.16
+    (λ i. whole_of (w.15 i) (w.12 i)) w.12)
     (λ w.
-    let words = w.9.last.1.0 in
-    let one = one_back _ _ _ _ _ _ (back_coded steps call.kind call.first call.second w.6.taken) w.9.ensures.0 w.9.ensures.1 in
-    round_moved _ _ _ _ _ _ _ _ _ _ _ _ _ some loop.invariant _ is _ _ _ _ _ _ counted _ (lent_of words loop.journals) one (w.17 ∙ w.11.ensures) w.18 w.21
-    (λ i. game_in (w.19 i) (w.20 i) (lent_of (w.15 i) (w.16 i))) (λ i. lent_of (w.15 i) (w.16 i)))
-    (λ w.
-    round_skipped _ _ _ _ _ _ _ _ _ _ _ _ _ some loop.invariant _ is _ _ _ _ _ _ counted
-    (none_coded steps _ _ _ (past (sym asked.is_move.ensures ∙ w.0.left) w.2.left w.4.left w.6.left)) w.9 w.10
-    (λ i. game_in (w.11 i) (w.12 i) (lent_of (w.7 i) (w.8 i))) (λ i. lent_of (w.7 i) (w.8 i)) w.13))))
+    round_skipped _ _ _ _ _ _ _ _ _ _ _ _ _ some loop.invariant _ _ _ _ _ _ counted (none_coded steps _ _ _ (past w.0.left w.2.left w.4.left)) w.6 w.7
+    (λ i. whole_of (w.8 i) (w.5 i)) w.5 w.9)))
     c.before.if1.branch
 
 same_length : tie.Need-same-length invariant-loop decreases-loop
@@ -140,11 +136,10 @@ returns c =
     let steps = start.args.steps.now in
     let codes = start.args.codes.now in
     let none = c.loop-test.false in
-    let v = lent_of loop.journal loop.journals in
-    let game = game_in loop.b loop.held v in (
-      played_end steps codes loop.left game (omega (arith, none)) ∙ loop.invariant.plays,
+    let game = game_of (whole_of loop.b loop.journal) in (
+      ap (λ (g : Game). g.board) (played_end steps codes loop.left game (omega (arith, none)) ∙ loop.invariant.plays),
       (
-        words_end steps codes loop.left game v (omega (arith, none)) ∙ loop.invariant.packs,
+        words_end steps codes loop.left game loop.journal (omega (arith, none)) ∙ loop.invariant.packs,
         (
           answers_end steps codes loop.left game loop.buf loop.k (omega (arith, none)) ∙ loop.invariant.says,
           hints_end steps codes loop.left game loop.hints loop.j (omega (arith, none)) ∙ loop.invariant.hints_say,
@@ -159,18 +154,22 @@ run_spec =
     invariant-loop
     decreases-loop
     loop-holds
-    sub-code-at
-    code-at-requires
-    is-move-requires
+    sub-i
+    mul-t18
+    shared-slice-read-t20
+    add-t21
+    mul-t22
+    shared-slice-read-t24
+    add-t25
+    mul-t26
+    shared-slice-read-t28
     make-requires
     put-word-requires
     hint-requires
     put-word-requires-2
     note-requires
-    keep-requires
+    finish-requires
     put-word-requires-3
-    back-requires
-    put-word-requires-4
     answer-count-requires
     add-k
     loop-less

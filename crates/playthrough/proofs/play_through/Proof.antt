@@ -2,8 +2,7 @@
 -- (proofs/Words.antt).
 use mathlib.Core.Path.{◌∙◌}
 use lib.Seq.{sets}
-use Rattle.checkpoints.specs.Games.{game_of}
-use Rattle.move_list.specs.Calls.{answers, hints_of, noted}
+use Rattle.move_list.specs.Calls.{game_of, answers, hints_of, noted}
 use Rattle.move_list.specs.Codes.{calls_of}
 use Rattle.playthrough.proofs.Held.{held}
 use Rattle.playthrough.proofs.Words.{gathered, from_load, words_after_lem}

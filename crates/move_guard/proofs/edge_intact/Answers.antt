@@ -1,0 +1,6 @@
+-- The numbers fit, the acyclic flow is at most the text's, and the flow is small: joined as in the definition.
+use mathlib.Core.Path.{◌∙◌}
+use Rattle.move_guard.proofs.edge_intact.Goals as goal
+
+pub returns : goal.returns
+returns c = c.and-2.ensures ∙ rw (c.and.ensures, c.small_flow-small.ensures, c.edge_numbers_fit-fits.ensures)
