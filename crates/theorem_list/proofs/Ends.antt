@@ -36,7 +36,7 @@ module _ (tails heads : List ℕ) (level : ℕ → ℕ) where
   below_missed {v} [] t rises x l = both_missed x v [] (λ q. omega (arith, l, ap level q)) refl
   below_missed {v} (e ∷ es) (go s p t) rises x l =
       both_missed x v (vertices_along heads (get_or heads e 0) es) (λ q. omega (arith, l, ap level q))
-      (below_missed es t (λ g h. rises g (has_later g e es h)) x (omega (arith, l, ap level p, rises e (has_here e e es refl))))
+      (below_missed {v = get_or heads e 0} es t (λ g h. rises g (has_later g e es h)) x (omega (arith, l, ap level p, rises e (has_here e e es refl))))
 
   pub rising_once : {v c : ℕ} (es : List ℕ) → Trail tails heads v (downs es) c → Rising es → Distinct (vertices_along heads v es)
   unfolding has
@@ -44,7 +44,7 @@ module _ (tails heads : List ℕ) (level : ℕ → ℕ) where
   rising_once {v} (e ∷ es) (go s p t) rises =
       let later : Rising es = λ g h. rises g (has_later g e es h) in
       let up : level v < level (get_or heads e 0) = omega (arith, ap level p, rises e (has_here e e es refl)) in
-      (below_missed es t later v up, rising_once es t later)
+      (below_missed es t later v up, rising_once {v = get_or heads e 0} es t later)
 
 module _ (b : Board) (inv : Invariant b) where
   pub home_facts : all_home b ≡ true → (i : ℕ) → i < b.network.terminals → place b i ≡ b.network.source
