@@ -2,14 +2,15 @@
 use mathlib.Core.Path.{◌≡◌, refl, ap, ◌∙◌}
 use mathlib.Core.Bool.{Bool}
 use mathlib.Core.List.{List}
-use Prim.Native.Nat.{ℕ}
+use Prim.Native.Nat.{ℕ, ◌<◌, ◌≤◌}
 use native.Mathlib.Omega.{arith}
 use lib.ListN.{set}
+use Rattle.board.specs.Limits.{max_edges, max_terminals, max_moves}
 use Rattle.board.specs.Whole.{Entry, Table}
 use Rattle.journal.specs.Words.{packed, entries_of, whole_of}
 use Rattle.move_carry.specs.Carries.{carry_refusal_in, carry_refusal}
 use Rattle.move_carry.proofs.Makes.{makes_carried}
-use Rattle.move_carry.proofs.Lent.{carry_refusal_bare, lent_accepted, lent_refused}
+use Rattle.move_carry.proofs.Lent.{carry_refusal_bare, room_edge, room_terminal, room_move, lent_accepted, lent_refused}
 use Rattle.move_carry.proofs.carry.Lts as lts
 use Rattle.move_carry.proofs.carry.Tie as tie
 use Rattle.move_carry.proofs.carry.Reads as reads
@@ -19,41 +20,36 @@ use Rattle.move_carry.proofs.carry.Goals as goal
 abbrev Judged : Type 0
 Judged = lts.After-refusal_in tie.the-claims reads.Pre reads.Post tie.handed_clauses
 
-abbrev framed : Judged → lts.After-none tie.the-claims reads.Pre reads.Post tie.handed_clauses
-framed c =
-    let lent = c.before.before.before.before.before.before in
-    lent.before.before.before.before
-
-abbrev tested : Judged → lts.After-playing tie.the-claims reads.Pre reads.Post tie.handed_clauses
-tested c = (framed c).before
-
-abbrev start : Judged → lts.Start tie.the-claims reads.Pre reads.Post tie.handed_clauses
-start c = (tested c).before.before
-
 abbrev table : Judged → Table
-table c = (start c).args.board
+table c = c.args.board
 
 abbrev words : Judged → List (List ℕ)
-words c = (start c).args.journal.now
+words c = c.args.journal.now
 
-judged : (c : Judged) → c.refusal_in-number.result ≡ carry_refusal (whole_of (table c) (words c)) (start c).args.i (start c).args.e
+judged : (c : Judged) → c.refusal_in-number.result ≡ carry_refusal (whole_of (table c) (words c)) c.args.i c.args.e
 judged c =
     let t = table c in
-    c.refusal_in-number.ensures ∙ carry_refusal_bare _ t.network t.flows t.marks (framed c).none.result t.places _ _
-    ∙ ap (λ (p : Bool). carry_refusal_in p t.network t.flows t.marks t.places (start c).args.i (start c).args.e) (tested c).playing-in_play.ensures
+    c.refusal_in-number.ensures ∙ carry_refusal_bare _ t.network t.flows t.marks c.none.result t.places _ _
+    ∙ ap (λ (p : Bool). carry_refusal_in p t.network t.flows t.marks t.places c.args.i c.args.e) c.playing-in_play.ensures
 
 -- where it is accepted
 abbrev Stored : Type 0
 Stored = lts.After-minus tie.the-claims reads.Pre reads.Post tie.handed_clauses
 
-abbrev at_demand : Stored → lts.After-word_at2 tie.the-claims reads.Pre reads.Post tie.handed_clauses
-at_demand c = c.before.before.before.before.before
-
-abbrev at_flow : Stored → lts.After-word_at tie.the-claims reads.Pre reads.Post tie.handed_clauses
-at_flow c = (at_demand c).before.before.before.before
-
 abbrev accepted : Stored → lts.Then1 tie.the-claims reads.Pre reads.Post tie.handed_clauses
-accepted c = (at_flow c).before.before.before.before
+accepted c = c.before.before.before.before.before.before.before.before.before.before
+
+none : (c : Stored) → carry_refusal (whole_of c.args.board c.args.journal.now) c.args.i c.args.e ≡ 0
+none c = let q = judged (accepted c).before in let z = c.if-number-eq0.true in omega (arith, q, z)
+
+edge : (c : Stored) → c.args.e < max_edges
+edge c = room_edge c.args.board c.args.journal.now c.args.i c.args.e (none c)
+
+terminal : (c : Stored) → c.args.i < max_terminals
+terminal c = room_terminal c.args.board c.args.journal.now c.args.i c.args.e (none c)
+
+room : (c : Stored) → c.args.board.moves ≤ max_moves
+room c = room_move c.args.board c.args.journal.now c.args.i c.args.e (none c)
 
 pub offset_bounds-board-edge : goal.offset_bounds-board-edge
 offset_bounds-board-edge c = omega (arith, edge c)
@@ -75,13 +71,11 @@ overflow_cast-m c = omega (arith, room c.before)
 
 pub returns-then-number-eq0 : goal.returns-then-number-eq0
 returns-then-number-eq0 c =
-    let at_entry_lem = c.before in
-    let at_rest = at_entry_lem.before.before in
-    let judge = (accepted at_rest).before in
+    let judge = (accepted c.before.before.before).before in
     let t = table judge in
-    let change = makes_carried t.network t.flows t.marks t.places (start judge).args.i (start judge).args.e _ _ _ _ _ _ (at_flow at_rest).word_at-flow.ensures
-    (at_demand at_rest).word_at-demand.ensures c.word_at-tail.ensures c.minus-rest.ensures refl refl in
-    let all = lent_accepted t (words judge) (start judge).args.i (start judge).args.e _ (judged judge) _ _ (accepted at_rest).if-number-eq0.true change
+    let change = makes_carried t.network t.flows t.marks t.places judge.args.i judge.args.e _ _ _ _ _ _ c.word_at-flow.ensures
+    c.word_at-demand.ensures c.word_at-tail.ensures c.minus-rest.ensures refl refl in
+    let all = lent_accepted t (words judge) judge.args.i judge.args.e _ (judged judge) _ _ c.if-number-eq0.true change
     (c.put_entry.ensures.journal_after ∙ ap (λ (x : Entry). set (words judge) t.moves (packed x)) c.entry_of.ensures)
     (c.put_entry.ensures.journal_after_2 ∙ ap (λ (x : Entry). set (entries_of (words judge)) t.moves x) c.entry_of.ensures) in record {
       journal_after = all.0;
@@ -91,7 +85,7 @@ returns-then-number-eq0 c =
 pub returns-else-number-eq0 : goal.returns-else-number-eq0
 returns-else-number-eq0 c =
     let judge = c.before in
-    let all = lent_refused (table judge) (words judge) (start judge).args.i (start judge).args.e _ (judged judge) c.if-number-eq0.false in record {
+    let all = lent_refused (table judge) (words c.before) c.args.i c.args.e _ (judged judge) c.if-number-eq0.false in record {
       journal_after = all.0;
       journal_after_2 = all.1;
     }

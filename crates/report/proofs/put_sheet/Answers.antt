@@ -2,15 +2,14 @@
 -- report. A buffer as long as the longest report has room for this one.
 use mathlib.Core.Path.{◌≡◌, sym, ap, ◌∙◌}
 use mathlib.Core.Bool.{true, false}
-use mathlib.Core.Logic.{⊎_elim}
 use mathlib.Core.List.{List}
 use Prim.Native.Nat.{ℕ, ◌≤◌}
 use native.Mathlib.Omega.{arith}
 use borrow.Author.Rules.{rules}
 use lib.Dec.{leb}
-use lib.ListN.{length, length-map}
+use lib.ListN.{length}
 use lib.Seq.{sets}
-use borrow.Author.Tests.{not-false, leb-true}
+use borrow.Author.Tests.{leb-true}
 use Rattle.text.specs.Sizes.{report_bytes}
 use Rattle.lists.proofs.Laws.{both_left}
 use Rattle.board.specs.Limits.{max_terminals}
@@ -124,11 +123,12 @@ returns c =
     let size : length (report_text board) ≤ report_bytes = omega (arith, put.value, put.upper_bound, sizes) in
     let room : args.whole ≡ true → length (report_text board) ≤ length args.buf.now =
     λ yes. elim c.if-and.branch [
-      then-and+else-not-has_room w ↦
-        (let fits : leb (length (report_text board)) (length args.buf.now) ≡ true =
-        ap (λ (l : List ℕ). leb (length l) (length args.buf.now)) (sym text) ∙ sym w.has_room.ensures ∙ w.if-not-has_room.false in
-        leb-true _ _ fits)
-    | else-and w ↦ omega (arith, size, long_buffer args.whole (length args.buf.now) (sym c.and.ensures ∙ w.if-and.false) yes) ] in
+      | then-and+else-not-has_room w ↦
+          (let fits : leb (length (report_text board)) (length args.buf.now) ≡ true =
+          ap (λ (l : List ℕ). leb (length l) (length args.buf.now)) (sym text) ∙ sym w.has_room.ensures ∙ w.if-not-has_room.false in
+          leb-true _ _ fits)
+      | else-and w ↦ omega (arith, size, long_buffer args.whole (length args.buf.now) (sym c.and.ensures ∙ w.if-and.false) yes)
+    ] in
     let all = put_done board args.whole args.buf.now args.at reported _ _ room (omega (arith, put.value, sizes)) (omega arith)
     (put.buf_after ∙ ap (λ (l : List ℕ). sets args.buf.now args.at l) text) in record {
       value = all.0;

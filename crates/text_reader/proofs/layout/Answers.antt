@@ -41,11 +41,11 @@ terminal_lines-t-requires c =
 
 pub returns-then-t-ne0 : goal.returns-then-t-ne0
 returns-then-t-ne0 c = record {
-      s_value = whole_terminal_stop _ c.header-h.result c.header-h.ensures.s_value c.if-h-ne0.false c.edge_lines-e.result c.edge_lines-e.ensures.s_value
-          c.if-e-ne0.false c.terminal_lines-t.result c.terminal_lines-t.ensures.s_value c.if-t-ne0.true;
-      used_in_bounds = c.terminal_lines-t.ensures.used_in_bounds;
-      value = c.terminal_lines-t.ensures.value;
-    }
+  s_value = whole_terminal_stop _ c.header-h.result c.header-h.ensures.s_value c.if-h-ne0.false c.edge_lines-e.result c.edge_lines-e.ensures.s_value
+      c.if-e-ne0.false c.terminal_lines-t.result c.terminal_lines-t.ensures.s_value c.if-t-ne0.true;
+  used_in_bounds = c.terminal_lines-t.ensures.used_in_bounds;
+  value = c.terminal_lines-t.ensures.value;
+}
 
 pub returns-then-t-s : goal.returns-then-t-s
 returns-then-t-s c = record {
@@ -58,8 +58,8 @@ returns-then-t-s c = record {
 
 pub returns : goal.returns
 returns c = record {
-      s_value = whole_end _ c.header-h.result c.header-h.ensures.s_value c.if-h-ne0.false c.edge_lines-e.result c.edge_lines-e.ensures.s_value c.if-e-ne0.false
-          c.terminal_lines-t.result c.terminal_lines-t.ensures.s_value c.if-t-ne0.false c.if-t-s.false;
-      used_in_bounds = c.terminal_lines-t.ensures.used_in_bounds;
-      value = c.terminal_lines-t.ensures.value;
-    }
+  s_value = whole_end _ c.header-h.result c.header-h.ensures.s_value c.if-h-ne0.false c.edge_lines-e.result c.edge_lines-e.ensures.s_value c.if-e-ne0.false
+      c.terminal_lines-t.result c.terminal_lines-t.ensures.s_value c.if-t-ne0.false c.if-t-s.false;
+  used_in_bounds = c.terminal_lines-t.ensures.used_in_bounds;
+  value = c.terminal_lines-t.ensures.value;
+}
