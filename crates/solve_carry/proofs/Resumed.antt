@@ -1,6 +1,6 @@
 -- Why the search may go on at the terminal of the last carry. That carry was the lowest open one, so no lower terminal had one. It lowers the flow of one edge: an
 -- unmarked edge that was too low for a lower terminal stays too low, and a marked edge, whose flow was the demand, is empty now. All else is as it was for them.
-use mathlib.Core.Path.{◌≡◌, refl, sym, ap, ◌∙◌}
+use mathlib.Core.Path.{◌≡◌, sym, ap, ◌∙◌}
 use mathlib.Core.Bool.{Bool, true, false, true≢false}
 use mathlib.Core.List.{List}
 use mathlib.Core.Logic.{◌⊎◌, inl, inr}
@@ -9,10 +9,10 @@ use native.Mathlib.Omega.{arith}
 use lib.Dec.{ltb, eqb}
 use lib.ListN.{length, get_or, set}
 use lib.Seq.{get_or-set_same, get_or-set_other}
-use borrow.Author.Tests.{ltb-true, ltb-false, le-ltb, eqb-true, leb-true, leb-false, lt-leb, ne_eqb}
+use borrow.Author.Tests.{ltb-true, ltb-false, le-ltb, eqb-true, leb-false, lt-leb, ne_eqb}
 use Rattle.lists.specs.Choice.{pick, both}
 use Rattle.lists.specs.Lists.{lowest}
-use Rattle.lists.proofs.Laws.{Known, was_true, was_false, known, lt_or_ge, eq_or_ne, pick_yes, pick_no, both_left, both_right}
+use Rattle.lists.proofs.Laws.{Known, was_true, was_false, known, lt_or_ge, eq_or_ne, pick_yes, pick_no, both_right}
 use Rattle.lists.proofs.Lowest.{Least, lowest_least}
 use Rattle.sets.specs.Sets.{no_word, has_bit}
 use Rattle.sets.proofs.Scan.{lowest_is}
