@@ -1,17 +1,17 @@
 -- Letters and their refusals. A call that is not refused has a letter from A to D, and then it changes what its definition says.
-use mathlib.Core.Path.{◌≡◌, refl, sym, ap, ◌∙◌}
+use mathlib.Core.Path.{◌≡◌, refl, sym, ◌∙◌}
 use mathlib.Core.Bool.{true, false}
 use mathlib.Core.Logic.{◌≢◌}
 use Prim.Native.Nat.{ℕ, ◌+◌, ◌-◌, ◌<◌, ◌≤◌}
 use native.Mathlib.Omega.{arith}
-use lib.Dec.{leb, ltb, eqb}
+use lib.Dec.{ltb}
 use borrow.Author.Tests.{eq-eqb, ne_eqb, lt-ltb, le-ltb, ltb-true, lt-leb, le-leb}
-use Rattle.lists.specs.Choice.{pick, both}
+use Rattle.lists.specs.Choice.{both}
 use Rattle.lists.proofs.Laws.{pick_yes, pick_no, pick_passed, both_true}
 use Rattle.board.specs.Whole.{Board}
 use Rattle.move_guard.specs.Guard.{loaded}
 use Rattle.checkpoints.specs.Letters.{letters, first_letter, letter_of}
-use Rattle.checkpoints.specs.Games.{Game, Reply, settled, keep_refusal, back_refusal}
+use Rattle.checkpoints.specs.Games.{Game, settled, keep_refusal, back_refusal}
 
 -- ---- The number of a letter.
 

@@ -1,13 +1,11 @@
 -- What the call `turn` changes, by the parts of a board: the tests and the changes read nothing else of the board, so on its own parts they are the call's.
 -- And what a board in play has that a turn needs: its guard has tested it.
-use mathlib.Core.Path.{◌≡◌, refl, sym, ap, ◌∙◌}
-use mathlib.Core.Bool.{Bool, true, false}
+use mathlib.Core.Path.{◌≡◌, sym, ap, ◌∙◌}
+use mathlib.Core.Bool.{Bool}
 use mathlib.Core.Logic.{◌⊎◌, inl, inr, ◌≢◌}
 use mathlib.Core.List.{List}
 use Prim.Native.Nat.{ℕ, ◌+◌}
-use native.Mathlib.Omega.{arith}
-use lib.Dec.{leb, eqb}
-use lib.ListN.{length, set}
+use lib.ListN.{set}
 use borrow.Author.Tests.{eq-eqb, ne_eqb}
 use Rattle.lists.proofs.Laws.{eq_or_ne, pick_yes, pick_no}
 use Rattle.board.specs.Whole.{Entry, Board}
