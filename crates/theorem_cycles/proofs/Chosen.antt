@@ -1,7 +1,7 @@
 -- The walk on a board, by any two choices that find an edge where there is one, gives a cycle that may be turned. With no open carry and a terminal away from the
 -- source there is an edge wherever the walk needs one.
 use mathlib.Core.Path.{◌≡◌}
-use mathlib.Core.Bool.{true, false}
+use mathlib.Core.Bool.{false}
 use mathlib.Core.Logic.{◌⊎◌, inl, inr, ◌≢◌}
 use Prim.Native.Nat.{ℕ, ◌<◌, ◌≤◌}
 use native.Mathlib.Omega.{arith}
