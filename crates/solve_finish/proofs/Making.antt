@@ -6,16 +6,15 @@ use mathlib.Core.Bool.{true, false}
 use mathlib.Core.Logic.{◌≢◌}
 use Prim.Native.Nat.{ℕ, zero, suc, ◌-◌, ◌<◌}
 use native.Mathlib.Omega.{arith}
-use lib.Dec.{ltb, eqb}
-use borrow.Author.Tests.{ltb-true, lt-ltb, eqb-true, eq-eqb, ne_eqb}
+use lib.Dec.{eqb}
+use borrow.Author.Tests.{lt-ltb, eqb-true, eq-eqb, ne_eqb}
 use Rattle.lists.proofs.Laws.{Known, was_true, was_false, known, pick_yes, pick_no, both_left, both_right, both_true, all_from}
-use Rattle.lists.proofs.Lowest.{lowest_least}
 use Rattle.board.specs.Whole.{Board}
 use Rattle.board.specs.Whole.{Played}
 use Rattle.move_guard.specs.Parts.{flow, marked, demand, place}
 use Rattle.move_guard.specs.Guard.{playing}
 use Rattle.move_guard.proofs.Answers.{answered_yes, answered_no}
-use Rattle.move_carry.specs.Opens.{flow_fits, enters, is_open, has_open, open_edge, open_terminal, some_open, has_open_in, is_home, is_home_in, is_open_in, open_edge_in, open_terminal_in, some_open_in}
+use Rattle.move_carry.specs.Opens.{flow_fits, enters, open_terminal, some_open, is_home, is_home_in, is_open_in}
 use Rattle.move_carry.specs.Carries.{on_board, carry_refusal, carried, carry_refusal_in, on_board_in}
 use Rattle.move_turn.specs.Turns.{turn_refusal, turned}
 use Rattle.solve_next.specs.Choosing.{all_home, judge, acted, next_cycle, next_act, all_home_in}

@@ -1,0 +1,16 @@
+-- A terminal at the source halts with 21. Else one flow falls by the demand, so that all flows stay small, and its edge leaves the set of positive edges exactly
+-- where no flow is left on it.
+use Rattle.solve_finish.proofs.Parting.{carry_stopped, carry_made}
+use Rattle.solve_finish.proofs.InPlace.{halts}
+use Rattle.solve_finish.proofs.carry_on.Goals as goal
+
+pub returns-then-place-frame : goal.returns-then-place-frame
+returns-then-place-frame c =
+    carry_stopped _ _ _ _ c.args.frame.positive _ _ _ c.word_at-place.ensures _ c.if-place-frame.true
+    (halts _ c.args.frame _ _ c.halted.result c.requires.positive_set c.requires.flows_value c.halted.ensures)
+
+pub returns : goal.returns
+returns c =
+    carry_made _ _ _ _ _ _ _ _ c.word_at-place.ensures _ _ _ _ _ _ _ c.if-place-frame.false c.word_at-flow.ensures c.word_at-demand.ensures
+    c.word_at-tail.ensures c.minus-rest.ensures c.put_word.ensures c.put_word-2.ensures c.positive_after-after.ensures
+    c.requires.flows_len c.requires.positive_set c.requires.flows_value
