@@ -1,0 +1,13 @@
+-- The parts of the move are stored one after the other.
+use native.Mathlib.Omega.{arith}
+use Rattle.move_list.proofs.Coded.{advice_stored}
+use Rattle.move_list.proofs.put_advice.Goals as goal
+
+pub put_steps-requires : goal.put_steps-requires
+put_steps-requires c =
+    omega (arith, c.requires)
+
+pub returns : goal.returns
+returns c =
+    advice_stored c.args.buf.now c.args.k c.args.advice _ _ _ _ _ c.put_word.ensures c.put_word-2.ensures c.put_word-3.ensures c.put_word-4.ensures
+    c.put_steps.ensures

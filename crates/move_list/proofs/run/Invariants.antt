@@ -1,0 +1,12 @@
+-- The calls that are left, from the board and the words as they are now, end in the same board and words as all of them; their answers and hints fill the buffers in the
+-- same way.
+use Rattle.journal.specs.Words.{whole_of}
+use Rattle.move_list.proofs.Going.{Round}
+use Rattle.move_list.proofs.run.Given as goal
+
+abbrev pub invariant-loop-left : goal.invariant-loop-left
+invariant-loop-left l =
+    Round l.steps l.codes l.initial.buf l.initial.hints (whole_of l.initial.b l.initial.journal) l.initial.journal l.buf l.hints (whole_of l.b l.journal) l.journal l.left l.k l.j
+
+abbrev pub decreases-loop-left : goal.decreases-loop-left
+decreases-loop-left l = l.left
