@@ -17,7 +17,7 @@ use Rattle.board.specs.declared.Network.{Network}
 use Rattle.text_rules.specs.Sound.{Sound}
 use Rattle.text_rules.specs.Rules.{edge_fits, terminal_fits, counts_fit, judged, lawful, Within, Lawful}
 use Rattle.text_rules.proofs.Meaning.{lawful_tested}
-use Rattle.move_guard.specs.Parts.{flow, acyclic_flow, demand, place}
+use Rattle.move_guard.specs.Parts.{flow, acyclic_flow, place}
 use Rattle.move_guard.specs.Guard.{edge_intact, terminal_intact, move_intact, intact}
 use Rattle.theorem_cycles.specs.Invariant.{Invariant, amount_of, SmallAmounts}
 use Rattle.theorem_cycles.proofs.Network.{acyclic_of_below}

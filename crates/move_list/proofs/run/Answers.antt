@@ -3,7 +3,6 @@
 use mathlib.Core.Path.{refl, ap, ◌∙◌}
 use Prim.Native.Nat.{ℕ, ◌+◌, ◌-◌}
 use lib.ListN.{length, get_or}
-use mathlib.Core.Logic.{⊎_elim}
 use native.Mathlib.Omega.{arith}
 use Rattle.journal.specs.Words.{whole_of, given_of}
 use Rattle.solve_finish.specs.Lent.{ended_of}
@@ -11,6 +10,12 @@ use Rattle.move_list.specs.Calls.{Game, game_of}
 use Rattle.move_list.proofs.Coded.{all_left, played_end, answers_end, hints_end}
 use Rattle.move_list.proofs.Going.{few_coded, hint_coded, none_coded, past, finish_made, round_moved, round_hinted, round_skipped, words_end}
 use Rattle.move_list.proofs.run.Goals as goal
+use Rattle.move_list.proofs.run.Goals.{
+  then-call-lt-HINT,
+  else-call-lt-HINT+then-call-eq-HINT,
+  else-call-lt-HINT+else-call-eq-HINT+then-call-eq-FINISH,
+  else-call-lt-HINT+else-call-eq-HINT+else-call-eq-FINISH,
+}
 
 pub loop-left-init : goal.loop-left-init
 loop-left-init c = record {
@@ -36,25 +41,26 @@ loop-left-preserved c =
     let some = c.loop-left-test.true in
     let steps = c.args.steps.now in
     let counted = ap (λ (n : ℕ). loop.k + n) (c.answer_count-k.ensures steps _ _) in
-    ⊎_elim
-    (λ w.
-    let words = w.2.last.1.0 in
-    round_moved _ _ _ _ _ _ _ _ _ _ _ _ _ some loop.invariant _ _ _ _ _ _ counted (given_of w.2.result words) words w.2.ensures (w.9 ∙ w.4.ensures) w.10 w.12
-    (λ i. whole_of (w.11 i) (w.8 i)) w.8)
-    (⊎_elim
-    (λ w.
-    round_hinted _ _ _ _ _ _ _ _ _ _ _ _ _ some loop.invariant _ _ _ _ _ _ counted w.4.result (hint_coded steps _ _ _ (omega (arith, w.2.taken))) w.4.ensures
-    (w.15 ∙ w.6.ensures) (w.16 ∙ w.11.ensures.1) (w.18 ∙ w.11.ensures.0) (λ i. whole_of (w.17 i) (w.14 i)) w.14)
-    (⊎_elim
-    (λ w.
-    let words = w.6.last.1.0 in
-    round_moved _ _ _ _ _ _ _ _ _ _ _ _ _ some loop.invariant _ _ _ _ _ _ counted _ words
-    (finish_made _ _ words steps _ _ _ (ended_of w.6.result words) w.4.taken w.6.ensures.0 w.6.ensures.1) (w.13 ∙ w.8.ensures) w.14 w.16
-    (λ i. whole_of (w.15 i) (w.12 i)) w.12)
-    (λ w.
-    round_skipped _ _ _ _ _ _ _ _ _ _ _ _ _ some loop.invariant _ _ _ _ _ _ counted (none_coded steps _ _ _ (past w.0.left w.2.left w.4.left)) w.6 w.7
-    (λ i. whole_of (w.8 i) (w.5 i)) w.5 w.9)))
-    c.if-call-lt-HINT.branch
+    elim c.if-call-lt-HINT.branch [
+      | then-call-lt-HINT w ↦
+          (let words = w.make-given.new.journal in
+          round_moved _ _ _ _ _ _ _ _ _ _ _ _ _ some loop.invariant _ _ _ _ _ _ counted (given_of w.make-given.result words) words w.make-given.ensures
+          (w.buf-is ∙ w.put_word.ensures) w.hints-is w.j-is (λ i. whole_of (w.b-is i) (w.journal-is i)) w.journal-is)
+      | else-call-lt-HINT+then-call-eq-HINT w ↦
+          round_hinted _ _ _ _ _ _ _ _ _ _ _ _ _ some loop.invariant _ _ _ _ _ _ counted w.hint-given.result
+          (hint_coded steps _ _ _ (omega (arith, w.if-call-eq-HINT.true))) w.hint-given.ensures (w.buf-is ∙ w.put_word-then-call-eq-HINT.ensures)
+          (w.hints-is ∙ w.note-j.ensures.buf_after) (w.j-is ∙ w.note-j.ensures.value) (λ i. whole_of (w.b-is i) (w.journal-is i)) w.journal-is
+      | else-call-lt-HINT+else-call-eq-HINT+then-call-eq-FINISH w ↦
+          (let words = w.finish-ended.new.journal in
+          round_moved _ _ _ _ _ _ _ _ _ _ _ _ _ some loop.invariant _ _ _ _ _ _ counted _ words
+          (finish_made _ _ words steps _ _ _ (ended_of w.finish-ended.result words) w.if-call-eq-FINISH.true w.finish-ended.ensures.journal_after
+          w.finish-ended.ensures.journal_after_2) (w.buf-is ∙ w.put_word-then-call-eq-FINISH.ensures) w.hints-is w.j-is
+          (λ i. whole_of (w.b-is i) (w.journal-is i)) w.journal-is)
+      | else-call-lt-HINT+else-call-eq-HINT+else-call-eq-FINISH w ↦
+          round_skipped _ _ _ _ _ _ _ _ _ _ _ _ _ some loop.invariant _ _ _ _ _ _ counted
+          (none_coded steps _ _ _ (past w.if-call-lt-HINT.false w.if-call-eq-HINT.false w.if-call-eq-FINISH.false)) w.buf-is w.hints-is
+          (λ i. whole_of (w.b-is i) (w.journal-is i)) w.journal-is w.j-is
+    ]
 
 pub shape_of-buf : goal.shape_of-buf
 shape_of-buf c = c.loop-left.invariant.buf_long

@@ -5,7 +5,7 @@ use Prim.Native.Nat.{ℕ}
 use Rattle.journal.specs.Words.{whole_of, words_after}
 use Rattle.move_cycle.specs.Steps.{steps_of}
 use Rattle.move_turn.specs.Turns.{turn_call}
-use Rattle.move_list.proofs.Coded.{part_some, part_none, part_start}
+use Rattle.move_list.proofs.Coded.{part_some, part_none, part_start, part_end}
 use Rattle.move_list.proofs.turn_part.Goals as goal
 
 pub returns-then-not-inside : goal.returns-then-not-inside
@@ -36,12 +36,10 @@ returns c =
       journal_after_2 = gave.journal_after_2 ∙ ap (λ (s : List ℕ). words_after args.board.moves (turn_call whole (steps_of s)).board words) steps;
     }
 
--- LOST
--- part-turn-start : tie.Need-slice-bounds-turn-start
--- part-turn-start c =
---     let at_and = c.before.before in
---     part_start at_and.before.before.args.steps.now _ _ (sym at_and.and.ensures ∙ not-false _ c.before.if1.false)
--- part-turn-end : tie.Need-slice-bounds-turn-end
--- part-turn-end c =
---     let at_and = c.before.before in
---     part_end at_and.before.before.args.steps.now _ _ (sym at_and.and.ensures ∙ not-false _ c.before.if1.false)
+pub slice_bounds-turn-start : goal.slice_bounds-turn-start
+slice_bounds-turn-start c =
+    part_start c.args.steps.now _ _ (sym c.and-inside.ensures ∙ c.if-not-inside.false)
+
+pub slice_bounds-turn-end-2 : goal.slice_bounds-turn-end-2
+slice_bounds-turn-end-2 c =
+    part_end c.args.steps.now _ _ (sym c.and-inside.ensures ∙ c.if-not-inside.false)
