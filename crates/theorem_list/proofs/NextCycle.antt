@@ -1,7 +1,7 @@
 -- The cycle of the solver is one that may be turned. Its walk goes down and up by the lowest edge other than the one just used, so it finds one where there is
 -- one; and on a board with no open carry and a terminal away from the source there is one wherever the walk needs it.
 use mathlib.Core.Path.{◌≡◌, refl}
-use mathlib.Core.Bool.{Bool, true, false, not, true≢false}
+use mathlib.Core.Bool.{Bool, false, not, true≢false}
 use mathlib.Core.Logic.{◌≢◌}
 use mathlib.Core.List.{List}
 use Prim.Native.Nat.{ℕ, zero, suc, ◌+◌, ◌<◌}
