@@ -30,7 +30,16 @@ fn rows(text: &str) -> Vec<Vec<&str>> {
 /// "one constant table of at least 1,500 numbers, fields as in the board text", in the engine's source.
 pub fn source_table() -> String {
     let numbers: Vec<&str> = BOARDS.iter().flat_map(|text| rows(text).concat()).collect();
-    let lines: String = numbers.iter().map(|number| format!("    {number},\n")).collect();
+    // As the formatter lays them out: as many to a line as 99 columns hold.
+    let mut lines = vec![String::from("   ")];
+    for number in &numbers {
+        if lines[lines.len() - 1].len() + number.len() + 2 > 99 {
+            lines.push(String::from("   "));
+        }
+        let last = lines.len() - 1;
+        lines[last].push_str(&format!(" {number},"));
+    }
+    let lines: String = lines.iter().map(|line| format!("{line}\n")).collect();
     format!(
         "// The boards of the catalog, one after the other. `tools/stored` makes this file from `boards/catalog/`;\n\
          // `specs/Table.antt` has the same numbers line by line.\n\
@@ -51,8 +60,7 @@ pub fn definition_table() -> String {
     format!(
         "-- The boards of the catalog, one after the other, numbered from 0, each with the fields of its text line by line: \"fields as in the board text\".\n\
          -- `tools/stored` makes this file from `boards/catalog/`.\n\
-         use mathlib.Core.List.{{List, [], _∷_}}\n\
-         use Prim.Native.Nat.{{ℕ}}\n\n\
+         use Rattle.std.specs.Prelude.{{List, [], ◌∷◌, ℕ}}\n\n\
          unfoldable pub table : List ℕ\n\
          table =\n{lines}    []\n"
     )
