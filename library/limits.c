@@ -1,6 +1,6 @@
 /*
- * Holds vulprow.h to the engine: its macros and enums to the limits, stages and kinds that crates/boundary exports, and
- * its structs to a layout without padding. tools/library compiles it, which checks the structs, and runs it. Each
+ * Holds vulprow.h to the engine: its macros and enums to the limits, stages and kinds that crates/boundary_c exports,
+ * and its structs to a layout without padding. tools/library compiles it, which checks the structs, and runs it. Each
  * number that is another is a line of its own, and the exit status is 1.
  */
 #include <stdio.h>

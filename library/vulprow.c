@@ -1,11 +1,11 @@
 /*
- * The functions of vulprow.h, over those that crates/boundary exports. A game goes to the engine as its five parts; a
+ * The functions of vulprow.h, over those that crates/boundary_c exports. A game goes to the engine as its five parts; a
  * text, steps or a buffer of length 0 as an address that is not NULL; what a call gives goes from the engine's rows
  * into the fields of a struct, also after a refusal, when the rows are all zeros. Nothing else happens here.
  */
 #include "vulprow.h"
 
-/* What crates/boundary exports. A slice is two arguments: its address, never NULL, and its length. */
+/* What crates/boundary_c exports. A slice is two arguments: its address, never NULL, and its length. */
 typedef uint32_t numbers_t[8];
 typedef uint32_t edges_t[5][VULPROW_MAX_CHANNELS];
 typedef uint32_t terminals_t[3][VULPROW_MAX_MILLS];
