@@ -1,5 +1,5 @@
-// The engine as C links it: the calls over the parts of a game's memory. library/vulprow.c has the functions of
-// include/vulprow.h, each of which makes one of these calls.
+// The engine as C links it: the calls over the parts of a game's memory, which crates/boundary_c exports.
+// library/vulprow.c has the functions of include/vulprow.h, each of which makes one of these calls.
 #![tactic(auto)]
 
 ghost use Rattle.std.specs.Prelude.{◌≡◌, length};
@@ -36,8 +36,7 @@ use solve_next::Advice;
 
 // Reads a board text and opens it for play. Answers what the load answered; the memory is then that of the board that
 // it gave, with no move standing.
-#[unsafe(no_mangle)]
-pub extern "C" fn vulprow_parts_load(
+pub fn vulprow_parts_load(
     numbers: &mut [u32; NUMBERS],
     edges: &mut [[u32; Board::MAX_EDGES]; EDGE_ROWS],
     terminals: &mut [[u32; Board::MAX_TERMINALS]; TERMINAL_ROWS],
@@ -57,8 +56,7 @@ pub extern "C" fn vulprow_parts_load(
 }
 
 // Relocates a terminal over an edge.
-#[unsafe(no_mangle)]
-pub extern "C" fn vulprow_parts_carry(
+pub fn vulprow_parts_carry(
     numbers: &mut [u32; NUMBERS],
     edges: &mut [[u32; Board::MAX_EDGES]; EDGE_ROWS],
     terminals: &mut [[u32; Board::MAX_TERMINALS]; TERMINAL_ROWS],
@@ -85,8 +83,7 @@ pub extern "C" fn vulprow_parts_carry(
 }
 
 // Augments along a cycle, a byte a step.
-#[unsafe(no_mangle)]
-pub extern "C" fn vulprow_parts_turn(
+pub fn vulprow_parts_turn(
     numbers: &mut [u32; NUMBERS],
     edges: &mut [[u32; Board::MAX_EDGES]; EDGE_ROWS],
     terminals: &mut [[u32; Board::MAX_TERMINALS]; TERMINAL_ROWS],
@@ -112,8 +109,7 @@ pub extern "C" fn vulprow_parts_turn(
 }
 
 // Takes the last standing move back, or a finish that stands.
-#[unsafe(no_mangle)]
-pub extern "C" fn vulprow_parts_undo(
+pub fn vulprow_parts_undo(
     numbers: &mut [u32; NUMBERS],
     edges: &mut [[u32; Board::MAX_EDGES]; EDGE_ROWS],
     terminals: &mut [[u32; Board::MAX_TERMINALS]; TERMINAL_ROWS],
@@ -138,8 +134,7 @@ pub extern "C" fn vulprow_parts_undo(
 }
 
 // Plays to the end; `count` gets how many moves that took.
-#[unsafe(no_mangle)]
-pub extern "C" fn vulprow_parts_finish(
+pub fn vulprow_parts_finish(
     numbers: &mut [u32; NUMBERS],
     edges: &mut [[u32; Board::MAX_EDGES]; EDGE_ROWS],
     terminals: &mut [[u32; Board::MAX_TERMINALS]; TERMINAL_ROWS],
@@ -168,8 +163,7 @@ pub extern "C" fn vulprow_parts_finish(
 }
 
 // Gives the move that a finish would make next: kind, terminal, edge and how many steps; and the steps, a byte each.
-#[unsafe(no_mangle)]
-pub extern "C" fn vulprow_parts_hint<'a>(
+pub fn vulprow_parts_hint<'a>(
     numbers: &'a [u32; NUMBERS],
     edges: &'a [[u32; Board::MAX_EDGES]; EDGE_ROWS],
     terminals: &'a [[u32; Board::MAX_TERMINALS]; TERMINAL_ROWS],
@@ -197,8 +191,7 @@ pub extern "C" fn vulprow_parts_hint<'a>(
 }
 
 // Writes the route report of a finished board; `used` gets its length.
-#[unsafe(no_mangle)]
-pub extern "C" fn vulprow_parts_sheet<'a>(
+pub fn vulprow_parts_sheet<'a>(
     numbers: &'a [u32; NUMBERS],
     edges: &'a [[u32; Board::MAX_EDGES]; EDGE_ROWS],
     terminals: &'a [[u32; Board::MAX_TERMINALS]; TERMINAL_ROWS],
@@ -221,8 +214,7 @@ pub extern "C" fn vulprow_parts_sheet<'a>(
 }
 
 // Writes the text that was loaded; `used` gets its length.
-#[unsafe(no_mangle)]
-pub extern "C" fn vulprow_parts_write<'a>(
+pub fn vulprow_parts_write<'a>(
     numbers: &'a [u32; NUMBERS],
     edges: &'a [[u32; Board::MAX_EDGES]; EDGE_ROWS],
     terminals: &'a [[u32; Board::MAX_TERMINALS]; TERMINAL_ROWS],
@@ -245,8 +237,7 @@ pub extern "C" fn vulprow_parts_write<'a>(
 }
 
 // Writes the text of a board of the catalog; `used` gets its length.
-#[unsafe(no_mangle)]
-pub extern "C" fn vulprow_parts_catalog(number: u32, buf: &mut [u8], used: &mut usize) -> u32
+pub fn vulprow_parts_catalog(number: u32, buf: &mut [u8], used: &mut usize) -> u32
     ensures value { result ≡ (catalog_call number (length buf.old)).answer }
     ensures used_after { used.new ≡ (catalog_call number (length buf.old)).used }
     ensures buf_after { buf.new ≡ catalogued number buf.old }
@@ -257,8 +248,7 @@ pub extern "C" fn vulprow_parts_catalog(number: u32, buf: &mut [u8], used: &mut 
 }
 
 // Gives what a screen draws: numbers, rows over the edges and rows over the terminals.
-#[unsafe(no_mangle)]
-pub extern "C" fn vulprow_parts_look<'a>(
+pub fn vulprow_parts_look<'a>(
     numbers: &'a [u32; NUMBERS],
     edges: &'a [[u32; Board::MAX_EDGES]; EDGE_ROWS],
     terminals: &'a [[u32; Board::MAX_TERMINALS]; TERMINAL_ROWS],
@@ -291,8 +281,7 @@ pub extern "C" fn vulprow_parts_look<'a>(
 }
 
 // Gives the standing move at a place: numbers and rows over the edges.
-#[unsafe(no_mangle)]
-pub extern "C" fn vulprow_parts_journal<'a>(
+pub fn vulprow_parts_journal<'a>(
     numbers: &'a [u32; NUMBERS],
     edges: &'a [[u32; Board::MAX_EDGES]; EDGE_ROWS],
     terminals: &'a [[u32; Board::MAX_TERMINALS]; TERMINAL_ROWS],
@@ -324,8 +313,7 @@ pub extern "C" fn vulprow_parts_journal<'a>(
 }
 
 // Gives the numbers that the header has as macros and in enums.
-#[unsafe(no_mangle)]
-pub extern "C" fn vulprow_parts_limits(out: &mut [u32; boundary_parts::LIMITS])
+pub fn vulprow_parts_limits(out: &mut [u32; boundary_parts::LIMITS])
     ensures { out.new ≡ engine_limits }
 {
     *out = [
