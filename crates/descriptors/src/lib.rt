@@ -1,4 +1,4 @@
-// What the programs do with descriptors: bytes are handed on, and what the library answers is printed.
+// What the programs do with their streams: bytes are handed on, and what the library answers is printed.
 #![tactic(auto)]
 
 ghost use Rattle.std.specs.Prelude.{◌≡◌, true, ◌≤◌, length};
@@ -10,8 +10,8 @@ ghost use Rattle.descriptors.specs.Serving.{ServedPart};
 
 use board::Board;
 use journal::WORDS;
-use libc::STDOUT_FILENO;
 use play_session::Session;
+use std::io::Write;
 
 // A session behind a piece of its input, how many bytes of the piece it took, and whether what it said was printed.
 #[derive(Clone, Copy)]
@@ -29,22 +29,23 @@ pub struct Served {
 }
 
 // Prints the first bytes of a buffer, so many.
-pub fn print_part(out: &[u8], used: usize) -> bool
+pub fn print_part<W: Write>(out: &[u8], used: usize, output: &mut W) -> bool
     ensures { result ≡ true → used ≤ length out.now }
 {
     if out.len() < used {
         return false;
     }
-    io::write_all(STDOUT_FILENO, &out[..used])
+    streams::write_all(output, &out[..used])
 }
 
 // Hands bytes to the session, which takes those up to its first line feed, and prints what it says, by way of the
 // buffer.
-fn hand_on(
+fn hand_on<W: Write>(
     session: Session,
     journal: &mut [[u64; WORDS]; Board::JOURNAL],
     bytes: &[u8],
     out: &mut [u8],
+    output: &mut W,
 ) -> Handed
     ensures journal_after { session_of result.session journal.new ≡
         fed_session (session_of session journal.old) bytes.now }
@@ -56,7 +57,7 @@ fn hand_on(
         sets out.old 0 (fed_told (session_of session journal.old) bytes.now) }
 {
     let fed = play_session::feed(session, journal, bytes, out);
-    let printed = print_part(out, fed.used);
+    let printed = print_part(out, fed.used, output);
     let next = fed.session;
     Handed {
         session: next,
@@ -67,11 +68,12 @@ fn hand_on(
 
 // Hands all of the bytes to the session, and prints its answers, by way of the buffer. Where one cannot be printed, the
 // bytes behind it are left.
-fn hand_all(
+fn hand_all<W: Write>(
     session: Session,
     journal: &mut [[u64; WORDS]; Board::JOURNAL],
     bytes: &[u8],
     out: &mut [u8],
+    output: &mut W,
 ) -> Served
     ensures { ServedPart (session_of session journal.old) bytes.now
         (session_of result.session journal.new) result.going }
@@ -79,7 +81,7 @@ fn hand_all(
     let mut current = session;
     let mut from: usize = 0;
     while from < bytes.len() {
-        let handed = hand_on(current, journal, &bytes[from..], out);
+        let handed = hand_on(current, journal, &bytes[from..], out, output);
         let taken = handed.taken;
         let printed = handed.printed;
         current = handed.session;
@@ -99,34 +101,45 @@ fn hand_all(
 }
 
 // The same with a buffer of its own.
-pub fn serve(session: Session, journal: &mut [[u64; WORDS]; Board::JOURNAL], bytes: &[u8]) -> Served
+pub fn serve<W: Write>(
+    session: Session,
+    journal: &mut [[u64; WORDS]; Board::JOURNAL],
+    bytes: &[u8],
+    output: &mut W,
+) -> Served
     ensures { ServedPart (session_of session journal.old) bytes.now
         (session_of result.session journal.new) result.going }
 {
     let mut out = [0u8; Session::OUTPUT];
-    hand_all(session, journal, bytes, &mut out)
+    hand_all(session, journal, bytes, &mut out, output)
 }
 
 // Prints what the session says at the end of its input, by way of the buffer.
-pub fn close(session: Session, journal: &mut [[u64; WORDS]; Board::JOURNAL], out: &mut [u8]) -> bool
+pub fn close<W: Write>(
+    session: Session,
+    journal: &mut [[u64; WORDS]; Board::JOURNAL],
+    out: &mut [u8],
+    output: &mut W,
+) -> bool
     ensures journal_in_bounds { result ≡ true →
         length (end_told (session_of session journal.old)) ≤ length out.old }
     ensures out_after { out.new ≡
         sets out.old 0 (end_told (session_of session journal.old)) }
 {
     let used = play_session::close(session, journal, out);
-    print_part(out, used)
+    print_part(out, used, output)
 }
 
 // Prints what the program `sheet` says of an input, by way of the buffer.
-pub fn print_sheet(
+pub fn print_sheet<W: Write>(
     input: &[u8],
     journal: &mut [[u64; WORDS]; Board::JOURNAL],
     out: &mut [u8],
+    output: &mut W,
 ) -> bool
     ensures input_in_bounds { result ≡ true → length (sheet_output input.now) ≤ length out.old }
     ensures out_after { out.new ≡ sets out.old 0 (sheet_output input.now) }
 {
     let size = sheet_output::sheet_output(input, journal, out);
-    print_part(out, size)
+    print_part(out, size, output)
 }

@@ -7,34 +7,44 @@ ghost use Rattle.descriptors.specs.Inner.{BehindPieces};
 use board::Board;
 use descriptors::Served;
 use journal::WORDS;
-use libc::STDIN_FILENO;
 use play_session::Session;
+use std::io::{Stdin, Stdout};
 
 // Reads a piece of the input, as much as there is, and serves it. At the end of the input the session goes on no more.
-fn next_piece(session: Session, journal: &mut [[u64; WORDS]; Board::JOURNAL]) -> Served
+fn next_piece(
+    session: Session,
+    journal: &mut [[u64; WORDS]; Board::JOURNAL],
+    input: &mut Stdin,
+    output: &mut Stdout,
+) -> Served
     ensures { BehindPieces (session_of session journal.old)
         (session_of result.session journal.new) }
 {
-    let mut space = io::buffer();
-    let got = io::count(libc::read(STDIN_FILENO, &mut space), &space);
+    let mut space = [0u8; 4096];
+    let got = streams::read_some(input, &mut space);
     if got == 0 {
         return Served {
             session: session,
             going: false,
         };
     }
-    descriptors::serve(session, journal, &space[..got])
+    descriptors::serve(session, journal, &space[..got], output)
 }
 
 // A proved loop has to end, and nothing says that the input does. So the loop counts its rounds down, from a number
 // that no run uses up.
-fn all_pieces(session: Session, journal: &mut [[u64; WORDS]; Board::JOURNAL]) -> Session
+fn all_pieces(
+    session: Session,
+    journal: &mut [[u64; WORDS]; Board::JOURNAL],
+    input: &mut Stdin,
+    output: &mut Stdout,
+) -> Session
     ensures { BehindPieces (session_of session journal.old) (session_of result journal.new) }
 {
     let mut current = session;
     let mut rounds = u64::MAX;
     while 0 < rounds {
-        let served = next_piece(current, journal);
+        let served = next_piece(current, journal, input, output);
         let going = served.going;
         current = served.session;
         if !going {
@@ -45,10 +55,12 @@ fn all_pieces(session: Session, journal: &mut [[u64; WORDS]; Board::JOURNAL]) ->
     current
 }
 
-fn main() {
+fn main(rt: HostRuntime) {
+    let mut input = rt.stdin();
+    let mut output = rt.stdout();
     let mut journal = [[0u64; WORDS]; Board::JOURNAL];
     let session = Session::start();
-    let last = all_pieces(session, &mut journal);
+    let last = all_pieces(session, &mut journal, &mut input, &mut output);
     let mut out = [0u8; Session::OUTPUT];
-    descriptors::close(last, &mut journal, &mut out);
+    descriptors::close(last, &mut journal, &mut out, &mut output);
 }

@@ -1,5 +1,6 @@
 // What the test programs share: numbers in bytes, and a number alone on a line.
-use libc::STDOUT_FILENO;
+
+use std::io::Stdout;
 
 // The number that two bytes make, the first the high one.
 pub fn two_bytes(high: u8, low: u8) -> usize {
@@ -12,10 +13,10 @@ pub fn four_bytes(a: u8, b: u8, c: u8, d: u8) -> u32 {
 }
 
 // A number alone on a line.
-pub fn print_line(n: u32) -> bool {
-    let is_printed = io::print_decimal(STDOUT_FILENO, n as u64);
+pub fn print_line(n: u32, output: &mut Stdout) -> bool {
+    let is_printed = streams::print_decimal(output, n as u64);
     if !is_printed {
         return false;
     }
-    io::write_all(STDOUT_FILENO, b"\n")
+    streams::write_all(output, b"\n")
 }

@@ -6,6 +6,7 @@ use super::framing;
 use board::{Board, Move};
 use journal::WORDS;
 use play_session::Session;
+use std::io::Stdout;
 
 // 1 for a carry, 0 for a turn.
 fn carry_count(step: Move) -> u32
@@ -33,7 +34,12 @@ fn carries(journal: &[[u64; WORDS]; Board::JOURNAL], moves: u32) -> u32
 }
 
 // The line of a board that was finished.
-fn print_counts(number: u32, board: Board, journal: &[[u64; WORDS]; Board::JOURNAL]) -> bool {
+fn print_counts(
+    number: u32,
+    board: Board,
+    journal: &[[u64; WORDS]; Board::JOURNAL],
+    output: &mut Stdout,
+) -> bool {
     let net = board.network;
     let carried = carries(journal, board.moves);
     let row = [
@@ -46,41 +52,41 @@ fn print_counts(number: u32, board: Board, journal: &[[u64; WORDS]; Board::JOURN
     ];
     let mut line = [0u8; 80];
     let used = text_writer::put_line(&mut line, 0, b'N', &row);
-    descriptors::print_part(&line, used)
+    descriptors::print_part(&line, used, output)
 }
 
 // The line of a board, its text and its report.
-fn print_board(number: u32, text: &[u8]) -> bool {
+fn print_board(number: u32, text: &[u8], output: &mut Stdout) -> bool {
     let mut journal = [[0u64; WORDS]; Board::JOURNAL];
     let loaded = load::load(text, &mut journal);
     let board = loaded.board;
     let finished = solve_finish::finish(board, &mut journal);
     let last = finished.board;
-    let counted = print_counts(number, last, &journal);
-    let written = descriptors::print_part(text, text.len());
+    let counted = print_counts(number, last, &journal, output);
+    let written = descriptors::print_part(text, text.len(), output);
     let mut out = [0u8; Session::OUTPUT];
-    let reported = descriptors::print_sheet(text, &mut journal, &mut out);
+    let reported = descriptors::print_sheet(text, &mut journal, &mut out, output);
     counted && written && reported
 }
 
 // The board of a number, or what the number is refused with.
-fn show(number: u32) -> bool {
+fn show(number: u32, output: &mut Stdout) -> bool {
     let mut space = [0u8; Session::TEXT];
     let written = catalog::write(number, &mut space);
     let used = written.used;
     if written.answer != 0 {
-        return framing::print_line(written.answer);
+        return framing::print_line(written.answer, output);
     }
     if space.len() < used {
         return false;
     }
-    print_board(number, &space[..used])
+    print_board(number, &space[..used], output)
 }
 
 // Shows the boards of the numbers below the count; whether all of them were printed whole.
-pub fn all_boards(count: u32) -> bool {
+pub fn all_boards(count: u32, output: &mut Stdout) -> bool {
     let mut number: u32 = 0;
-    while number < count && show(number) {
+    while number < count && show(number, output) {
         number += 1;
     }
     number == count

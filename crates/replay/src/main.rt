@@ -10,41 +10,43 @@ mod scripts;
 mod trials;
 mod unloaded;
 
-use libc::STDIN_FILENO;
+use std::io::{Stdin, Stdout};
 
 // Answers the pieces of one part.
-fn answer(letter: u8, count: u32) -> bool {
+fn answer(letter: u8, count: u32, input: &mut Stdin, output: &mut Stdout) -> bool {
     if letter == b'T' {
-        corpus::all_texts(count)
+        corpus::all_texts(count, input, output)
     } else if letter == b'L' {
-        trials::all_trials(count)
+        trials::all_trials(count, input, output)
     } else if letter == b'P' {
-        scripts::all_scripts(count)
+        scripts::all_scripts(count, input, output)
     } else if letter == b'C' {
-        listing::all_boards(count)
+        listing::all_boards(count, output)
     } else if letter == b'U' {
-        unloaded::all_stages(count)
+        unloaded::all_stages(count, output)
     } else {
         false
     }
 }
 
 // One part: answers whether there was one, and it was read and answered whole.
-fn next_part() -> bool {
+fn next_part(input: &mut Stdin, output: &mut Stdout) -> bool {
     let mut before = [0u8; 5];
-    let got = io::read_full(STDIN_FILENO, &mut before);
+    let got = streams::read_full(input, &mut before);
     if got < 5 {
         return false;
     }
     let count = framing::four_bytes(before[1], before[2], before[3], before[4]);
-    answer(before[0], count)
+    answer(before[0], count, input, output)
 }
 
 // A proved loop has to end, and nothing says that the input does. So the loop counts its rounds down, from a number
 // that no run uses up.
-fn main() {
+fn main(rt: HostRuntime) {
+    let mut input = rt.stdin();
+    let mut output = rt.stdout();
     let mut rounds = u64::MAX;
-    while 0 < rounds && next_part() {
+    while 0 < rounds && next_part(&mut input, &mut output) {
         rounds -= 1;
     }
 }

@@ -4,6 +4,7 @@ use super::framing;
 use board::{Board, Network};
 use journal::WORDS;
 use play_session::Session;
+use std::io::Stdout;
 
 // The calls, in the order of the lines.
 const CARRY: u32 = 0;
@@ -113,28 +114,28 @@ fn repeated(
 }
 
 // Every call on a board with an empty journal; whether all of the numbers were printed.
-fn all_calls(board: Board, count: u32) -> bool {
+fn all_calls(board: Board, count: u32, output: &mut Stdout) -> bool {
     let mut journal = [[0u64; WORDS]; Board::JOURNAL];
     let mut call = CARRY;
-    while call <= WRITE && framing::print_line(repeated(call, board, &mut journal, count)) {
+    while call <= WRITE && framing::print_line(repeated(call, board, &mut journal, count), output) {
         call += 1;
     }
     WRITE < call
 }
 
 // The boards of a stage; whether all of the numbers were printed.
-fn all_numbers(stage: u32, count: u32) -> bool {
+fn all_numbers(stage: u32, count: u32, output: &mut Stdout) -> bool {
     let mut number: u32 = 0;
-    while number <= LAST_BOARD && all_calls(past_limits(stage, number), count) {
+    while number <= LAST_BOARD && all_calls(past_limits(stage, number), count, output) {
         number += 1;
     }
     LAST_BOARD < number
 }
 
 // The boards of all stages; whether all of the numbers were printed.
-pub fn all_stages(count: u32) -> bool {
+pub fn all_stages(count: u32, output: &mut Stdout) -> bool {
     let mut stage = Board::PLAY;
-    while stage <= NO_STAGE && all_numbers(stage, count) {
+    while stage <= NO_STAGE && all_numbers(stage, count, output) {
         stage += 1;
     }
     NO_STAGE < stage
