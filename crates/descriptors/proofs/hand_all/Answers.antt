@@ -1,0 +1,56 @@
+-- The session behind the first `from` bytes goes on as one that is served all of them from the start; a piece takes a byte at least, so that the bytes
+-- run out.
+use mathlib.Core.Path.{◌≡◌, sym, ap, ◌∙◌}
+use mathlib.Core.Bool.{true≢false}
+use native.Mathlib.Omega.{arith}
+use lib.ListN.{length}
+use lib.Seq.{length-sets}
+use borrow.Author.Tests.{not-true, eqb-false}
+use Rattle.play_session.specs.Lent.{session_of}
+use Rattle.descriptors.proofs.Taking.{served_handed, served_here, served_end}
+use Rattle.descriptors.proofs.hand_all.Goals as goal
+
+pub overflow_add-from : goal.overflow_add-from
+overflow_add-from g c =
+    let at_loop = c.loop-from in
+    let handed = c.hand_on-handed in
+    let step = served_handed _ _ _ _ at_loop.invariant.2 c.loop-from-test.true _ _ handed.ensures.journal_after handed.ensures.taken_value in
+    omega (arith, step.1)
+
+pub returns-then-not-printed : goal.returns-then-not-printed
+returns-then-not-printed g c =
+    let at_loop = c.loop-from in
+    let handed = c.hand_on-handed in
+    let step = served_handed _ _ _ _ at_loop.invariant.2 c.loop-from-test.true _ _ handed.ensures.journal_after handed.ensures.taken_value in
+    record {
+      count = _;
+      within = step.1;
+      session = served_here _ _ _ _ step.2;
+      whole = λ e. absurd (true≢false (sym e));
+      unrefused = λ e. absurd (true≢false (sym e));
+    }
+
+pub loop-from-smaller : goal.loop-from-smaller
+loop-from-smaller g c =
+    let at_loop = c.loop-from in
+    let handed = c.hand_on-handed in
+    let step = served_handed _ _ _ _ at_loop.invariant.2 c.loop-from-test.true _ _ handed.ensures.journal_after handed.ensures.taken_value in
+    omega (arith, step.0, c.loop-from-test.true)
+
+pub loop-from-preserved : goal.loop-from-preserved
+loop-from-preserved g c =
+    let at_loop = c.loop-from in
+    let handed = c.hand_on-handed in
+    let step = served_handed _ _ _ _ at_loop.invariant.2 c.loop-from-test.true _ _ handed.ensures.journal_after handed.ensures.taken_value in
+    (step.1, ap length handed.ensures.out_after ∙ simp length-sets at_loop.invariant.1, step.2)
+
+pub returns : goal.returns
+returns g c =
+    let at_loop = c.loop-from in
+    record {
+      count = at_loop.from;
+      within = at_loop.invariant.0;
+      session = served_here _ _ _ _ at_loop.invariant.2;
+      whole = λ e. served_end _ _ _ _ at_loop.invariant.2 c.loop-from-test.false;
+      unrefused = λ e. eqb-false at_loop.current.stage 2 (not-true _ e);
+    }
