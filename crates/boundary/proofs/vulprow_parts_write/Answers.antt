@@ -1,0 +1,18 @@
+-- What the call ensures on the board that is read.
+use mathlib.Core.Path.{ap, ◌∙◌}
+use lib.ListN.{length}
+use Rattle.board.specs.Whole.{Board}
+use Rattle.text.specs.declared.Written.{Written}
+use Rattle.text.specs.Results.{write_text, written}
+use Rattle.boundary.proofs.vulprow_parts_write.Goals as goal
+
+pub returns : goal.returns
+returns c =
+    let args = c.args in
+    let buf = args.buf.now in
+    let is = c.board_in-board.ensures args.journal.now in
+    let call = c.write-text.ensures.value ∙ ap (λ (b : Board). write_text b (length buf)) is in record {
+      value = ap (λ (w : Written). w.answer) call;
+      used_after = ap (λ (w : Written). w.used) call;
+      buf_after = c.write-text.ensures.buf_after ∙ ap (λ (b : Board). written b buf) is;
+    }
