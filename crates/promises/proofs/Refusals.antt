@@ -28,7 +28,7 @@ use Rattle.move_carry.specs.Carries.{carry_refusal, carried, carry_call, carry_r
 use Rattle.move_turn.specs.Turns.{turn_refusal, turned, turn_call, turn_refusal_in}
 use Rattle.move_undo.specs.Undone.{undo_refusal, undo_call}
 use Rattle.move_list.proofs.Refused.{finish_same, call_same}
-use Rattle.move_list.specs.Calls.{Call, carry, turn, undo, hint, finish, game_of, played}
+use Rattle.move_list.specs.Calls.{Call, undo, game_of, played}
 use Rattle.solve_next.specs.Choosing.{no_advice}
 use Rattle.solve_next.specs.Hints.{hint_refusal, hint_call}
 use Rattle.solve_finish.specs.Finishes.{played_out, ended, finish_refusal, finish_call}

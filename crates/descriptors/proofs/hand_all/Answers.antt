@@ -1,12 +1,11 @@
 -- The session behind the first `from` bytes goes on as one that is served all of them from the start; a piece takes a byte at least, so that the bytes
 -- run out.
-use mathlib.Core.Path.{◌≡◌, sym, ap, ◌∙◌}
+use mathlib.Core.Path.{sym, ap, ◌∙◌}
 use mathlib.Core.Bool.{true≢false}
 use native.Mathlib.Omega.{arith}
 use lib.ListN.{length}
 use lib.Seq.{length-sets}
 use borrow.Author.Tests.{not-true, eqb-false}
-use Rattle.play_session.specs.Lent.{session_of}
 use Rattle.descriptors.proofs.Taking.{served_handed, served_here, served_end}
 use Rattle.descriptors.proofs.hand_all.Goals as goal
 
