@@ -1,3 +1,4 @@
+-- What a write takes follows what was written before: together they are a longer part of the bytes, from the first on.
 use Rattle.std.proofs.Common.{◌-◌, ◌++◌, arith, length, take, drop, sym, ap, subst, ◌∙◌, length-take}
 use lib.Seq.{take-add, take-take}
 use Rattle.std.specs.Io.KnownBytes.{Appends}
