@@ -20,8 +20,8 @@ const BOARDS: u32 = 40;
 fn span(t: &[u32]) -> usize
     ensures { result ≡ span t.now }
 {
-    let edges = lists::word_at(t, 1) as usize;
-    let terminals = lists::word_at(t, 2) as usize;
+    let edges = lists::at_or(t, 1, 0) as usize;
+    let terminals = lists::at_or(t, 2, 0) as usize;
     4 + (3 * edges + 2 * terminals)
 }
 
@@ -65,8 +65,8 @@ fn put_board(buf: &mut [u8], t: &[u32]) -> usize
     ensures value { result ≡ length (board_text t.now) }
     ensures buf_after { buf.new ≡ sets buf.old 0 (board_text t.now) }
 {
-    let edges = lists::word_at(t, 1) as usize;
-    let terminals = lists::word_at(t, 2) as usize;
+    let edges = lists::at_or(t, 1, 0) as usize;
+    let terminals = lists::at_or(t, 2, 0) as usize;
     let head = text_writer::put_line(buf, 0, b'B', &t[..4]);
     let to = put_rows(buf, head, b'C', &t[4..], 3, edges);
     put_rows(buf, to, b'W', &t[4 + 3 * edges..], 2, terminals)

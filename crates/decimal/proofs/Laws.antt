@@ -15,7 +15,7 @@ use Rattle.lists.specs.Choice.{pick, both}
 use Rattle.lists.specs.Lists.{index_of}
 use Rattle.lists.proofs.Laws.{Known, was_true, was_false, known, both_left, both_right, both_true}
 use Rattle.decimal.specs.Decimal.{decimal, decimal_from, number_of, value_from}
-use Rattle.decimal.specs.declared.Number.TheVariants.{Value, Malformed}
+use Rattle.std.specs.Prelude.{Some, None}
 
 -- more fuel than n changes nothing
 fuel : (k j n : ℕ) → n < k → n < j → decimal_from k n ≡ decimal_from j n
@@ -91,9 +91,9 @@ value_digit acc d rest l g = rw (both_true _ _ (le-leb 48 d l) (le-leb d 57 g), 
 record Digit (acc d n : ℕ) (rest : List ℕ) : Type 0 where
   low : 48 ≤ d
   high : d ≤ 57
-  next : value_from (acc * 10 + (d - 48)) rest ≡ Value n
+  next : value_from (acc * 10 + (d - 48)) rest ≡ Some n
 
-digit : (acc d n : ℕ) (rest : List ℕ) → value_from acc (d ∷ rest) ≡ Value n → Digit acc d n rest
+digit : (acc d n : ℕ) (rest : List ℕ) → value_from acc (d ∷ rest) ≡ Some n → Digit acc d n rest
 unfolding value_from
 digit acc d n rest e = go (known (both (leb 48 d) (leb d 57)))
   where
@@ -104,7 +104,7 @@ digit acc d n rest e = go (known (both (leb 48 d) (leb d 57)))
       next = rw (t, value_from) at e;
     }
     go (was_false t) =
-        let b : Malformed ≡ Value n = rw (t, value_from) at e in
+        let b : None ≡ Some n = rw (t, value_from) at e in
         let z : ◌≡◌ {A = ℕ} 0 1 = cc in
         absurd (omega arith)
 
@@ -126,12 +126,12 @@ head-decimal = by_digits (λ n. 0 < n → (rest : List ℕ) → 48 < get_or (dec
 
 -- a field by its length and its first byte
 module _ (s : List ℕ) where
-  pub number_none : length s ≡ 0 → Malformed ≡ number_of s
+  pub number_none : length s ≡ 0 → None ≡ number_of s
   unfolding number_of pick both
   number_none z = rw (le-ltb 0 (length s) (omega arith))
 
   module _ (some : length s ≡ 0 → ⊥) where
-    pub number_long : 7 < length s → Malformed ≡ number_of s
+    pub number_long : 7 < length s → None ≡ number_of s
     unfolding number_of pick both
     number_long h = rw (lt-ltb 0 (length s) (omega arith), lt-leb (length s) 7 h)
 
@@ -141,7 +141,7 @@ module _ (s : List ℕ) where
       number_one o = rw (lt-ltb 0 (length s) (omega arith), le-leb (length s) 7 most, le-ltb 1 (length s) (omega arith))
 
       module _ (more : length s ≡ 1 → ⊥) where
-        pub number_led : get_or s 0 0 ≡ 48 → Malformed ≡ number_of s
+        pub number_led : get_or s 0 0 ≡ 48 → None ≡ number_of s
         unfolding number_of pick both
         number_led z = rw (lt-ltb 0 (length s) (omega arith), le-leb (length s) 7 most, lt-ltb 1 (length s) (omega arith), eq-eqb (get_or s 0 0) 48 z)
 
@@ -149,7 +149,7 @@ module _ (s : List ℕ) where
         unfolding number_of pick both
         number_many z = rw (lt-ltb 0 (length s) (omega arith), le-leb (length s) 7 most, lt-ltb 1 (length s) (omega arith), ne_eqb (get_or s 0 0) 48 z)
 
-pub number_decimal : (n : ℕ) → n < 10000000 → number_of (decimal n) ≡ Value n
+pub number_decimal : (n : ℕ) → n < 10000000 → number_of (decimal n) ≡ Some n
 unfolding value_from
 number_decimal n h = go (known (ltb n 10)) ∙ rw append-nil at (value_decimal n [])
   where
@@ -173,13 +173,13 @@ record Read (s : List ℕ) (n : ℕ) : Type 0 where
   some : 0 < length s
   most : length s ≤ 7
   alone : led s ≡ false
-  value : value_from 0 s ≡ Value n
+  value : value_from 0 s ≡ Some n
 
-read : (s : List ℕ) (n : ℕ) → number_of s ≡ Value n → Read s n
+read : (s : List ℕ) (n : ℕ) → number_of s ≡ Some n → Read s n
 unfolding number_of pick
 read s n e = sized (known (both (ltb 0 (length s)) (leb (length s) 7)))
   where
-    refused : Malformed ≡ Value n → Read s n
+    refused : None ≡ Some n → Read s n
     refused b = let z : ◌≡◌ {A = ℕ} 0 1 = cc in absurd (omega arith)
 
     sized : Known (both (ltb 0 (length s)) (leb (length s) 7)) → Read s n
@@ -196,7 +196,7 @@ read s n e = sized (known (both (ltb 0 (length s)) (leb (length s) 7)))
         }
 
 -- digits behind those of a number above 0 are the digits of what they are read as
-value_canonical : (s : List ℕ) (acc n : ℕ) → 0 < acc → value_from acc s ≡ Value n → decimal n ≡ decimal acc ++ s
+value_canonical : (s : List ℕ) (acc n : ℕ) → 0 < acc → value_from acc s ≡ Some n → decimal n ≡ decimal acc ++ s
 unfolding value_from
 value_canonical [] acc n p e = let q : acc ≡ n = cc in rw (q, append-nil)
 value_canonical (d ∷ ds) acc n p e =
@@ -206,7 +206,7 @@ value_canonical (d ∷ ds) acc n p e =
     let last : 48 + m % 10 ≡ d = omega arith in
     value_canonical ds m n (omega arith) r.next ∙ rw (decimal-then m ds (omega arith), tenth, last)
 
-pub number_canonical : (s : List ℕ) (n : ℕ) → number_of s ≡ Value n → s ≡ decimal n
+pub number_canonical : (s : List ℕ) (n : ℕ) → number_of s ≡ Some n → s ≡ decimal n
 unfolding value_from both
 number_canonical s n e = go s (read s n e)
   where
@@ -214,7 +214,7 @@ number_canonical s n e = go s (read s n e)
     go [] r = absurd (omega arith)
     go (d ∷ []) r =
         let g : Digit 0 d n [] = digit 0 d n [] r.value in
-        let v : Value (0 * 10 + (d - 48)) ≡ Value n = g.next in
+        let v : Some (0 * 10 + (d - 48)) ≡ Some n = g.next in
         let q : 0 * 10 + (d - 48) ≡ n = cc in
         let f : 48 + n ≡ d = omega arith in
         rw (decimal_small n (omega arith), f)
@@ -227,7 +227,7 @@ number_canonical s n e = go s (read s n e)
         sym (value_canonical (e ∷ es) a n p g.next ∙ rw (decimal_small a (omega arith), f))
 
 -- digits behind a number below 10 ^ k
-value_below : (s : List ℕ) (acc k n : ℕ) → acc < 10 ^ k → value_from acc s ≡ Value n → n < 10 ^ (k + length s)
+value_below : (s : List ℕ) (acc k n : ℕ) → acc < 10 ^ k → value_from acc s ≡ Some n → n < 10 ^ (k + length s)
 unfolding value_from
 value_below [] acc k n h e = let q : acc ≡ n = cc in rw (add-zero, ← q) h
 value_below (d ∷ ds) acc k n h e =
@@ -236,7 +236,7 @@ value_below (d ∷ ds) acc k n h e =
     let q : suc k + length ds ≡ k + suc (length ds) = omega arith in
     rw (← q) (value_below ds (acc * 10 + (d - 48)) (suc k) n (omega arith) r.next)
 
-pub number_below : (s : List ℕ) (n : ℕ) → number_of s ≡ Value n → n < 10000000
+pub number_below : (s : List ℕ) (n : ℕ) → number_of s ≡ Some n → n < 10000000
 number_below s n e =
     let r : Read s n = read s n e in
     let b = value_below s 0 0 n (omega arith) r.value in

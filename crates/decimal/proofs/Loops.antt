@@ -12,22 +12,21 @@ use lib.Seq.{drop-cons, sets, set_comm}
 use Rattle.lists.specs.Choice.{both}
 use Rattle.lists.proofs.Laws.{Known, was_true, was_false, known}
 use Rattle.decimal.specs.Decimal.{decimal, decimal_from, value_from}
-use Rattle.decimal.specs.declared.Number.{Number}
-use Rattle.decimal.specs.declared.Number.TheVariants.{Value, Malformed}
+use Rattle.std.specs.Prelude.{Option, Some, None}
 use Rattle.decimal.proofs.Laws.{value_digit, length_large, decimal_small, decimal_large, decimal_some}
 
 -- a scan that has passed i bytes and holds their value, acc
-module _ (s : List ℕ) (acc i : ℕ) (total : Number) (inv : value_from acc (drop i s) ≡ total) where
-  pub scan_end : length s ≤ i → Value acc ≡ total
+module _ (s : List ℕ) (acc i : ℕ) (total : Option ℕ) (inv : value_from acc (drop i s) ≡ total) where
+  pub scan_end : length s ≤ i → Some acc ≡ total
   unfolding value_from
   scan_end h = rw (drop_of_length-le s h) at inv
 
   module _ (h : i < length s) where
-    pub scan_low : get_or s i 0 < 48 → Malformed ≡ total
+    pub scan_low : get_or s i 0 < 48 → None ≡ total
     unfolding value_from both
     scan_low l = rw (drop-cons s i 0 h, lt-leb 48 (get_or s i 0) l, value_from) at inv
 
-    pub scan_high : 48 ≤ get_or s i 0 → 57 < get_or s i 0 → Malformed ≡ total
+    pub scan_high : 48 ≤ get_or s i 0 → 57 < get_or s i 0 → None ≡ total
     unfolding value_from both
     scan_high l g = rw (drop-cons s i 0 h, le-leb 48 (get_or s i 0) l, lt-leb (get_or s i 0) 57 g, value_from) at inv
 

@@ -5,49 +5,36 @@ ghost use Rattle.std.specs.Prelude.{◌≡◌, ◌+◌, ◌≤◌, ◌<◌, leng
 ghost use Rattle.std.proofs.lemmas.List.Edits.{sets};
 ghost use Rattle.decimal.specs.Decimal.{value_from, number_of, decimal, max_digits};
 
-// What a field holds.
-#[derive(Clone, Copy)]
-pub enum Number {
-    Value(u32),
-    Malformed,
-}
-
 // The number that digits write.
-fn scan(s: &[u8]) -> Number
+fn scan(s: &[u8]) -> Option<u32>
     requires { length s.now ≤ max_digits }
     ensures { result ≡ value_from 0 s.now }
 {
     let mut acc: u32 = 0;
-    let mut i: usize = 0;
-    while i < s.len() {
-        let d = s[i];
-        if d < 48 {
-            return Number::Malformed;
+    for d in s {
+        if !d.is_ascii_digit() {
+            return None;
         }
-        if 57 < d {
-            return Number::Malformed;
-        }
-        acc = acc * 10 + ((d - 48) as u32);
-        i += 1;
+        acc = acc * 10 + (*d - b'0') as u32;
     }
-    Number::Value(acc)
+    Some(acc)
 }
 
 // A whole field: one to seven digits, no sign, no leading zero.
-pub fn read_number(s: &[u8]) -> Number
+pub fn read_number(s: &[u8]) -> Option<u32>
     ensures { result ≡ number_of s.now }
 {
     if s.len() == 0 {
-        return Number::Malformed;
+        return None;
     }
     if 7 < s.len() {
-        return Number::Malformed;
+        return None;
     }
     if s.len() == 1 {
         return scan(s);
     }
     if s[0] == 48 {
-        return Number::Malformed;
+        return None;
     }
     scan(s)
 }
@@ -82,7 +69,7 @@ pub fn write_number(buf: &mut [u8], at: usize, n: u32) -> usize
     let mut rest = n;
     while 0 < left {
         left -= 1;
-        lists::put_byte(buf, at + left, 48 + ((rest % 10) as u8));
+        lists::put(buf, at + left, 48 + ((rest % 10) as u8));
         rest = rest / 10;
     }
     at + count

@@ -60,11 +60,11 @@ fn cross<'a>(
         (get_or bitsets.old (get_or from.now e 0) none))) bitsets.old }
     ensures bitsets_unchanged { result ≡ false → bitsets.new ≡ bitsets.old }
 {
-    if lists::word_at(flows, e) == 0 {
+    if lists::at_or(flows, e, 0) == 0 {
         return false;
     }
-    let start = lists::word_at(from, e) as usize;
-    let end = lists::word_at(to, e) as usize;
+    let start = lists::at_or(from, e, 0) as usize;
+    let end = lists::at_or(to, e, 0) as usize;
     join(bitsets, start, end)
 }
 
@@ -184,14 +184,14 @@ fn leave<'a>(
         pick (leads from.now to.now flows.now seen.now v e)
         (with_bit (get_or (sets_of edges.old) v none) e) (get_or (sets_of edges.old) v none) }
 {
-    if lists::word_at(flows, e) == 0 {
+    if lists::at_or(flows, e, 0) == 0 {
         return;
     }
-    let head = lists::word_at(to, e) as usize;
-    if !lists::bool_at(seen, head) {
+    let head = lists::at_or(to, e, 0) as usize;
+    if !lists::at_or(seen, head, false) {
         return;
     }
-    let tail = lists::word_at(from, e) as usize;
+    let tail = lists::at_or(from, e, 0) as usize;
     let joined = sets::with(edges_at(&*edges, tail), true, e);
     put_edges(edges, tail, joined);
 }

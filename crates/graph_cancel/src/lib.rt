@@ -49,8 +49,8 @@ fn on_cycles<'a>(
     let mut m = sets::word::none();
     let mut e: usize = 0;
     while e < flows.len() {
-        let tail = lists::word_at(tails, e) as usize;
-        let head = lists::word_at(heads, e) as usize;
+        let tail = lists::at_or(tails, e, 0) as usize;
+        let head = lists::at_or(heads, e, 0) as usize;
         let bitset = graph::bitset_at(bitsets, head);
         let back = lists::and(0 < flows[e], sets::word::has(bitset, tail));
         m = with_vertex(m, back, tail);
@@ -86,7 +86,7 @@ fn since<'a>(tails: &'a [u32], v: u32, walk: &'a [usize]) -> usize
 {
     let mut i: usize = 0;
     while i < walk.len() {
-        if lists::word_at(tails, walk[i]) == v {
+        if lists::at_or(tails, walk[i], 0) == v {
             return i;
         }
         i += 1;
@@ -120,8 +120,8 @@ fn follow<'a>(
         let onward = graph::edges_at(&edges, v as usize);
         let e = graph::lowest_edge(onward, flows.len());
         at -= 1;
-        lists::put_index(walk, at, e);
-        v = lists::word_at(heads, e);
+        lists::put(walk, at, e);
+        v = lists::at_or(heads, e, 0);
         let count = since(tails, v, &walk[at..]);
         if count < walk.len() - at {
             return Span {
@@ -146,11 +146,11 @@ fn smallest<'a>(flows: &'a [u32], cycle: &'a [usize]) -> u32
     ensures { result ≡ smallest flows.now (get_or flows.now (get_or cycle.now 0 0) 0)
         cycle.now }
 {
-    let first = lists::index_at(cycle, 0);
-    let mut least = lists::word_at(flows, first);
+    let first = lists::at_or(cycle, 0, 0);
+    let mut least = lists::at_or(flows, first, 0);
     let mut i: usize = 0;
     while i < cycle.len() {
-        let flow = lists::word_at(flows, cycle[i]);
+        let flow = lists::at_or(flows, cycle[i], 0);
         least = lesser(flow, least);
         i += 1;
     }
@@ -164,8 +164,8 @@ fn lower(flows: &mut [u32], x: u32, cycle: &[usize])
     let mut i: usize = 0;
     while i < cycle.len() {
         let e = cycle[i];
-        let flow = lists::word_at(&*flows, e);
-        lists::put_word(flows, e, lists::minus(flow, x));
+        let flow = lists::at_or(&*flows, e, 0);
+        lists::put(flows, e, lists::minus(flow, x));
         i += 1;
     }
 }

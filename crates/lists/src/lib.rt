@@ -1,7 +1,7 @@
 // Total access to slices, and the loops that more than one layer uses.
 #![tactic(auto)]
 
-ghost use Rattle.std.specs.Prelude.{◌≡◌, false, ◌-◌, get_or, set};
+ghost use Rattle.std.specs.Prelude.{◌≡◌, ◌-◌, get_or, set};
 ghost use Rattle.lists.specs.Choice.{both, either};
 ghost use Rattle.lists.specs.Lists.{index_of};
 
@@ -21,54 +21,15 @@ pub fn or(a: bool, b: bool) -> bool
     if a { true } else { b }
 }
 
-// The byte at i, and 0 past the end.
-pub fn byte_at(s: &[u8], i: usize) -> u8
-    ensures { result ≡ get_or s.now i 0 }
+// The value at i, and the other one past the end.
+pub fn at_or<T: Copy>(s: &[T], i: usize, other: T) -> T
+    ensures { result ≡ get_or s.now i other }
 {
-    if i < s.len() { s[i] } else { 0 }
+    if i < s.len() { s[i] } else { other }
 }
 
-// The number at i, and 0 past the end.
-pub fn word_at(s: &[u32], i: usize) -> u32
-    ensures { result ≡ get_or s.now i 0 }
-{
-    if i < s.len() { s[i] } else { 0 }
-}
-
-// The bool at i, and false past the end.
-pub fn bool_at(s: &[bool], i: usize) -> bool
-    ensures { result ≡ get_or s.now i false }
-{
-    if i < s.len() { s[i] } else { false }
-}
-
-// The index at i, and 0 past the end.
-pub fn index_at(s: &[usize], i: usize) -> usize
-    ensures { result ≡ get_or s.now i 0 }
-{
-    if i < s.len() { s[i] } else { 0 }
-}
-
-// Stores a byte at i, and nothing past the end.
-pub fn put_byte(s: &mut [u8], i: usize, b: u8)
-    ensures { s.new ≡ set s.old i b }
-{
-    if i < s.len() {
-        s[i] = b;
-    }
-}
-
-// Stores a number at i, and nothing past the end.
-pub fn put_word(s: &mut [u32], i: usize, x: u32)
-    ensures { s.new ≡ set s.old i x }
-{
-    if i < s.len() {
-        s[i] = x;
-    }
-}
-
-// Stores an index at i, and nothing past the end.
-pub fn put_index(s: &mut [usize], i: usize, x: usize)
+// Stores a value at i, and nothing past the end.
+pub fn put<T: Copy>(s: &mut [T], i: usize, x: T)
     ensures { s.new ≡ set s.old i x }
 {
     if i < s.len() {
@@ -80,19 +41,17 @@ pub fn put_index(s: &mut [usize], i: usize, x: usize)
 pub fn minus(a: u32, b: u32) -> u32
     ensures { result ≡ a - b }
 {
-    if b <= a { a - b } else { 0 }
+    a.saturating_sub(b)
 }
 
 // The index of the first b, or the length where there is none.
 pub fn index_of(s: &[u8], b: u8) -> usize
     ensures { result ≡ index_of b s.now }
 {
-    let mut i: usize = 0;
-    while i < s.len() {
-        if s[i] == b {
+    for (i, x) in s.iter().enumerate() {
+        if *x == b {
             return i;
         }
-        i += 1;
     }
-    i
+    s.len()
 }

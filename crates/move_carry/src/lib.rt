@@ -53,16 +53,16 @@ pub fn refusal_in<'a>(
     if !lists::and(i < frame.terminals, e < frame.edges) {
         return 6;
     }
-    let place = lists::word_at(places, i as usize);
+    let place = lists::at_or(places, i as usize, 0);
     if place == frame.source {
         return 21;
     }
-    if lists::word_at(heads, e as usize) != place {
+    if lists::at_or(heads, e as usize, 0) != place {
         return 22;
     }
     let mark = sets::has(frame.marks, e as usize);
-    let flow = lists::word_at(flows, e as usize);
-    let demand = lists::word_at(demands, i as usize);
+    let flow = lists::at_or(flows, e as usize, 0);
+    let demand = lists::at_or(demands, i as usize, 0);
     if !flow_fits(mark, flow, demand) {
         return 23;
     }
@@ -116,9 +116,9 @@ pub fn carry(
     if number == 0 {
         let terminal = i as usize;
         let edge = e as usize;
-        let flow = lists::word_at(&board.flows, edge);
-        let demand = lists::word_at(&board.network.demands, terminal);
-        let tail = lists::word_at(&board.network.tails, edge);
+        let flow = lists::at_or(&board.flows, edge, 0);
+        let demand = lists::at_or(&board.network.demands, terminal, 0);
+        let tail = lists::at_or(&board.network.tails, edge, 0);
         let rest = lists::minus(flow, demand);
         let m = board.moves;
         board.flows[edge] = rest;

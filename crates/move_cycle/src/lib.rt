@@ -122,9 +122,9 @@ pub fn start_of<'a>(tails: &'a [u32], heads: &'a [u32], s: StepCode) -> u32
     ensures { result ≡ start_of tails.now heads.now (code_step s) }
 {
     if s >= UP {
-        lists::word_at(heads, (s - UP) as usize)
+        lists::at_or(heads, (s - UP) as usize, 0)
     } else {
-        lists::word_at(tails, s as usize)
+        lists::at_or(tails, s as usize, 0)
     }
 }
 
@@ -133,9 +133,9 @@ fn end_of<'a>(tails: &'a [u32], heads: &'a [u32], s: StepCode) -> u32
     ensures { result ≡ end_of tails.now heads.now (code_step s) }
 {
     if s >= UP {
-        lists::word_at(tails, (s - UP) as usize)
+        lists::at_or(tails, (s - UP) as usize, 0)
     } else {
-        lists::word_at(heads, s as usize)
+        lists::at_or(heads, s as usize, 0)
     }
 }
 
@@ -240,8 +240,8 @@ fn raise<'a>(
     let mut least = a;
     let mut i: u32 = 0;
     while i < terminals {
-        let place = lists::word_at(places, i as usize);
-        let demand = lists::word_at(demands, i as usize);
+        let place = lists::at_or(places, i as usize, 0);
+        let demand = lists::at_or(demands, i as usize, 0);
         least = lessened(head, flow, place, demand, least);
         i += 1;
     }
@@ -262,11 +262,11 @@ fn allowed<'a>(
         demands.now terminals a (code_step s) }
 {
     let edge = edge_of(s) as usize;
-    let flow = lists::word_at(flows, edge);
+    let flow = lists::at_or(flows, edge, 0);
     if !is_up(s) {
         return smaller(a, flow);
     }
-    let head = lists::word_at(heads, edge);
+    let head = lists::at_or(heads, edge, 0);
     raise(places, demands, terminals, head, flow, a)
 }
 
@@ -338,9 +338,9 @@ pub fn shift(x: u32, downs: EdgeSet, ups: EdgeSet, flows: &mut [u32])
     let mut rest = sets::joined(downs, ups);
     while !sets::is_empty(rest) {
         let e = sets::lowest(rest);
-        let f = lists::word_at(flows, e as usize);
+        let f = lists::at_or(flows, e as usize, 0);
         let new = shifted_at(x, downs, ups, e as usize, f);
-        lists::put_word(flows, e as usize, new);
+        lists::put(flows, e as usize, new);
         rest = sets::drop(rest, e);
     }
 }

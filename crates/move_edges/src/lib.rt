@@ -88,7 +88,7 @@ fn straight<'a>(
     if !sets::is_empty(others) {
         return false;
     }
-    let next = lists::word_at(heads, e as usize);
+    let next = lists::at_or(heads, e as usize, 0);
     straight(heads, leaving, positive, left - 1, next)
 }
 
@@ -102,7 +102,7 @@ pub fn singular_by<'a>(
 ) -> bool
     ensures { result ≡ singular_by heads.now (sets_of leaving.now) (set_of positive) vertices e }
 {
-    let head = lists::word_at(heads, e);
+    let head = lists::at_or(heads, e, 0);
     straight(heads, leaving, positive, vertices, head)
 }
 

@@ -103,7 +103,7 @@ fn put_steps(buf: &mut [u32], k: usize, steps: [StepCode; Board::MAX_EDGES])
 {
     let mut i: usize = 0;
     while i < Board::MAX_EDGES {
-        lists::put_word(buf, k + i, steps[i] as u32);
+        lists::put(buf, k + i, steps[i] as u32);
         i += 1;
     }
 }
@@ -113,10 +113,10 @@ fn put_advice(buf: &mut [u32], k: usize, advice: Advice)
     requires { k ≤ last_place }
     ensures { buf.new ≡ sets buf.old k (advice_code advice) }
 {
-    lists::put_word(buf, k, advice.kind);
-    lists::put_word(buf, k + 1, advice.terminal);
-    lists::put_word(buf, k + 2, advice.edge);
-    lists::put_word(buf, k + 3, advice.count);
+    lists::put(buf, k, advice.kind);
+    lists::put(buf, k + 1, advice.terminal);
+    lists::put(buf, k + 2, advice.edge);
+    lists::put(buf, k + 3, advice.count);
     let steps = advice.steps;
     put_steps(buf, k + ADVICE_HEAD, steps);
 }
@@ -169,16 +169,16 @@ pub fn run(
         };
         if call.kind < CallCode::HINT {
             let given = make(b, journal, steps, call);
-            lists::put_word(buf, k, given.answer);
+            lists::put(buf, k, given.answer);
             b = given.board;
         } else if call.kind == CallCode::HINT {
             let given = solve_next::hint(b, journal);
-            lists::put_word(buf, k, given.answer);
+            lists::put(buf, k, given.answer);
             let advice = given.advice;
             j = note(hints, j, advice);
         } else if call.kind == CallCode::FINISH {
             let ended = solve_finish::finish(b, journal);
-            lists::put_word(buf, k, ended.answer);
+            lists::put(buf, k, ended.answer);
             b = ended.board;
         }
         left -= 3;

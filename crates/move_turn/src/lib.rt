@@ -51,7 +51,7 @@ fn has_flow(flows: &[u32], s: StepCode) -> bool
     ensures { result ≡ ltb 0 (get_or flows.now (edge_of (code_step s)) 0) }
 {
     let e = move_cycle::edge_of(s) as usize;
-    0 < lists::word_at(flows, e)
+    0 < lists::at_or(flows, e, 0)
 }
 
 // An up-step's edge is singular.

@@ -14,14 +14,14 @@ use journal::WORDS;
 fn store_flow(flows: &mut [u32; Board::MAX_EDGES], e: usize, flow: u32)
     ensures { flows.new ≡ set flows.old e flow }
 {
-    lists::put_word(flows, e, flow);
+    lists::put(flows, e, flow);
 }
 
 // Stores a place at i, and nothing past the end.
 fn store_place(places: &mut [u32; Board::MAX_TERMINALS], i: usize, place: u32)
     ensures { places.new ≡ set places.old i place }
 {
-    lists::put_word(places, i, place);
+    lists::put(places, i, place);
 }
 
 // Takes the last standing move back; its words stay where they are, behind the moves that stand then.
@@ -34,9 +34,9 @@ fn back_one(mut board: Board, journal: &[[u64; WORDS]; Board::JOURNAL]) -> Board
     board.moves = lists::minus(board.moves, 1);
     match step {
         Move::Carry(r) => {
-            let flow = lists::word_at(&board.flows, r.edge as usize);
-            let demand = lists::word_at(&board.network.demands, r.terminal as usize);
-            let head = lists::word_at(&board.network.heads, r.edge as usize);
+            let flow = lists::at_or(&board.flows, r.edge as usize, 0);
+            let demand = lists::at_or(&board.network.demands, r.terminal as usize, 0);
+            let head = lists::at_or(&board.network.heads, r.edge as usize, 0);
             store_flow(&mut board.flows, r.edge as usize, flow + demand);
             store_place(&mut board.places, r.terminal as usize, head);
         }

@@ -12,8 +12,7 @@ use lib.Seq.{append_snoc}
 use borrow.Author.Tests.{leb-false, ne_eqb}
 use Rattle.lists.specs.Choice.{pick, both}
 use Rattle.lists.proofs.Laws.{Known, was_true, was_false, known, pick_yes, pick_no}
-use Rattle.decimal.specs.declared.Number.{Number}
-use Rattle.decimal.specs.declared.Number.TheVariants.{Value, Malformed}
+use Rattle.std.specs.Prelude.{Option, Some, None}
 use Rattle.decimal.specs.Decimal.{max_digits}
 use Rattle.play_lines.specs.declared.Piece.{Piece}
 use Rattle.play_lines.specs.declared.Form.{Form}
@@ -108,9 +107,9 @@ unfolding pick
 pick-begun true f g h k = h
 pick-begun false f g h k = k
 
-numbered-begun : (f : Form) (k : ℕ → Form) (n : Number) → ((m : ℕ) → HasKind (k m)) → HasKind (numbered k f n)
-numbered-begun f k (Value n) h = h n
-numbered-begun f k Malformed h = refl
+numbered-begun : (f : Form) (k : ℕ → Form) (n : Option ℕ) → ((m : ℕ) → HasKind (k m)) → HasKind (numbered k f n)
+numbered-begun f k (Some n) h = h n
+numbered-begun f k None h = refl
 
 first_begun : (f : Form) (p : Piece) → HasKind (begun f p)
 unfolding begun

@@ -8,8 +8,7 @@ use lib.Dec.{eqb}
 use lib.ListN.{length}
 use Rattle.lists.specs.Choice.{pick}
 use Rattle.board.specs.Limits.{max_edges}
-use Rattle.decimal.specs.declared.Number.{Number}
-use Rattle.decimal.specs.declared.Number.TheVariants.{Value, Malformed}
+use Rattle.std.specs.Prelude.{Option, Some, None}
 use Rattle.decimal.specs.Decimal.{number_of}
 use Rattle.graph_flows.specs.Trails.{Step, down, up}
 use Rattle.play_lines.specs.declared.Piece.{Piece}
@@ -51,17 +50,17 @@ holds_first : (w : List Step) (f : Form) (k n : ℕ) → HoldsSteps w f → Hold
 holds_first w f k n h = record { places = h.places; greatest = h.greatest; few = h.few; many = h.many; steps = h.steps }
 
 -- a number
-first_follows : (f : Form) (n : Number) → FollowsShape (shape_by carry_one n) (numbered (λ m. with_first carry_from m f) f n)
-first_follows f (Value n) = (refl, refl)
-first_follows f Malformed = refl
+first_follows : (f : Form) (n : Option ℕ) → FollowsShape (shape_by carry_one n) (numbered (λ m. with_first carry_from m f) f n)
+first_follows f (Some n) = (refl, refl)
+first_follows f None = refl
 
-second_follows : (f : Form) (i : ℕ) (n : Number) → f.first ≡ i → FollowsShape (shape_by (carry_both i) n) (numbered (λ m. with_second carry_whole m f) f n)
-second_follows f i (Value n) e = (refl, e, refl)
-second_follows f i Malformed e = refl
+second_follows : (f : Form) (i : ℕ) (n : Option ℕ) → f.first ≡ i → FollowsShape (shape_by (carry_both i) n) (numbered (λ m. with_second carry_whole m f) f n)
+second_follows f i (Some n) e = (refl, e, refl)
+second_follows f i None e = refl
 
-edge_follows : (f : Form) (w : List Step) (n : Number) → HoldsSteps w f → FollowsShape (shape_by (turn_odd w) n) (numbered (λ m. with_first turn_edge m f) f n)
-edge_follows f w (Value n) h = (refl, refl, holds_first w f turn_edge n h)
-edge_follows f w Malformed h = refl
+edge_follows : (f : Form) (w : List Step) (n : Option ℕ) → HoldsSteps w f → FollowsShape (shape_by (turn_odd w) n) (numbered (λ m. with_first turn_edge m f) f n)
+edge_follows f w (Some n) h = (refl, refl, holds_first w f turn_edge n h)
+edge_follows f w None h = refl
 
 -- a letter
 module _ (f : Form) (x : List ℕ) (p : Piece) (r : Reads x p) where

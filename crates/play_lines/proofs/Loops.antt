@@ -12,7 +12,7 @@ use borrow.Author.Tests.{leb-true, ltb-true}
 use Rattle.lists.specs.Choice.{both}
 use Rattle.lists.proofs.Laws.{pick_yes, pick_no, both_left, both_right}
 use Rattle.decimal.specs.Decimal.{max_digits}
-use Rattle.decimal.specs.declared.Number.TheVariants.{Value, Malformed}
+use Rattle.std.specs.Prelude.{Some, None}
 use Rattle.play_lines.specs.declared.Piece.{Piece}
 use Rattle.play_lines.specs.declared.Scan.{Scan}
 use Rattle.play_lines.specs.Scans.{is_digit, piece_number, scan_taken, scan_all}
@@ -49,14 +49,14 @@ module _ (p : Piece) (sized numeral padded : Bool)
   is_numeral : both p.digits (both (ltb 0 p.size) (leb p.size max_digits)) ≡ numeral
   is_numeral = sym (n ∙ ap (both p.digits) s)
 
-  pub number_padded : numeral ≡ true → padded ≡ true → Malformed ≡ piece_number p
+  pub number_padded : numeral ≡ true → padded ≡ true → None ≡ piece_number p
   unfolding piece_number
   number_padded t u = sym (pick_yes _ _ _ (is_numeral ∙ t) ∙ pick_yes _ _ _ (sym d ∙ u))
 
-  pub number_value : numeral ≡ true → padded ≡ false → Value p.value ≡ piece_number p
+  pub number_value : numeral ≡ true → padded ≡ false → Some p.value ≡ piece_number p
   unfolding piece_number
   number_value t u = sym (pick_yes _ _ _ (is_numeral ∙ t) ∙ pick_no _ _ _ (sym d ∙ u))
 
-  pub number_none : numeral ≡ false → Malformed ≡ piece_number p
+  pub number_none : numeral ≡ false → None ≡ piece_number p
   unfolding piece_number
   number_none t = sym (pick_no _ _ _ (is_numeral ∙ t))

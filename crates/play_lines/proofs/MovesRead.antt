@@ -11,8 +11,7 @@ use lib.Seq.{append_snoc}
 use borrow.Author.Tests.{ne_eqb}
 use Rattle.lists.specs.Choice.{pick, both}
 use Rattle.lists.specs.Inner.{Below}
-use Rattle.decimal.specs.declared.Number.{Number}
-use Rattle.decimal.specs.declared.Number.TheVariants.{Value}
+use Rattle.std.specs.Prelude.{Option, Some}
 use Rattle.decimal.specs.Decimal.{decimal}
 use Rattle.decimal.proofs.Laws.{decimal_small, decimal_large, by_digits, number_decimal}
 use Rattle.graph_flows.specs.Trails.{Step, down, up, edge_of, edges_of}
@@ -79,7 +78,7 @@ steps_fields x (s ∷ w) h =
     ap fields_of cut ∙ number_field (edge_of s) (way_letter s ∷ steps_text w) ∙ ap (λ (fs : List (List ℕ)). decimal (edge_of s) ∷ fs) (steps_fields (way_letter s) w (way_no_comma s)) in
     rw (h, fields_of) (ap (λ (fs : List (List ℕ)). (x ∷ []) ∷ fs) rest)
 
-pair_read_lem : (s : Step) (w : List Step) → pair_read (Value (edge_of s)) (way_letter s ∷ []) (call (turn w)) ≡ call (turn (s ∷ w))
+pair_read_lem : (s : Step) (w : List Step) → pair_read (Some (edge_of s)) (way_letter s ∷ []) (call (turn w)) ≡ call (turn (s ∷ w))
 unfolding is_letter pick both
 pair_read_lem (down e) w = refl
 pair_read_lem (up e) w = refl
@@ -88,8 +87,8 @@ turn_read : (w : List Step) → Below 10000000 (edges_of w) → turn_of (step_fi
 unfolding turn_of
 turn_read [] b = refl
 turn_read (s ∷ w) b =
-    ap (λ (n : Number). pair_read n (way_letter s ∷ []) (turn_of (step_fields w))) (number_decimal (edge_of s) b.0)
-    ∙ ap (pair_read (Value (edge_of s)) (way_letter s ∷ [])) (turn_read w b.1)
+    ap (λ (n : Option ℕ). pair_read n (way_letter s ∷ []) (turn_of (step_fields w))) (number_decimal (edge_of s) b.0)
+    ∙ ap (pair_read (Some (edge_of s)) (way_letter s ∷ [])) (turn_read w b.1)
     ∙ pair_read_lem s w
 
 -- ---- a move

@@ -13,8 +13,7 @@ use lib.ListN.{length, get_or, length-append}
 use borrow.Author.Tests.{leb-true, leb-false, lt-ltb, eq-eqb, ne_eqb}
 use Rattle.lists.specs.Choice.{pick, both}
 use Rattle.lists.proofs.Laws.{Known, was_true, was_false, known, lt_or_ge, both_left, both_right, both_true}
-use Rattle.decimal.specs.declared.Number.{Number}
-use Rattle.decimal.specs.declared.Number.TheVariants.{Value, Malformed}
+use Rattle.std.specs.Prelude.{Option, Some, None}
 use Rattle.decimal.proofs.Laws.{number_long}
 use Rattle.decimal.specs.Decimal.{max_digits, value_from, number_of}
 use Rattle.play_lines.specs.declared.Piece.{Piece}
@@ -22,9 +21,9 @@ use Rattle.play_lines.specs.Orders.{is_letter}
 use Rattle.play_lines.specs.Scans.{no_piece, is_digit, piece_taken, piece_number, piece_is}
 
 -- digits behind what others were read as
-abbrev onward : Number → List ℕ → Number
-onward (Value n) s = value_from n s
-onward Malformed s = Malformed
+abbrev onward : Option ℕ → List ℕ → Option ℕ
+onward (Some n) s = value_from n s
+onward None s = None
 
 value_join : (acc : ℕ) (s t : List ℕ) → value_from acc (s ++ t) ≡ onward (value_from acc s) t
 unfolding value_from
@@ -42,8 +41,8 @@ pub record Reads (f : List ℕ) (p : Piece) : Type 0 where
   pub size : p.size ≡ min (length f) (suc max_digits)
   pub initial : p.initial ≡ get_or f 0 0
   pub below : length f ≤ max_digits → p.digits ≡ true → p.value < 10 ^ length f
-  pub value : length f ≤ max_digits → p.digits ≡ true → value_from 0 f ≡ Value p.value
-  pub malformed : p.digits ≡ false → value_from 0 f ≡ Malformed
+  pub value : length f ≤ max_digits → p.digits ≡ true → value_from 0 f ≡ Some p.value
+  pub malformed : p.digits ≡ false → value_from 0 f ≡ None
 
 pub reads_none : Reads [] no_piece
 unfolding value_from
@@ -94,19 +93,19 @@ module _ (f : List ℕ) (p : Piece) (c : ℕ) (r : Reads f p) where
   unfolding piece_taken
   digits_right e = both_right _ _ e
 
-  next_value : length f + 1 ≤ max_digits → p.digits ≡ true → is_digit c ≡ true → value_from 0 (f ++ (c ∷ [])) ≡ Value (piece_taken p c).value
+  next_value : length f + 1 ≤ max_digits → p.digits ≡ true → is_digit c ≡ true → value_from 0 (f ++ (c ∷ [])) ≡ Some (piece_taken p c).value
   unfolding value_from
   next_value h d g = rw (value_join 0 f (c ∷ []), r.value (omega arith) d, g, value_from, taken h d g)
 
-  next_malformed : (piece_taken p c).digits ≡ false → value_from 0 (f ++ (c ∷ [])) ≡ Malformed
+  next_malformed : (piece_taken p c).digits ≡ false → value_from 0 (f ++ (c ∷ [])) ≡ None
   unfolding piece_taken value_from both
   next_malformed e = value_join 0 f (c ∷ []) ∙ split (known p.digits)
     where
-      no_digit : (n : Number) → is_digit c ≡ false → onward n (c ∷ []) ≡ Malformed
-      no_digit (Value n) g = rw (g, value_from)
-      no_digit Malformed g = refl
+      no_digit : (n : Option ℕ) → is_digit c ≡ false → onward n (c ∷ []) ≡ None
+      no_digit (Some n) g = rw (g, value_from)
+      no_digit None g = refl
 
-      split : Known p.digits → onward (value_from 0 f) (c ∷ []) ≡ Malformed
+      split : Known p.digits → onward (value_from 0 f) (c ∷ []) ≡ None
       split (was_true d) = no_digit (value_from 0 f) (rw d at e)
       split (was_false d) = rw (r.malformed d)
 
@@ -142,7 +141,7 @@ module _ (f : List ℕ) (p : Piece) (r : Reads f p) where
       same : p.size ≡ length f
       same = omega (arith, r.size)
 
-      refused : (a b : Bool) → Malformed ≡ pick a (pick b Malformed Malformed) Malformed
+      refused : (a b : Bool) → None ≡ pick a (pick b None None) None
       refused true true = refl
       refused true false = refl
       refused false b = refl
@@ -158,7 +157,7 @@ module _ (f : List ℕ) (p : Piece) (r : Reads f p) where
       same : p.size ≡ 8
       same = omega (arith, r.size)
 
-      split : Known p.digits → piece_number p ≡ Malformed
+      split : Known p.digits → piece_number p ≡ None
       split (was_true d) = rw (d, same)
       split (was_false d) = rw d
 

@@ -7,8 +7,7 @@ use mathlib.Core.List.{List, [], ◌∷◌, ◌++◌}
 use Prim.Native.Nat.{ℕ}
 use lib.Seq.{append_snoc}
 use Rattle.lists.specs.Choice.{pick}
-use Rattle.decimal.specs.declared.Number.{Number}
-use Rattle.decimal.specs.declared.Number.TheVariants.{Value, Malformed}
+use Rattle.std.specs.Prelude.{Option, Some, None}
 use Rattle.decimal.specs.Decimal.{number_of}
 use Rattle.graph_flows.specs.Trails.{Step, down, up}
 use Rattle.move_list.specs.Calls.{carry, turn, undo, hint, finish}
@@ -30,7 +29,7 @@ pub data Shape : Type 0 where
 -- the second number of a carry
 abbrev pub last_of : ℕ → List (List ℕ) → Order
 last_of i [] = other
-last_of i (e ∷ []) = carry_read (Value i) (number_of e)
+last_of i (e ∷ []) = carry_read (Some i) (number_of e)
 last_of i (e ∷ f ∷ fs) = other
 
 -- steps in front of a turn
@@ -45,7 +44,7 @@ behind w other = other
 -- the way of an edge, and the rest of a turn
 abbrev pub way_of : ℕ → List (List ℕ) → Order
 way_of e [] = other
-way_of e (way ∷ fs) = pair_read (Value e) way (turn_of fs)
+way_of e (way ∷ fs) = pair_read (Some e) way (turn_of fs)
 
 abbrev pub order_from : Shape → List (List ℕ) → Order
 order_from begin fs = by_fields fs
@@ -60,9 +59,9 @@ order_from (turn_even w) fs = behind w (turn_of fs)
 order_from (turn_odd w e) fs = behind w (way_of e fs)
 
 -- a number that leads to a shape
-abbrev pub shape_by : (ℕ → Shape) → Number → Shape
-shape_by k (Value n) = k n
-shape_by k Malformed = wrong
+abbrev pub shape_by : (ℕ → Shape) → Option ℕ → Shape
+shape_by k (Some n) = k n
+shape_by k None = wrong
 
 -- the shape that the first field begins, by which letter it is; and the one that a way leads to
 abbrev pub begun_by : Bool → Bool → Bool → Bool → Bool → Shape
@@ -93,10 +92,10 @@ none_front s (call hint) = refl
 none_front s (call finish) = refl
 none_front s other = refl
 
-none_pair : (n : Number) (way : List ℕ) (o : Order) → behind [] (pair_read n way o) ≡ pair_read n way o
+none_pair : (n : Option ℕ) (way : List ℕ) (o : Order) → behind [] (pair_read n way o) ≡ pair_read n way o
 unfolding pick
-none_pair Malformed way o = refl
-none_pair (Value e) way o = split (is_letter 68 way) (is_letter 85 way)
+none_pair None way o = refl
+none_pair (Some e) way o = split (is_letter 68 way) (is_letter 85 way)
   where
     split : (d u : Bool) → behind [] (pick d (in_front (down e) o) (pick u (in_front (up e) o) other)) ≡ pick d (in_front (down e) o) (pick u (in_front (up e) o) other)
     split true u = none_front (down e) o
@@ -143,28 +142,28 @@ module _ (fs : List (List ℕ)) where
       split false true = one_front w (up e) (turn_of fs)
       split false false = refl
 
-first_step : (n : Number) (f : List ℕ) (fs : List (List ℕ)) → number_of f ≡ n → carry_of (f ∷ fs) ≡ order_from (shape_by carry_one n) fs
+first_step : (n : Option ℕ) (f : List ℕ) (fs : List (List ℕ)) → number_of f ≡ n → carry_of (f ∷ fs) ≡ order_from (shape_by carry_one n) fs
 unfolding carry_of
-first_step (Value i) f [] e = refl
-first_step (Value i) f (g ∷ []) e = rw e
-first_step (Value i) f (g ∷ h ∷ fs) e = refl
-first_step Malformed f [] e = refl
-first_step Malformed f (g ∷ []) e = rw e
-first_step Malformed f (g ∷ h ∷ fs) e = refl
+first_step (Some i) f [] e = refl
+first_step (Some i) f (g ∷ []) e = rw e
+first_step (Some i) f (g ∷ h ∷ fs) e = refl
+first_step None f [] e = refl
+first_step None f (g ∷ []) e = rw e
+first_step None f (g ∷ h ∷ fs) e = refl
 
-last_step : (i : ℕ) (n : Number) (f : List ℕ) (fs : List (List ℕ)) → number_of f ≡ n → last_of i (f ∷ fs) ≡ order_from (shape_by (carry_both i) n) fs
-last_step i (Value m) f [] e = rw e
-last_step i (Value m) f (g ∷ fs) e = refl
-last_step i Malformed f [] e = rw e
-last_step i Malformed f (g ∷ fs) e = refl
+last_step : (i : ℕ) (n : Option ℕ) (f : List ℕ) (fs : List (List ℕ)) → number_of f ≡ n → last_of i (f ∷ fs) ≡ order_from (shape_by (carry_both i) n) fs
+last_step i (Some m) f [] e = rw e
+last_step i (Some m) f (g ∷ fs) e = refl
+last_step i None f [] e = rw e
+last_step i None f (g ∷ fs) e = refl
 
-edge_step : (w : List Step) (n : Number) (f : List ℕ) (fs : List (List ℕ)) → number_of f ≡ n
+edge_step : (w : List Step) (n : Option ℕ) (f : List ℕ) (fs : List (List ℕ)) → number_of f ≡ n
     → behind w (turn_of (f ∷ fs)) ≡ order_from (shape_by (turn_odd w) n) fs
 unfolding turn_of
-edge_step w (Value m) f [] e = refl
-edge_step w (Value m) f (g ∷ fs) e = rw e
-edge_step w Malformed f [] e = refl
-edge_step w Malformed f (g ∷ fs) e = rw e
+edge_step w (Some m) f [] e = refl
+edge_step w (Some m) f (g ∷ fs) e = rw e
+edge_step w None f [] e = refl
+edge_step w None f (g ∷ fs) e = rw e
 
 pub shape_step : (sh : Shape) (f : List ℕ) (fs : List (List ℕ)) → order_from sh (f ∷ fs) ≡ order_from (shape_taken sh f) fs
 shape_step begin f fs = begin_step fs f

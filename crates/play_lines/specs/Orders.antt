@@ -1,8 +1,7 @@
 -- The lines of a play: document 01, "Program `play`".
 use Rattle.std.specs.Prelude.{Bool, true, false, List, [], ◌∷◌, ℕ, eqb, length, get_or}
 use Rattle.lists.specs.Choice.{pick, both}
-use Rattle.decimal.specs.declared.Number.{Number}
-use Rattle.decimal.specs.declared.Number.TheVariants.{Value, Malformed}
+use Rattle.std.specs.Prelude.{Option, Some, None}
 use Rattle.decimal.specs.Decimal.{number_of}
 use Rattle.graph_flows.specs.Trails.{Step, down, up}
 use Rattle.move_list.specs.Calls.{Call, carry, turn, undo, hint, finish}
@@ -28,10 +27,10 @@ unfoldable pub is_letter : ℕ → List ℕ → Bool
 is_letter x f = both (eqb (length f) 1) (eqb (get_or f 0 0) x)
 
 -- `K,mill,channel`: "Numbers are written as in the board text"
-abbrev pub carry_read : Number → Number → Order
-carry_read (Value i) (Value e) = call (carry i e)
-carry_read (Value i) Malformed = other
-carry_read Malformed n = other
+abbrev pub carry_read : Option ℕ → Option ℕ → Order
+carry_read (Some i) (Some e) = call (carry i e)
+carry_read (Some i) None = other
+carry_read None n = other
 
 unfoldable pub carry_of : List (List ℕ) → Order
 carry_of [] = other
@@ -49,9 +48,9 @@ in_front s (call finish) = other
 in_front s other = other
 
 -- a pair of "channel and way (D or U)" in front of a turn
-abbrev pub pair_read : Number → List ℕ → Order → Order
-pair_read (Value e) way rest = pick (is_letter 68 way) (in_front (down e) rest) (pick (is_letter 85 way) (in_front (up e) rest) other)
-pair_read Malformed way rest = other
+abbrev pub pair_read : Option ℕ → List ℕ → Order → Order
+pair_read (Some e) way rest = pick (is_letter 68 way) (in_front (down e) rest) (pick (is_letter 85 way) (in_front (up e) rest) other)
+pair_read None way rest = other
 
 -- `T` with such pairs; "`T` alone is the empty turn"
 unfoldable pub turn_of : List (List ℕ) → Order

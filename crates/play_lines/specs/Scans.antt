@@ -2,8 +2,7 @@
 use Rattle.std.specs.Prelude.{Bool, true, false, List, [], ◌∷◌, ℕ, ◌+◌, ◌-◌, ◌*◌, leb, ltb, eqb, set, replicate}
 use Rattle.lists.specs.Choice.{pick, both}
 use Rattle.decimal.specs.Decimal.{max_digits}
-use Rattle.decimal.specs.declared.Number.{Number}
-use Rattle.decimal.specs.declared.Number.TheVariants.{Value, Malformed}
+use Rattle.std.specs.Prelude.{Option, Some, None}
 use Rattle.board.specs.Limits.{max_edges}
 use Rattle.move_cycle.specs.Steps.{code_up, step_code, stride}
 use Rattle.play_lines.specs.declared.Piece.{Piece}
@@ -28,11 +27,11 @@ piece_taken p c = record {
 }
 
 -- the number that the field is, and whether it is this letter alone
-unfoldable pub piece_number : Piece → Number
+unfoldable pub piece_number : Piece → Option ℕ
 piece_number p =
     pick (both p.digits (both (ltb 0 p.size) (leb p.size max_digits)))
-    (pick (both (ltb 1 p.size) (eqb p.initial 48)) Malformed (Value p.value))
-    Malformed
+    (pick (both (ltb 1 p.size) (eqb p.initial 48)) None (Some p.value))
+    None
 
 unfoldable pub piece_is : ℕ → Piece → Bool
 piece_is x p = both (eqb p.size 1) (eqb p.initial x)
@@ -84,9 +83,9 @@ abbrev pub with_second : ℕ → ℕ → Form → Form
 with_second k n f = record { kind = k; first = f.first; second = n; count = f.count; greatest = f.greatest; steps = f.steps }
 
 -- a number field that leads to kind k
-abbrev pub numbered : (ℕ → Form) → Form → Number → Form
-numbered k f (Value n) = k n
-numbered k f Malformed = of_kind other_form f
+abbrev pub numbered : (ℕ → Form) → Form → Option ℕ → Form
+numbered k f (Some n) = k n
+numbered k f None = of_kind other_form f
 
 -- a step's code, 0 for an edge too large for one
 unfoldable pub kept_code : Bool → ℕ → ℕ

@@ -37,7 +37,6 @@ ghost use Rattle.play_lines.specs.Scans.{
 };
 
 use board::Board;
-use decimal::Number;
 use move_cycle::StepCode;
 use solve_next::Advice;
 
@@ -190,7 +189,7 @@ fn piece_taken(piece: Piece, c: u8) -> Piece
 }
 
 // The number that a field is.
-fn piece_number(piece: Piece) -> Number
+fn piece_number(piece: Piece) -> Option<u32>
     ensures { result ≡ piece_number piece }
 {
     let sized = lists::and(0 < piece.size, piece.size <= 7);
@@ -198,12 +197,12 @@ fn piece_number(piece: Piece) -> Number
     let padded = lists::and(1 < piece.size, piece.initial == b'0');
     if numeral {
         if padded {
-            Number::Malformed
+            None
         } else {
-            Number::Value(piece.value)
+            Some(piece.value)
         }
     } else {
-        Number::Malformed
+        None
     }
 }
 
@@ -314,8 +313,8 @@ fn first_taken(kind: u32, form: Form, piece: Piece) -> Form
 {
     let number = piece_number(piece);
     match number {
-        Number::Value(n) => with_first(kind, n, form),
-        Number::Malformed => of_kind(Form::OTHER, form),
+        Some(n) => with_first(kind, n, form),
+        None => of_kind(Form::OTHER, form),
     }
 }
 
@@ -325,8 +324,8 @@ fn second_taken(form: Form, piece: Piece) -> Form
 {
     let number = piece_number(piece);
     match number {
-        Number::Value(n) => with_second(Form::CARRY_WHOLE, n, form),
-        Number::Malformed => of_kind(Form::OTHER, form),
+        Some(n) => with_second(Form::CARRY_WHOLE, n, form),
+        None => of_kind(Form::OTHER, form),
     }
 }
 
@@ -437,10 +436,10 @@ fn put_pair(buf: &mut [u8], at: usize, step: StepCode) -> usize
 {
     let edge = move_cycle::edge_of(step);
     let way = way_letter(step);
-    lists::put_byte(buf, at, b',');
+    lists::put(buf, at, b',');
     let end = decimal::write_number(buf, at + 1, edge);
-    lists::put_byte(buf, end, b',');
-    lists::put_byte(buf, end + 1, way);
+    lists::put(buf, end, b',');
+    lists::put(buf, end + 1, way);
     end + 2
 }
 
@@ -470,9 +469,9 @@ fn put_turn(buf: &mut [u8], at: usize, steps: &[StepCode]) -> usize
     ensures buf_after { buf.new ≡
         sets buf.old at (move_line (augment (code_steps steps.now))) }
 {
-    lists::put_byte(buf, at, b'T');
+    lists::put(buf, at, b'T');
     let end = put_pairs(buf, at + 1, steps);
-    lists::put_byte(buf, end, b'\n');
+    lists::put(buf, end, b'\n');
     end + 1
 }
 
@@ -507,8 +506,8 @@ pub fn put_move(buf: &mut [u8], at: usize, advice: Advice) -> usize
     ensures buf_after { buf.new ≡ sets buf.old at (hint_line advice) }
 {
     if advice.kind == Advice::NONE {
-        lists::put_byte(buf, at, b'N');
-        lists::put_byte(buf, at + 1, b'\n');
+        lists::put(buf, at, b'N');
+        lists::put(buf, at + 1, b'\n');
         return at + 2;
     }
     if advice.kind == Advice::CARRY {

@@ -2,7 +2,7 @@
 use Rattle.std.specs.Prelude.{◌≡◌, ◌↔◌, List, ◌++◌, ℕ, ◌<◌, ◌≤◌, length, drop}
 use Rattle.text.specs.Sizes.{longest_text}
 use Rattle.decimal.specs.Decimal.{number_of, decimal}
-use Rattle.decimal.specs.declared.Number.TheVariants.{Value}
+use Rattle.std.specs.Prelude.{Some}
 use Rattle.board.specs.Whole.{Board}
 use Rattle.board.specs.declared.Network.{Network}
 use Rattle.text_rules.specs.Rules.{Lawful}
@@ -26,7 +26,7 @@ pub record WritesText (text : List ℕ) (b : Board) (buf : List ℕ) : Type 0 wh
 
 pub record AboutTexts : Type 0 where
   -- "Numbers are decimal, one to seven digits, no sign, no leading zero ("0" itself is good)"
-  pub numbers : (s : List ℕ) (n : ℕ) → (number_of s ≡ Value n) ↔ ((s ≡ decimal n) × (n < 10000000))
+  pub numbers : (s : List ℕ) (n : ℕ) → (number_of s ≡ Some n) ↔ ((s ≡ decimal n) × (n < 10000000))
   -- demand 2: "A board is accepted if and only if it keeps document 01's rules and balances"
   pub load_iff : (text : List ℕ) → ((load_text text).answer ≡ 0) ↔ IsBoardText text
   -- "drained first flows, no marks, each mill at its pool in the text, empty routes"

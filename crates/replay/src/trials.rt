@@ -46,9 +46,9 @@ fn read_call(codes: &mut [u32], i: usize, input: &mut Stdin) -> bool
     let kind = framing::four_bytes(0, 0, 0, bytes[0]);
     let first = framing::four_bytes(bytes[1], bytes[2], bytes[3], bytes[4]);
     let second = framing::four_bytes(bytes[5], bytes[6], bytes[7], bytes[8]);
-    lists::put_word(codes, i, kind);
-    lists::put_word(codes, i + 1, first);
-    lists::put_word(codes, i + 2, second);
+    lists::put(codes, i, kind);
+    lists::put(codes, i + 1, first);
+    lists::put(codes, i + 2, second);
     true
 }
 

@@ -85,7 +85,7 @@ pub fn routes_fit(counts: &[u32; Board::MAX_TERMINALS], terminals: u32) -> bool
 {
     let mut i: u32 = 0;
     while i < terminals {
-        let count = lists::word_at(counts, i as usize);
+        let count = lists::at_or(counts, i as usize, 0);
         if (Board::MAX_VERTICES as u32) < count {
             return false;
         }
@@ -108,7 +108,7 @@ pub fn edge_sets(
     let mut i: usize = 0;
     while i < terminals as usize {
         let row = rows[i];
-        let count = lists::word_at(counts, i);
+        let count = lists::at_or(counts, i, 0);
         routes[i] = row_set(row, count as usize);
         i += 1;
     }

@@ -16,8 +16,7 @@ use borrow.Author.Tests.{ltb-true, ltb-false, lt-ltb, le-ltb}
 use Rattle.lists.specs.Choice.{pick, both}
 use Rattle.lists.specs.Lists.{index_of}
 use Rattle.lists.proofs.Laws.{Known, was_true, was_false, known, lt_or_ge, pick_yes, pick_no}
-use Rattle.decimal.specs.declared.Number.{Number}
-use Rattle.decimal.specs.declared.Number.TheVariants.{Value, Malformed}
+use Rattle.std.specs.Prelude.{Option, Some, None}
 use Rattle.decimal.specs.Decimal.{number_of}
 use Rattle.decimal.proofs.Laws.{number_long}
 use Rattle.text.specs.declared.Range.{Range}
@@ -125,7 +124,7 @@ field_long r e s h = go (known (ltb (index_of e s) (length s)))
     go (was_true t) =
         let less : index_of e s < length s = ltb-true _ _ t in
         let size : length (take (index_of e s) s) ≡ index_of e s = length-take-le (index_of e s) s (omega arith) in
-        let none : Malformed ≡ number_of (take (index_of e s) s) = number_long (take (index_of e s) s) (λ z. omega arith) (omega arith) in
+        let none : None ≡ number_of (take (index_of e s) s) = number_long (take (index_of e s) s) (λ z. omega arith) (omega arith) in
         pick_yes _ _ _ t ∙ rw (← none)
     go (was_false t) = pick_no _ _ _ t
 
@@ -133,13 +132,13 @@ pub near_field : (r : Range) (e : ℕ) → Near 8 (field r e)
 unfolding field pick
 near_field r e = record { near = λ s m h. go s m h (lt_or_ge (index_of e s) 8) }
   where
-    value : (s : List ℕ) (m i : ℕ) → 8 ≤ m → i < 8 → (n : Number)
+    value : (s : List ℕ) (m i : ℕ) → 8 ≤ m → i < 8 → (n : Option ℕ)
         → Alike 8 m s (ranged r n (take (m - suc i) (drop (suc i) s))) (ranged r n (drop (suc i) s))
-    value s m i h less Malformed = both_refused 1 refl refl
-    value s m i h less (Value n) = cases (known (both (leb r.low n) (leb n r.high)))
+    value s m i h less None = both_refused 1 refl refl
+    value s m i h less (Some n) = cases (known (both (leb r.low n) (leb n r.high)))
       where
         cases : Known (both (leb r.low n) (leb n r.high))
-            → Alike 8 m s (ranged r (Value n) (take (m - suc i) (drop (suc i) s))) (ranged r (Value n) (drop (suc i) s))
+            → Alike 8 m s (ranged r (Some n) (take (m - suc i) (drop (suc i) s))) (ranged r (Some n) (drop (suc i) s))
         cases (was_true t) = both_got n (suc i) (omega arith) (pick_yes _ _ _ t) (pick_yes _ _ _ t)
         cases (was_false t) = both_refused 2 (pick_no _ _ _ t) (pick_no _ _ _ t)
 

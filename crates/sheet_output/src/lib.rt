@@ -23,7 +23,7 @@ pub fn put_number(buf: &mut [u8], at: usize, n: u32) -> usize
     ensures buf_after { buf.new ≡ sets buf.old at (number_line n) }
 {
     let end = decimal::write_number(buf, at, n);
-    lists::put_byte(buf, end, b'\n');
+    lists::put(buf, end, b'\n');
     end + 1
 }
 

@@ -23,7 +23,7 @@ pub struct Found {
 fn fits(flows: &[u32], marks: EdgeSet, demand: u32, e: u32) -> bool
     ensures { result ≡ flow_fits (has_bit (set_of marks) e) (get_or flows.now e 0) demand }
 {
-    let flow = lists::word_at(flows, e as usize);
+    let flow = lists::at_or(flows, e as usize, 0);
     let mark = sets::has(marks, e as usize);
     move_carry::flow_fits(mark, flow, demand)
 }
@@ -77,8 +77,8 @@ pub fn open_carry<'a>(
     let edges = frame.edges;
     let mut i = frame.resume;
     while i < terminals {
-        let place = lists::word_at(places, i as usize);
-        let demand = lists::word_at(demands, i as usize);
+        let place = lists::at_or(places, i as usize, 0);
+        let demand = lists::at_or(demands, i as usize, 0);
         let into = move_edges::touching(entering, frame.positive, place);
         let e = chosen(flows, frame.marks, edges, demand, into);
         if e < edges {

@@ -128,7 +128,7 @@ fn look_again(changed: EdgeSet, positive: EdgeSet, flows: &[u32; Board::MAX_EDGE
     let mut small = true;
     while !sets::is_empty(rest) {
         let e = sets::lowest(rest);
-        let f = lists::word_at(flows, e as usize);
+        let f = lists::at_or(flows, e as usize, 0);
         let others = sets::drop(after, e);
         after = sets::with(others, 0 < f, e as usize);
         small = lists::and(small, f <= Board::MAX_TOTAL);
@@ -171,16 +171,16 @@ fn carry_on<'a>(
         flows.old (set_of frame.marks) places.old i e)
         (made_of result flows.new places.new) }
 {
-    let place = lists::word_at(places, i as usize);
+    let place = lists::at_or(places, i as usize, 0);
     if place == frame.source {
         return halted(21, frame);
     }
-    let demand = lists::word_at(demands, i as usize);
-    let flow = lists::word_at(flows, e as usize);
-    let tail = lists::word_at(tails, e as usize);
+    let demand = lists::at_or(demands, i as usize, 0);
+    let flow = lists::at_or(flows, e as usize, 0);
+    let tail = lists::at_or(tails, e as usize, 0);
     let rest = lists::minus(flow, demand);
-    lists::put_word(flows, e as usize, rest);
-    lists::put_word(places, i as usize, tail);
+    lists::put(flows, e as usize, rest);
+    lists::put(places, i as usize, tail);
     let after = positive_after(frame.positive, rest, e);
     Progress {
         answer: 0,

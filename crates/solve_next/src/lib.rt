@@ -58,7 +58,7 @@ pub fn all_home(places: &[u32], terminals: u32, source: u32) -> bool
 {
     let mut i: u32 = 0;
     while i < terminals {
-        if lists::word_at(places, i as usize) != source {
+        if lists::at_or(places, i as usize, 0) != source {
             return false;
         }
         i += 1;
@@ -70,7 +70,7 @@ pub fn all_home(places: &[u32], terminals: u32, source: u32) -> bool
 fn all_home_after(places: &[u32], terminals: u32, source: u32, first: u32) -> bool
     ensures { result ≡ all_home_in terminals source places.now }
 {
-    let place = lists::word_at(places, first as usize);
+    let place = lists::at_or(places, first as usize, 0);
     if lists::and(first < terminals, place != source) {
         return false;
     }

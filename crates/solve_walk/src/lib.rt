@@ -74,7 +74,7 @@ fn meet(starts: &[u32], seen: VertexSet, e: u32) -> VertexSet
     requires { get_or starts.now e 0 < word_width }
     ensures { result ≡ with_bit seen (get_or starts.now e 0) }
 {
-    let v = lists::word_at(starts, e as usize);
+    let v = lists::at_or(starts, e as usize, 0);
     sets::word::with(seen, true, v as usize)
 }
 
@@ -178,7 +178,7 @@ fn down_walk<'a>(
     if (e as usize) < flows.len() {
         let longer = with_step(walk, false, e);
         let met = meet(tails, seen, e);
-        let next = lists::word_at(heads, e as usize);
+        let next = lists::at_or(heads, e as usize, 0);
         return down_walk(
             tails,
             heads,
@@ -196,7 +196,7 @@ fn down_walk<'a>(
     let c = climb(entering, positive, v, x);
     let longer = with_step(walk, true, c);
     let met = meet(heads, seen, c);
-    let next = lists::word_at(tails, c as usize);
+    let next = lists::at_or(tails, c as usize, 0);
     up_walk(
         tails,
         heads,
@@ -243,7 +243,7 @@ fn up_walk<'a>(
         let e = fall(leaving, positive, v, x);
         let longer = with_step(walk, false, e);
         let met = meet(tails, seen, e);
-        let next = lists::word_at(heads, e as usize);
+        let next = lists::at_or(heads, e as usize, 0);
         return down_walk(
             tails,
             heads,
@@ -261,7 +261,7 @@ fn up_walk<'a>(
     let c = climb(entering, positive, v, x);
     let longer = with_step(walk, true, c);
     let met = meet(heads, seen, c);
-    let next = lists::word_at(tails, c as usize);
+    let next = lists::at_or(tails, c as usize, 0);
     up_walk(
         tails,
         heads,

@@ -14,8 +14,7 @@ use borrow.Author.Tests.{lt-ltb, ltb-true, le-leb, leb-true, eq-eqb, eqb-true}
 use Rattle.lists.specs.Choice.{pick, both}
 use Rattle.lists.specs.Lists.{index_of}
 use Rattle.lists.proofs.Laws.{Known, was_true, was_false, known, pick_yes, both_left, both_right, both_true}
-use Rattle.decimal.specs.declared.Number.{Number}
-use Rattle.decimal.specs.declared.Number.TheVariants.{Value, Malformed}
+use Rattle.std.specs.Prelude.{Option, Some, None}
 use Rattle.decimal.specs.Decimal.{number_of, decimal}
 use Rattle.text.specs.declared.Range.{Range}
 use Rattle.text.specs.Text.{Read, refused, got, then, letter, ranged, field, end_byte, numbers, line, lines, head_ranges}
@@ -85,16 +84,16 @@ pub record FieldText (r : Range) (e n : ℕ) (s rest : List ℕ) : Type 0 where
   pub above : r.low ≤ n
   pub below : n ≤ r.high
 
-pub record Ranged (r : Range) (o : Number) (t : List ℕ) (n : ℕ) (rest : List ℕ) : Type 0 where
-  pub value : o ≡ Value n
+pub record Ranged (r : Range) (o : Option ℕ) (t : List ℕ) (n : ℕ) (rest : List ℕ) : Type 0 where
+  pub value : o ≡ Some n
   pub behind : t ≡ rest
   pub above : r.low ≤ n
   pub below : n ≤ r.high
 
-in_range : {r : Range} {n : ℕ} {t rest : List ℕ} (o : Number) → ranged r o t ≡ got n rest → Ranged r o t n rest
+in_range : {r : Range} {n : ℕ} {t rest : List ℕ} (o : Option ℕ) → ranged r o t ≡ got n rest → Ranged r o t n rest
 unfolding ranged
-in_range Malformed e = never e
-in_range {r} {n} {t} {rest} (Value m) e =
+in_range None e = never e
+in_range {r} {n} {t} {rest} (Some m) e =
     let p = picked (both (leb r.low m) (leb m r.high)) (got m t) 2 e in
     let same : m ≡ n = cc in
     record {
@@ -278,9 +277,9 @@ fair_field : (r : Range) (e : ℕ) (s : List ℕ) → Fair (field r e s)
 unfolding field
 fair_field r e s = fair_pick _ _ 1 (go (number_of (take (index_of e s) s)) (drop (suc (index_of e s)) s)) (omega arith)
   where
-    go : (o : Number) (t : List ℕ) → Fair (ranged r o t)
-    go Malformed t = not_zero 1 (omega arith)
-    go (Value n) t = fair_pick _ (got n t) 2 through (omega arith)
+    go : (o : Option ℕ) (t : List ℕ) → Fair (ranged r o t)
+    go None t = not_zero 1 (omega arith)
+    go (Some n) t = fair_pick _ (got n t) 2 through (omega arith)
 
 fair_numbers : (rs : List Range) (s : List ℕ) → Fair (numbers rs s)
 unfolding numbers

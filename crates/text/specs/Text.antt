@@ -3,8 +3,7 @@ use Rattle.std.specs.Prelude.{List, [], ◌∷◌, ◌++◌, ℕ, zero, suc, ◌
 use Rattle.std.proofs.lemmas.List.Edits.{sets}
 use Rattle.lists.specs.Choice.{pick, both}
 use Rattle.lists.specs.Lists.{index_of}
-use Rattle.decimal.specs.declared.Number.{Number}
-use Rattle.decimal.specs.declared.Number.TheVariants.{Value, Malformed}
+use Rattle.std.specs.Prelude.{Option, Some, None}
 use Rattle.decimal.specs.Decimal.{number_of, decimal}
 use Rattle.board.specs.Limits.{max_vertices, max_edges, max_terminals, max_flow}
 use Rattle.board.specs.declared.Network.{Network}
@@ -31,9 +30,9 @@ abbrev pub between : ℕ → ℕ → Range
 between a b = record { low = a; high = b }
 
 -- a number that was read, with the text behind it: 1 where it is none, else 2 where it is out of range
-unfoldable pub ranged : Range → Number → List ℕ → Read ℕ
-ranged r Malformed s = refused 1
-ranged r (Value n) s = pick (both (leb r.low n) (leb n r.high)) (got n s) (refused 2)
+unfoldable pub ranged : Range → Option ℕ → List ℕ → Read ℕ
+ranged r None s = refused 1
+ranged r (Some n) s = pick (both (leb r.low n) (leb n r.high)) (got n s) (refused 2)
 
 -- a number field: the bytes before the first `end`, which belongs to it; 1 where no `end` follows
 unfoldable pub field : Range → ℕ → List ℕ → Read ℕ

@@ -40,7 +40,7 @@ fn all_differ<'a>(tails: &'a [u32], heads: &'a [u32], n: u32) -> bool
 {
     let mut i: u32 = 0;
     while i < n {
-        if lists::word_at(tails, i as usize) == lists::word_at(heads, i as usize) {
+        if lists::at_or(tails, i as usize, 0) == lists::at_or(heads, i as usize, 0) {
             return false;
         }
         i += 1;
@@ -54,7 +54,7 @@ fn all_away(homes: &[u32], source: u32, n: u32) -> bool
 {
     let mut j: u32 = 0;
     while j < n {
-        if lists::word_at(homes, j as usize) == source {
+        if lists::at_or(homes, j as usize, 0) == source {
             return false;
         }
         j += 1;

@@ -14,8 +14,7 @@ use Rattle.lists.specs.Choice.{pick, both}
 use Rattle.lists.specs.Lists.{index_of}
 use Rattle.text.proofs.Ends.{end_after}
 use Rattle.lists.proofs.Laws.{pick_yes, pick_no, rest_part, zeros_at}
-use Rattle.decimal.specs.declared.Number.{Number}
-use Rattle.decimal.specs.declared.Number.TheVariants.{Value, Malformed}
+use Rattle.std.specs.Prelude.{Option, Some, None}
 use Rattle.decimal.specs.Decimal.{number_of}
 use Rattle.text.specs.declared.Range.{Range}
 use Rattle.text.specs.declared.Field.{Field}
@@ -31,21 +30,21 @@ module _ (r : Range) (e n : ℕ) (s : List ℕ) (p : n ≡ index_of e s) where
   field-none h = rw (← p, le-ltb n (length s) h)
 
   module _ (h : n < length s) where
-    found : (x : Number) → number_of (take n s) ≡ x → ranged r x (drop (n + 1) s) ≡ field r e s
+    found : (x : Option ℕ) → number_of (take n s) ≡ x → ranged r x (drop (n + 1) s) ≡ field r e s
     unfolding field pick
     found x q = rw (← p, lt-ltb n (length s) h, add-one, q)
 
-    pub field_malformed : number_of (take n s) ≡ Malformed → refused 1 ≡ field r e s
+    pub field_malformed : number_of (take n s) ≡ None → refused 1 ≡ field r e s
     unfolding ranged
-    field_malformed q = found Malformed q
+    field_malformed q = found None q
 
-    pub field_in : (v : ℕ) → number_of (take n s) ≡ Value v → both (leb r.low v) (leb v r.high) ≡ true → got v (drop (n + 1) s) ≡ field r e s
+    pub field_in : (v : ℕ) → number_of (take n s) ≡ Some v → both (leb r.low v) (leb v r.high) ≡ true → got v (drop (n + 1) s) ≡ field r e s
     unfolding ranged
-    field_in v q b = sym (pick_yes _ _ _ b) ∙ found (Value v) q
+    field_in v q b = sym (pick_yes _ _ _ b) ∙ found (Some v) q
 
-    pub field_out : (v : ℕ) → number_of (take n s) ≡ Value v → both (leb r.low v) (leb v r.high) ≡ false → refused 2 ≡ field r e s
+    pub field_out : (v : ℕ) → number_of (take n s) ≡ Some v → both (leb r.low v) (leb v r.high) ≡ false → refused 2 ≡ field r e s
     unfolding ranged
-    field_out v q b = sym (pick_no _ _ _ b) ∙ found (Value v) q
+    field_out v q b = sym (pick_no _ _ _ b) ∙ found (Some v) q
 
 -- reading on from what was read
 pub then_got : {A : Type 0} (x : Read A) → then x (λ a s. got a s) ≡ x

@@ -7,7 +7,6 @@ ghost use Rattle.text.specs.Views.{field_read, line_read, part_read, refused_fie
 ghost use Rattle.board.specs.Limits.{max_edges, max_terminals};
 
 use board::{Board, Network};
-use decimal::Number;
 use text::{Field, Line, Part, Range};
 
 // ---- A field and a line: their parts of the slice.
@@ -28,7 +27,7 @@ fn field(s: &[u8], range: Range, end: u8) -> Field
     }
     let found = decimal::read_number(&s[..n]);
     match found {
-        Number::Value(value) => {
+        Some(value) => {
             if range.holds(value) {
                 Field {
                     answer: 0,
@@ -43,7 +42,7 @@ fn field(s: &[u8], range: Range, end: u8) -> Field
                 }
             }
         }
-        Number::Malformed => Field {
+        None => Field {
             answer: 1,
             value: 0,
             used: 0,
@@ -68,10 +67,10 @@ pub fn line(s: &[u8], letter: u8, ranges: [Range; 4], count: usize) -> Line
     ensures used_in_bounds { result.used ≤ length s.now }
     ensures line_rest { LineRest count result }
 {
-    if lists::byte_at(s, 0) != letter {
+    if lists::at_or(s, 0, 0) != letter {
         return refused_line(1);
     }
-    if lists::byte_at(s, 1) != b',' {
+    if lists::at_or(s, 1, 0) != b',' {
         return refused_line(1);
     }
     let mut values = [0u32; 4];

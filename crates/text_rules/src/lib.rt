@@ -36,9 +36,9 @@ pub fn edge_numbers_fit(is_edge: bool, tail: u32, head: u32, flow: u32, vertices
 fn edge_fits(net: Network, i: u32) -> bool
     ensures { result ≡ edge_fits net i }
 {
-    let tail = lists::word_at(&net.tails, i as usize);
-    let head = lists::word_at(&net.heads, i as usize);
-    let flow = lists::word_at(&net.flows, i as usize);
+    let tail = lists::at_or(&net.tails, i as usize, 0);
+    let head = lists::at_or(&net.heads, i as usize, 0);
+    let flow = lists::at_or(&net.flows, i as usize, 0);
     edge_numbers_fit(i < net.edges, tail, head, flow, net.vertices)
 }
 
@@ -59,8 +59,8 @@ pub fn terminal_numbers_fit(is_terminal: bool, home: u32, demand: u32, vertices:
 fn terminal_fits(net: Network, j: u32) -> bool
     ensures { result ≡ terminal_fits net j }
 {
-    let home = lists::word_at(&net.homes, j as usize);
-    let demand = lists::word_at(&net.demands, j as usize);
+    let home = lists::at_or(&net.homes, j as usize, 0);
+    let demand = lists::at_or(&net.demands, j as usize, 0);
     terminal_numbers_fit(j < net.terminals, home, demand, net.vertices)
 }
 

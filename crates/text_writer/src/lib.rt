@@ -22,14 +22,14 @@ pub fn put_line(buf: &mut [u8], at: usize, letter: u8, values: &[u32]) -> usize
     ensures upper_bound { result ≤ at + line_bytes (length values.now) }
     ensures buf_after { buf.new ≡ sets buf.old at (line_text letter values.now) }
 {
-    lists::put_byte(buf, at, letter);
-    lists::put_byte(buf, at + 1, b',');
+    lists::put(buf, at, letter);
+    lists::put(buf, at + 1, b',');
     let count = values.len();
     let mut to = at + 2;
     let mut i: usize = 0;
     while i < count {
         let end = decimal::write_number(buf, to, values[i]);
-        lists::put_byte(buf, end, text::end_byte(count - i - 1));
+        lists::put(buf, end, text::end_byte(count - i - 1));
         to = end + 1;
         i += 1;
     }
@@ -39,9 +39,9 @@ pub fn put_line(buf: &mut [u8], at: usize, letter: u8, values: &[u32]) -> usize
 fn edge_row(net: Network, i: usize) -> [u32; 3]
     ensures { result ≡ edge_row net i }
 {
-    let tail = lists::word_at(&net.tails, i);
-    let head = lists::word_at(&net.heads, i);
-    let flow = lists::word_at(&net.flows, i);
+    let tail = lists::at_or(&net.tails, i, 0);
+    let head = lists::at_or(&net.heads, i, 0);
+    let flow = lists::at_or(&net.flows, i, 0);
     [tail, head, flow]
 }
 
@@ -66,8 +66,8 @@ fn put_edges(buf: &mut [u8], at: usize, net: Network) -> usize
 fn terminal_row(net: Network, j: usize) -> [u32; 2]
     ensures { result ≡ terminal_row net j }
 {
-    let home = lists::word_at(&net.homes, j);
-    let demand = lists::word_at(&net.demands, j);
+    let home = lists::at_or(&net.homes, j, 0);
+    let demand = lists::at_or(&net.demands, j, 0);
     [home, demand]
 }
 

@@ -22,14 +22,14 @@ put_rows-to-requires c =
 
 pub put_rows-requires : goal.put_rows-requires
 put_rows-requires c =
-    let e = c.word_at-edges.result in
+    let e = c.at_or-edges.result in
     let t = c.args.t.now in
     let size = ap length (rest_part t (4 + 3 * e)) in
     (omega arith, (omega (arith, size, length-drop (4 + 3 * e) t), omega (arith, length-take 4 t, c.put_line-head.ensures.upper_bound)))
 
 pub returns : goal.returns
 returns c =
-    let all = board_written _ _ _ _ _ _ _ _ _ _ c.word_at-edges.ensures c.word_at-terminals.ensures c.put_line-head.ensures.value c.put_line-head.ensures.buf_after
+    let all = board_written _ _ _ _ _ _ _ _ _ _ c.at_or-edges.ensures c.at_or-terminals.ensures c.put_line-head.ensures.value c.put_line-head.ensures.buf_after
     c.put_rows-to.ensures.value c.put_rows-to.ensures.buf_after c.put_rows.ensures.value c.put_rows.ensures.buf_after in record {
       value = all.0;
       buf_after = all.1;

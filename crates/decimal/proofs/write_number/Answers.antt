@@ -17,7 +17,7 @@ loop-left-init c = (
 pub loop-left-preserved : goal.loop-left-preserved
 loop-left-preserved c = (
   omega arith,
-  write_turn _ _ _ _ _ _ _ c.loop-left.invariant.1 c.loop-left-test.true c.put_byte.ensures (omega arith),
+  write_turn _ _ _ _ _ _ _ c.loop-left.invariant.1 c.loop-left-test.true c.put.ensures (omega arith),
 )
 
 pub overflow_add-result : goal.overflow_add-result

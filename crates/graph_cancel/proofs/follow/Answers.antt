@@ -20,10 +20,10 @@ returns-then-count-walk c =
     let on = onward at_args.tails.now at_args.heads.now at_args.flows.now at_args.seen.now at_loop.v in
     let edge : c.lowest_edge-e.result ≡ on =
     onward_made _ _ _ _ _ c.edges_at-onward.result _ at_pre.heads_in_bounds.1 (c.edges_at-onward.ensures ∙ c.leaving.ensures at_loop.v (omega arith)) c.lowest_edge-e.ensures in
-    let end : c.word_at-v.result ≡ get_or at_args.heads.now on 0 = c.word_at-v.ensures ∙ ap (λ (k : ℕ). get_or at_args.heads.now k 0) edge in
+    let end : c.at_or-v.result ≡ get_or at_args.heads.now on 0 = c.at_or-v.ensures ∙ ap (λ (k : ℕ). get_or at_args.heads.now k 0) edge in
     let inside : at_loop.at ≤ length at_loop.walk = omega arith in record {
       count_in_bounds = omega arith;
-      walk_after = follow_hit _ _ _ _ _ _ _ _ _ _ _ c.loop-at-test.true inside (c.put_index.ensures ∙ rw edge) end c.since-count.ensures.value at_loop.invariant.2 c.if-count-walk.true;
+      walk_after = follow_hit _ _ _ _ _ _ _ _ _ _ _ c.loop-at-test.true inside (c.put.ensures ∙ rw edge) end c.since-count.ensures.value at_loop.invariant.2 c.if-count-walk.true;
     }
 
 pub loop-at-preserved : goal.loop-at-preserved
@@ -34,12 +34,12 @@ loop-at-preserved c =
     let on = onward at_args.tails.now at_args.heads.now at_args.flows.now at_args.seen.now at_loop.v in
     let edge : c.lowest_edge-e.result ≡ on =
     onward_made _ _ _ _ _ c.edges_at-onward.result _ at_pre.heads_in_bounds.1 (c.edges_at-onward.ensures ∙ c.leaving.ensures at_loop.v (omega arith)) c.lowest_edge-e.ensures in
-    let end : c.word_at-v.result ≡ get_or at_args.heads.now on 0 = c.word_at-v.ensures ∙ ap (λ (k : ℕ). get_or at_args.heads.now k 0) edge in
+    let end : c.at_or-v.result ≡ get_or at_args.heads.now on 0 = c.at_or-v.ensures ∙ ap (λ (k : ℕ). get_or at_args.heads.now k 0) edge in
     let inside : at_loop.at ≤ length at_loop.walk = omega arith in
     let some : 0 < length at_args.seen.now = omega (arith, at_loop.invariant.3) in (
       omega arith,
       omega arith,
-      follow_on _ _ _ _ _ _ _ _ _ _ _ c.loop-at-test.true inside (c.put_index.ensures ∙ rw edge) end c.since-count.ensures.value at_loop.invariant.2 c.if-count-walk.false,
+      follow_on _ _ _ _ _ _ _ _ _ _ _ c.loop-at-test.true inside (c.put.ensures ∙ rw edge) end c.since-count.ensures.value at_loop.invariant.2 c.if-count-walk.false,
       rw end
           (onward_inside at_args.tails.now at_args.heads.now at_args.flows.now at_args.seen.now at_loop.v at_pre.heads_in_bounds.0 some),
     )

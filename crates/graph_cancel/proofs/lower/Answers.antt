@@ -11,7 +11,7 @@ pub loop-i-preserved : goal.loop-i-preserved
 loop-i-preserved c =
     let at_loop_test = c.loop-i-test in
     let at_loop = c.loop-i in
-    (omega arith, lowered_turn _ _ _ _ _ at_loop_test.true (c.put_word.ensures ∙ rw (c.minus.ensures, c.word_at-flow.ensures)) ∙ at_loop.invariant.1)
+    (omega arith, lowered_turn _ _ _ _ _ at_loop_test.true (c.put.ensures ∙ rw (c.minus.ensures, c.at_or-flow.ensures)) ∙ at_loop.invariant.1)
 
 pub shape_of-flows : goal.shape_of-flows
 shape_of-flows c = c.loop-i.invariant.0

@@ -22,7 +22,7 @@ loop-e-preserved c =
     let at_args = c.args in
     λ v. found_turn at_args.tails.now at_args.heads.now at_args.flows.now at_args.bitsets.now at_loop.m _ at_loop.e c.loop-e-test.true
     (c.with_vertex-m.ensures
-    ∙ rw (c.and-back.ensures, c.has.ensures, c.bitset_at-bitset.ensures, c.word_at-head.ensures, c.word_at-tail.ensures)) v
+    ∙ rw (c.and-back.ensures, c.has.ensures, c.bitset_at-bitset.ensures, c.at_or-head.ensures, c.at_or-tail.ensures)) v
     ∙ at_loop.invariant v
 
 pub returns : goal.returns

@@ -73,8 +73,8 @@ pub returns-then-number-eq0 : goal.returns-then-number-eq0
 returns-then-number-eq0 c =
     let judge = (accepted c.before.before.before).before in
     let t = table judge in
-    let change = makes_carried t.network t.flows t.marks t.places judge.args.i judge.args.e _ _ _ _ _ _ c.word_at-flow.ensures
-    c.word_at-demand.ensures c.word_at-tail.ensures c.minus-rest.ensures refl refl in
+    let change = makes_carried t.network t.flows t.marks t.places judge.args.i judge.args.e _ _ _ _ _ _ c.at_or-flow.ensures
+    c.at_or-demand.ensures c.at_or-tail.ensures c.minus-rest.ensures refl refl in
     let all = lent_accepted t (words judge) judge.args.i judge.args.e _ (judged judge) _ _ c.if-number-eq0.true change
     (c.put_entry.ensures.journal_after ∙ ap (λ (x : Entry). set (words judge) t.moves (packed x)) c.entry_of.ensures)
     (c.put_entry.ensures.journal_after_2 ∙ ap (λ (x : Entry). set (entries_of (words judge)) t.moves x) c.entry_of.ensures) in record {

@@ -38,7 +38,7 @@ on_board_lem c = sym c.and.ensures ∙ c.if-not-and.false
 abbrev Away : Type 0
 Away = lts.Else3 tie.the-claims reads.Pre reads.Post
 
-abbrev placed : Away → lts.After-word_at tie.the-claims reads.Pre reads.Post
+abbrev placed : Away → lts.After-at_or tie.the-claims reads.Pre reads.Post
 placed c = c.before.before
 
 abbrev Fitting : Type 0
@@ -57,7 +57,7 @@ fits : (c : Fitting) → c.flow_fits.result
     ≡ fits_in (net (read_at c)) (start (read_at c)).args.flows.now (start (read_at c)).args.frame.marks (start (read_at c)).args.places.now (start (read_at c)).args.i (start (read_at c)).args.e
 fits c =
     c.flow_fits.ensures
-    ∙ fits_read (start (read_at c)).args.in_play (net (read_at c)) (start (read_at c)).args.flows.now (start (read_at c)).args.frame.marks (start (read_at c)).args.places.now (start (read_at c)).args.i (start (read_at c)).args.e _ _ _ c.has-mark.ensures c.word_at-flow.ensures c.word_at-demand.ensures
+    ∙ fits_read (start (read_at c)).args.in_play (net (read_at c)) (start (read_at c)).args.flows.now (start (read_at c)).args.frame.marks (start (read_at c)).args.places.now (start (read_at c)).args.i (start (read_at c)).args.e _ _ _ c.has-mark.ensures c.at_or-flow.ensures c.at_or-demand.ensures
 
 pub returns-then-not-in_play : goal.returns-then-not-in_play
 returns-then-not-in_play c = refused_20 _ _ _ _ _ _ _ (c.if-not-in_play.true)
@@ -69,27 +69,27 @@ returns-then-not-and c = refused_6 _ _ _ _ _ _ _ (plays c.before.before.before.b
 pub returns-then-place-frame : goal.returns-then-place-frame
 returns-then-place-frame c =
     let read = c.before.before.before in
-    refused_21 _ _ _ _ _ _ _ (plays (in_play read.before)) (on_board_lem read.before) _ c.word_at-place.ensures c.if-place-frame.true
+    refused_21 _ _ _ _ _ _ _ (plays (in_play read.before)) (on_board_lem read.before) _ c.at_or-place.ensures c.if-place-frame.true
 
-pub returns-then-word_at-place : goal.returns-then-word_at-place
-returns-then-word_at-place c =
+pub returns-then-at_or-place : goal.returns-then-at_or-place
+returns-then-at_or-place c =
     let apart = c.before.before.before in
     let read = placed apart in
-    refused_22 _ _ _ _ _ _ _ (plays (in_play read.before)) (on_board_lem read.before) _ read.word_at-place.ensures c.if-place-frame.false _
-    c.word_at.ensures c.if-word_at-place.true
+    refused_22 _ _ _ _ _ _ _ (plays (in_play read.before)) (on_board_lem read.before) _ read.at_or-place.ensures c.if-place-frame.false _
+    c.at_or.ensures c.if-at_or-place.true
 
 pub returns-then-not-flow_fits : goal.returns-then-not-flow_fits
 returns-then-not-flow_fits c =
     let fitting = c.before.before in
     let apart = away fitting in
     let read = placed apart in
-    refused_23 _ _ _ _ _ _ _ (plays (in_play read.before)) (on_board_lem read.before) _ read.word_at-place.ensures apart.if-place-frame.false _
-    (enters fitting).word_at.ensures (enters fitting).if-word_at-place.false (sym (fits fitting) ∙ c.if-not-flow_fits.true)
+    refused_23 _ _ _ _ _ _ _ (plays (in_play read.before)) (on_board_lem read.before) _ read.at_or-place.ensures apart.if-place-frame.false _
+    (enters fitting).at_or.ensures (enters fitting).if-at_or-place.false (sym (fits fitting) ∙ c.if-not-flow_fits.true)
 
 pub returns : goal.returns
 returns c =
     let fitting = c.before.before in
     let apart = away fitting in
     let read = placed apart in
-    accepted _ _ _ _ _ _ _ (plays (in_play read.before)) (on_board_lem read.before) _ read.word_at-place.ensures apart.if-place-frame.false _
-    (enters fitting).word_at.ensures (enters fitting).if-word_at-place.false (sym (fits fitting) ∙ c.if-not-flow_fits.false)
+    accepted _ _ _ _ _ _ _ (plays (in_play read.before)) (on_board_lem read.before) _ read.at_or-place.ensures apart.if-place-frame.false _
+    (enters fitting).at_or.ensures (enters fitting).if-at_or-place.false (sym (fits fitting) ∙ c.if-not-flow_fits.false)

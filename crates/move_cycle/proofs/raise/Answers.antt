@@ -10,7 +10,7 @@ pub loop-i-preserved : goal.loop-i-preserved
 loop-i-preserved c =
     let at_loop_test = c.loop-i-test in
     let at_loop = c.loop-i in
-    rw (c.lessened-least.ensures, c.word_at-demand.ensures, c.word_at-place.ensures) (raise_turn _ _ _ _ _ _ _ _ at_loop_test.true at_loop.invariant)
+    rw (c.lessened-least.ensures, c.at_or-demand.ensures, c.at_or-place.ensures) (raise_turn _ _ _ _ _ _ _ _ at_loop_test.true at_loop.invariant)
 
 pub returns : goal.returns
 returns c = raise_end _ _ _ _ _ _ _ _ c.loop-i-test.false c.loop-i.invariant

@@ -15,7 +15,7 @@ shifted_at-new-requires c =
     let pre = c.requires in
     let some = sym c.is_empty.ensures ∙ c.loop-e-test.true in
     let has = lowest_in_lem _ _ c.lowest-e.ensures c.loop-e.invariant.fits some in
-    (pre.x_le_max_total, rw (c.word_at-f.ensures, c.loop-e.invariant.old _ has) (pre.at_most c.lowest-e.result))
+    (pre.x_le_max_total, rw (c.at_or-f.ensures, c.loop-e.invariant.old _ has) (pre.at_most c.lowest-e.result))
 
 pub loop-e-smaller : goal.loop-e-smaller
 loop-e-smaller c =
@@ -26,8 +26,8 @@ pub loop-e-preserved : goal.loop-e-preserved
 loop-e-preserved c =
     let some = sym c.is_empty.ensures ∙ c.loop-e-test.true in
     let has = lowest_in_lem _ _ c.lowest-e.ensures c.loop-e.invariant.fits some in
-    rw (c.drop-rest.ensures, c.put_word.ensures)
-    (but_one _ _ _ _ _ _ _ _ has (c.shifted_at-new.ensures ∙ ap (shifted_at _ _ _ _) c.word_at-f.ensures) c.loop-e.invariant)
+    rw (c.drop-rest.ensures, c.put.ensures)
+    (but_one _ _ _ _ _ _ _ _ has (c.shifted_at-new.ensures ∙ ap (shifted_at _ _ _ _) c.at_or-f.ensures) c.loop-e.invariant)
 
 pub shape_of-flows : goal.shape_of-flows
 shape_of-flows c = c.loop-e.invariant.long

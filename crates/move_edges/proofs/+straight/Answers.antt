@@ -18,6 +18,6 @@ returns-then-not-is_empty t c =
 pub returns : goal.returns
 returns t c =
     c.straight.ensures
-    ∙ rw c.word_at-next.ensures
+    ∙ rw c.at_or-next.ensures
     (by_on _ _ _ _ _ c.touching-out.ensures _ _ (sym c.is_empty.ensures ∙ c.if-is_empty.false) c.lowest-e.ensures
     c.drop-others.ensures _ c.if-left-eq0.false (sym c.is_empty-2.ensures ∙ c.if-not-is_empty.false))

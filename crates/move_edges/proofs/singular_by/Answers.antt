@@ -4,4 +4,4 @@ use Rattle.move_edges.proofs.singular_by.Goals as goal
 
 pub returns : goal.returns
 unfolding singular_by
-returns c = rw (← c.word_at-head.ensures) c.straight.ensures
+returns c = rw (← c.at_or-head.ensures) c.straight.ensures

@@ -9,5 +9,5 @@ put_steps-requires c =
 
 pub returns : goal.returns
 returns c =
-    advice_stored c.args.buf.now c.args.k c.args.advice _ _ _ _ _ c.put_word.ensures c.put_word-2.ensures c.put_word-3.ensures c.put_word-4.ensures
+    advice_stored c.args.buf.now c.args.k c.args.advice _ _ _ _ _ c.put.ensures c.put-2.ensures c.put-3.ensures c.put-4.ensures
     c.put_steps.ensures

@@ -17,7 +17,7 @@ loop-i-preserved c =
     let at_loop = c.loop-i in
     let long : length c.args.steps ≡ max_edges = search (rules, c.well_formed) in
     let inside : at_loop.i < length c.args.steps = omega (arith, c.loop-i-test.true) in
-    (omega (arith, c.loop-i-test.true), search rules, sets_turn at_loop.buf c.args.steps c.args.k at_loop.i _ _ inside c.put_word.ensures ∙ at_loop.invariant.2)
+    (omega (arith, c.loop-i-test.true), search rules, sets_turn at_loop.buf c.args.steps c.args.k at_loop.i _ _ inside c.put.ensures ∙ at_loop.invariant.2)
 
 pub returns : goal.returns
 returns c =

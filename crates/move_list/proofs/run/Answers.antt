@@ -45,16 +45,16 @@ loop-left-preserved c =
       | then-call-lt-HINT w ↦
           (let words = w.make-given.new.journal in
           round_moved _ _ _ _ _ _ _ _ _ _ _ _ _ some loop.invariant _ _ _ _ _ _ counted (given_of w.make-given.result words) words w.make-given.ensures
-          (w.buf-is ∙ w.put_word.ensures) w.hints-is w.j-is (λ i. whole_of (w.b-is i) (w.journal-is i)) w.journal-is)
+          (w.buf-is ∙ w.put.ensures) w.hints-is w.j-is (λ i. whole_of (w.b-is i) (w.journal-is i)) w.journal-is)
       | else-call-lt-HINT+then-call-eq-HINT w ↦
           round_hinted _ _ _ _ _ _ _ _ _ _ _ _ _ some loop.invariant _ _ _ _ _ _ counted w.hint-given.result
-          (hint_coded steps _ _ _ (omega (arith, w.if-call-eq-HINT.true))) w.hint-given.ensures (w.buf-is ∙ w.put_word-then-call-eq-HINT.ensures)
+          (hint_coded steps _ _ _ (omega (arith, w.if-call-eq-HINT.true))) w.hint-given.ensures (w.buf-is ∙ w.put-then-call-eq-HINT.ensures)
           (w.hints-is ∙ w.note-j.ensures.buf_after) (w.j-is ∙ w.note-j.ensures.value) (λ i. whole_of (w.b-is i) (w.journal-is i)) w.journal-is
       | else-call-lt-HINT+else-call-eq-HINT+then-call-eq-FINISH w ↦
           (let words = w.finish-ended.new.journal in
           round_moved _ _ _ _ _ _ _ _ _ _ _ _ _ some loop.invariant _ _ _ _ _ _ counted _ words
           (finish_made _ _ words steps _ _ _ (ended_of w.finish-ended.result words) w.if-call-eq-FINISH.true w.finish-ended.ensures.journal_after
-          w.finish-ended.ensures.journal_after_2) (w.buf-is ∙ w.put_word-then-call-eq-FINISH.ensures) w.hints-is w.j-is
+          w.finish-ended.ensures.journal_after_2) (w.buf-is ∙ w.put-then-call-eq-FINISH.ensures) w.hints-is w.j-is
           (λ i. whole_of (w.b-is i) (w.journal-is i)) w.journal-is)
       | else-call-lt-HINT+else-call-eq-HINT+else-call-eq-FINISH w ↦
           round_skipped _ _ _ _ _ _ _ _ _ _ _ _ _ some loop.invariant _ _ _ _ _ _ counted

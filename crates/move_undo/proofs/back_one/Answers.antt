@@ -53,7 +53,7 @@ read_last c = ap (λ (e : Entry). e.step) (sym c.last_entry-last.ensures)
 pub overflow_add-flow : goal.overflow_add-flow
 overflow_add-flow c =
     let s = start c.before.before.before.before.before.before.before.before.before.before.before.before.before.before.before in
-    omega (arith, c.word_at-flow.ensures, c.word_at-demand.ensures, small_flow s c.in-Carry.r.edge, small_demand s c.in-Carry.r.terminal)
+    omega (arith, c.at_or-flow.ensures, c.at_or-demand.ensures, small_flow s c.in-Carry.r.edge, small_demand s c.in-Carry.r.terminal)
 
 pub shifted-shifted-requires : goal.shifted-shifted-requires
 shifted-shifted-requires c =
@@ -66,10 +66,10 @@ shifted-shifted-requires c =
 pub returns-in-Carry : goal.returns-in-Carry
 returns-in-Carry c =
     let t = table (start c.before.before.before.before.before.before.before.before.before.before.before.before.before.before.before.before.before.before.before) in
-    let sum = ap₂ (λ (a b : ℕ). a + b) c.word_at-flow.ensures c.word_at-demand.ensures in
+    let sum = ap₂ (λ (a b : ℕ). a + b) c.at_or-flow.ensures c.at_or-demand.ensures in
     back_stored t (words (start c.before.before.before.before.before.before.before.before.before.before.before.before.before.before.before.before.before.before.before)) _ (read_last c.before.before.before.before.before.before.before.before.before.before.before.before.before.before.before.before.before.before.before ∙ ap move_of c.in-Carry.is) _ _ _ _
     (c.store_flow.ensures ∙ ap (set t.flows c.in-Carry.r.edge) sum) refl
-    (c.store_place.ensures ∙ ap (set t.places c.in-Carry.r.terminal) c.word_at-head.ensures) c.minus.ensures
+    (c.store_place.ensures ∙ ap (set t.places c.in-Carry.r.terminal) c.at_or-head.ensures) c.minus.ensures
 
 pub returns-in-Turn : goal.returns-in-Turn
 returns-in-Turn c =

@@ -11,8 +11,8 @@ use Rattle.play_lines.proofs.put_move.Goals as goal
 pub returns-then-advice-eq-NONE : goal.returns-then-advice-eq-NONE
 returns-then-advice-eq-NONE c =
     let p =
-    none_put c.args.advice c.args.buf.now _ _ c.args.at c.if-advice-eq-NONE.true c.put_byte.ensures
-    c.put_byte-then-advice-eq-NONE.ensures in record {
+    none_put c.args.advice c.args.buf.now _ _ c.args.at c.if-advice-eq-NONE.true c.put.ensures
+    c.put-then-advice-eq-NONE.ensures in record {
       value = p.0;
       upper_bound = omega arith;
       buf_after = p.1;

@@ -8,8 +8,8 @@ pub returns : goal.returns
 returns c =
     let p =
     step_put (code_step c.args.step) c.args.buf.now _ _ _ _ c.args.at _ _ _ c.edge_of-edge.ensures c.way_letter-way.ensures
-    c.put_byte.ensures c.write_number-end.ensures.value c.write_number-end.ensures.buf_after c.put_byte-2.ensures
-    c.put_byte-3.ensures in record {
+    c.put.ensures c.write_number-end.ensures.value c.write_number-end.ensures.buf_after c.put-2.ensures
+    c.put-3.ensures in record {
       value = p.0;
       upper_bound = omega arith;
       buf_after = p.1;

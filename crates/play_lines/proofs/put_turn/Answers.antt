@@ -7,8 +7,8 @@ use Rattle.play_lines.proofs.put_turn.Goals as goal
 pub returns : goal.returns
 returns c =
     let p =
-    turn_put (code_steps c.args.steps.now) c.args.buf.now _ _ _ c.args.at _ c.put_byte.ensures c.put_pairs-end.ensures.value
-    c.put_pairs-end.ensures.buf_after c.put_byte-2.ensures in record {
+    turn_put (code_steps c.args.steps.now) c.args.buf.now _ _ _ c.args.at _ c.put.ensures c.put_pairs-end.ensures.value
+    c.put_pairs-end.ensures.buf_after c.put-2.ensures in record {
       value = p.0;
       upper_bound = omega arith;
       buf_after = p.1;

@@ -2,8 +2,8 @@
 use mathlib.Core.Path.{sym, ◌∙◌}
 use Rattle.play_lines.proofs.second_taken.Goals as goal
 
-pub returns-in-Value : goal.returns-in-Value
-returns-in-Value c = rw (sym c.piece_number-number.ensures ∙ c.in-Value.is) c.with_second.ensures
+pub returns-in-Some : goal.returns-in-Some
+returns-in-Some c = rw (sym c.piece_number-number.ensures ∙ c.in-Some.is) c.with_second.ensures
 
-pub returns-in-Malformed : goal.returns-in-Malformed
-returns-in-Malformed c = rw (sym c.piece_number-number.ensures ∙ c.in-Malformed.is) c.of_kind.ensures
+pub returns-in-None : goal.returns-in-None
+returns-in-None c = rw (sym c.piece_number-number.ensures ∙ c.in-None.is) c.of_kind.ensures

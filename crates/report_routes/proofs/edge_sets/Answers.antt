@@ -16,7 +16,7 @@ loop-i-preserved c =
     let at_loop = c.loop-i in (
       length-set at_loop.routes _ _ ∙ at_loop.invariant.0,
       omega arith,
-      sets_turn at_loop.routes c.args.counts.now c.args.rows.now at_loop.i _ (omega arith) at_loop.invariant.2 (rw c.word_at-count.ensures at c.row_set.ensures),
+      sets_turn at_loop.routes c.args.counts.now c.args.rows.now at_loop.i _ (omega arith) at_loop.invariant.2 (rw c.at_or-count.ensures at c.row_set.ensures),
     )
 
 pub returns : goal.returns

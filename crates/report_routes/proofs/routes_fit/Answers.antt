@@ -10,14 +10,14 @@ loop-i-init c = rw sub-zero
 
 pub returns-then-count : goal.returns-then-count
 returns-then-count c =
-    let at_word_at = c.word_at-count in
+    let at_word_at = c.at_or-count in
     let at_loop_test = c.loop-i-test in
     let at_loop = c.loop-i in
     all_miss _ _ _ at_loop_test.true (rw at_word_at.ensures at (lt-leb _ _ c.if-count.true)) ∙ at_loop.invariant
 
 pub loop-i-preserved : goal.loop-i-preserved
 loop-i-preserved c =
-    let at_word_at = c.word_at-count in
+    let at_word_at = c.at_or-count in
     let at_loop_test = c.loop-i-test in
     let at_loop = c.loop-i in
     all_hit _ _ _ at_loop_test.true (rw at_word_at.ensures at (le-leb _ _ c.if-count.false)) ∙ at_loop.invariant

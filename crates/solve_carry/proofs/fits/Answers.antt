@@ -7,4 +7,4 @@ use Rattle.solve_carry.proofs.fits.Goals as goal
 
 pub returns : goal.returns
 returns c =
-    c.flow_fits.ensures ∙ ap₂ (λ (m : Bool) (f : ℕ). flow_fits m f c.args.demand) c.has-mark.ensures c.word_at-flow.ensures
+    c.flow_fits.ensures ∙ ap₂ (λ (m : Bool) (f : ℕ). flow_fits m f c.args.demand) c.has-mark.ensures c.at_or-flow.ensures

@@ -38,7 +38,7 @@ found : (c : Looked)
     → Finds (net (start (looping c))) (start (looping c)).args.entering.now (start (looping c)).args.flows.now (start (looping c)).args.frame.positive
     (start (looping c)).args.frame.marks (start (looping c)).args.places.now (start (looping c)).requires.searched (small (start (looping c))) c.loop-i.i c.loop-i-test.true c.chosen-e.result
 found c =
-    finds_edge _ _ _ _ _ _ (start (looping c)).requires.searched (small (start (looping c))) _ c.loop-i-test.true _ _ _ _ c.word_at-place.ensures c.word_at-demand.ensures
+    finds_edge _ _ _ _ _ _ (start (looping c)).requires.searched (small (start (looping c))) _ c.loop-i-test.true _ _ _ _ c.at_or-place.ensures c.at_or-demand.ensures
     c.touching-into.ensures c.chosen-e.ensures
 
 pub loop-i-init : goal.loop-i-init

@@ -6,11 +6,11 @@ use Rattle.solve_finish.proofs.carry_on.Goals as goal
 
 pub returns-then-place-frame : goal.returns-then-place-frame
 returns-then-place-frame c =
-    carry_stopped _ _ _ _ c.args.frame.positive _ _ _ c.word_at-place.ensures _ c.if-place-frame.true
+    carry_stopped _ _ _ _ c.args.frame.positive _ _ _ c.at_or-place.ensures _ c.if-place-frame.true
     (halts _ c.args.frame _ _ c.halted.result c.requires.positive_set c.requires.flows_value c.halted.ensures)
 
 pub returns : goal.returns
 returns c =
-    carry_made _ _ _ _ _ _ _ _ c.word_at-place.ensures _ _ _ _ _ _ _ c.if-place-frame.false c.word_at-flow.ensures c.word_at-demand.ensures
-    c.word_at-tail.ensures c.minus-rest.ensures c.put_word.ensures c.put_word-2.ensures c.positive_after-after.ensures
+    carry_made _ _ _ _ _ _ _ _ c.at_or-place.ensures _ _ _ _ _ _ _ c.if-place-frame.false c.at_or-flow.ensures c.at_or-demand.ensures
+    c.at_or-tail.ensures c.minus-rest.ensures c.put.ensures c.put-2.ensures c.positive_after-after.ensures
     c.requires.flows_len c.requires.positive_set c.requires.flows_value

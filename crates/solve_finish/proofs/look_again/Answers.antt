@@ -25,7 +25,7 @@ loop-e-preserved c =
     let inv = c.loop-e.invariant in
     let has = lowest_in_lem _ _ c.lowest-e.ensures inv.fits (sym c.is_empty.ensures ∙ c.loop-e-test.true) in
     rw (c.drop-rest.ensures, c.and-small.ensures, c.with-after.ensures, c.drop-others.ensures)
-    (look_one _ _ _ _ _ _ has c.word_at-f.ensures inv)
+    (look_one _ _ _ _ _ _ has c.at_or-f.ensures inv)
 
 pub returns : goal.returns
 returns c =

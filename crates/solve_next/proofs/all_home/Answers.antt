@@ -11,19 +11,19 @@ pub loop-i-init : goal.loop-i-init
 unfolding all_home_in
 loop-i-init c = rw sub-zero
 
-pub word_at-requires : goal.word_at-requires
-word_at-requires c = tt
+pub at_or-requires : goal.at_or-requires
+at_or-requires c = tt
 
-pub returns-then-word_at-source : goal.returns-then-word_at-source
+pub returns-then-at_or-source : goal.returns-then-at_or-source
 unfolding is_home_in
-returns-then-word_at-source c =
-    let away = ne_eqb _ _ (λ q. c.if-word_at-source.true (c.word_at.ensures ∙ q)) in
+returns-then-at_or-source c =
+    let away = ne_eqb _ _ (λ q. c.if-at_or-source.true (c.at_or.ensures ∙ q)) in
     all_miss _ _ _ c.loop-i-test.true away ∙ c.loop-i.invariant
 
 pub loop-i-preserved : goal.loop-i-preserved
 unfolding is_home_in
 loop-i-preserved c =
-    let home = eq-eqb _ _ (sym c.word_at.ensures ∙ c.if-word_at-source.false) in
+    let home = eq-eqb _ _ (sym c.at_or.ensures ∙ c.if-at_or-source.false) in
     all_hit _ _ _ c.loop-i-test.true home ∙ c.loop-i.invariant
 
 pub returns : goal.returns

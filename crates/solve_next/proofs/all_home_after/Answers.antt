@@ -22,7 +22,7 @@ one_away terminals source places i low out = go (known (all_home_in terminals so
 pub returns-then-and : goal.returns-then-and
 returns-then-and c =
     let both = sym c.and.ensures ∙ c.if-and.true in
-    one_away _ _ _ _ (ltb-true _ _ (both_left _ _ both)) (λ q. eqb-false _ _ (not-true _ (both_right _ _ both)) (c.word_at-place.ensures ∙ q))
+    one_away _ _ _ _ (ltb-true _ _ (both_left _ _ both)) (λ q. eqb-false _ _ (not-true _ (both_right _ _ both)) (c.at_or-place.ensures ∙ q))
 
 pub returns : goal.returns
 returns c = c.all_home.ensures

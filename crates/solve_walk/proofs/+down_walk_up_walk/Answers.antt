@@ -53,14 +53,14 @@ down_walk-down_walk-requires t c =
     let longer = c.with_step-longer.ensures in
     let room = room_on _ _ c.requires.left_bound _ some longer.count_value in
     let met = seen_more _ _ _ _ _ _ (down c.fall-e.result) longer.result_value c.meet-met.ensures c.requires.seen in
-    let small : c.word_at-next.result < max_vertices = rw c.word_at-next.ensures (c.requires.charted.headed _) in
+    let small : c.at_or-next.result < max_vertices = rw c.at_or-next.ensures (c.requires.charted.headed _) in
     (omega (arith, some, c.decreases), (room, (c.requires.charted, (met, small))))
 
 pub down_walk-returns-then-e-flows : goal.down_walk-returns-then-e-flows
 down_walk-returns-then-e-flows t c =
     down_falls _ _ _ _ _ _ _ _ _ (λ w. StopsWith w c.down_walk.result) (c.requires.seen _ c.requires.v_lt_max_vertices) (stop_is _ _ _ _ _ c.has.ensures c.or.ensures) c.if-or.false _ _ _
     (down_fell t (goal.at.down_walk-returns-then-e-flows t c).After-fall-e) c.if-e-flows.true
-    c.with_step-longer.ensures.result_value c.word_at-next.ensures c.down_walk.ensures
+    c.with_step-longer.ensures.result_value c.at_or-next.ensures c.down_walk.ensures
 
 pub down_walk-with_step-longer-requires-2-clause-count_lt_max_vertices : goal.down_walk-with_step-longer-requires-2-clause-count_lt_max_vertices
 down_walk-with_step-longer-requires-2-clause-count_lt_max_vertices t c =
@@ -80,7 +80,7 @@ down_walk-up_walk-requires t c =
     let longer = c.with_step-longer-2.ensures in
     let room = room_on _ _ c.requires.left_bound _ some longer.count_value in
     let met = seen_more _ _ _ _ _ _ (up c.climb-c.result) longer.result_value c.meet-met-2.ensures c.requires.seen in
-    let small : c.word_at-next-2.result < max_vertices = rw c.word_at-next-2.ensures (c.requires.charted.tailed _) in
+    let small : c.at_or-next-2.result < max_vertices = rw c.at_or-next-2.ensures (c.requires.charted.tailed _) in
     (omega (arith, some, c.decreases), (room, (c.requires.charted, (met, small))))
 
 pub down_walk-returns : goal.down_walk-returns
@@ -88,7 +88,7 @@ down_walk-returns t c =
     let at = goal.at.down_walk-returns t c in
     down_climbs _ _ _ _ _ _ _ _ _ (λ w. StopsWith w c.up_walk.result) (c.requires.seen _ c.requires.v_lt_max_vertices) (stop_is _ _ _ _ _ c.has.ensures c.or.ensures) c.if-or.false _ _ _ _
     (down_fell t at.After-fall-e) c.if-e-flows.false (down_climbed t at.After-climb-c)
-    c.with_step-longer-2.ensures.result_value c.word_at-next-2.ensures c.up_walk.ensures
+    c.with_step-longer-2.ensures.result_value c.at_or-next-2.ensures c.up_walk.ensures
 
 -- ---- the walk came up
 
@@ -130,7 +130,7 @@ up_walk-down_walk-requires t c =
     let longer = c.with_step-longer.ensures in
     let room = room_on _ _ c.requires.left_bound _ some longer.count_value in
     let met = seen_more _ _ _ _ _ _ (down c.fall-e.result) longer.result_value c.meet-met.ensures c.requires.seen in
-    let small : c.word_at-next.result < max_vertices = rw c.word_at-next.ensures (c.requires.charted.headed _) in
+    let small : c.at_or-next.result < max_vertices = rw c.at_or-next.ensures (c.requires.charted.headed _) in
     (omega (arith, some, c.decreases), (room, (c.requires.charted, (met, small))))
 
 pub up_walk-returns-then-parts : goal.up_walk-returns-then-parts
@@ -138,7 +138,7 @@ up_walk-returns-then-parts t c =
     let at = goal.at.up_walk-returns-then-parts t c in
     up_falls _ _ _ _ _ _ _ _ _ (λ w. StopsWith w c.down_walk.result) (c.requires.seen _ c.requires.v_lt_max_vertices) (stop_is _ _ _ _ _ c.has.ensures c.or.ensures) c.if-or.false _ _ _
     (sym (up_parted t at.After-parts) ∙ c.if-parts.true) (up_fell t at.After-fall-e)
-    c.with_step-longer.ensures.result_value c.word_at-next.ensures c.down_walk.ensures
+    c.with_step-longer.ensures.result_value c.at_or-next.ensures c.down_walk.ensures
 
 pub up_walk-with_step-longer-requires-2-clause-count_lt_max_vertices : goal.up_walk-with_step-longer-requires-2-clause-count_lt_max_vertices
 up_walk-with_step-longer-requires-2-clause-count_lt_max_vertices t c =
@@ -158,7 +158,7 @@ up_walk-up_walk-requires t c =
     let longer = c.with_step-longer-2.ensures in
     let room = room_on _ _ c.requires.left_bound _ some longer.count_value in
     let met = seen_more _ _ _ _ _ _ (up c.climb-c.result) longer.result_value c.meet-met-2.ensures c.requires.seen in
-    let small : c.word_at-next-2.result < max_vertices = rw c.word_at-next-2.ensures (c.requires.charted.tailed _) in
+    let small : c.at_or-next-2.result < max_vertices = rw c.at_or-next-2.ensures (c.requires.charted.tailed _) in
     (omega (arith, some, c.decreases), (room, (c.requires.charted, (met, small))))
 
 pub up_walk-returns : goal.up_walk-returns
@@ -166,4 +166,4 @@ up_walk-returns t c =
     let at = goal.at.up_walk-returns t c in
     up_climbs _ _ _ _ _ _ _ _ _ (λ w. StopsWith w c.up_walk.result) (c.requires.seen _ c.requires.v_lt_max_vertices) (stop_is _ _ _ _ _ c.has.ensures c.or.ensures) c.if-or.false _ _ _
     (sym (up_parted t at.After-parts) ∙ c.if-parts.false) (up_climbed t at.After-climb-c)
-    c.with_step-longer-2.ensures.result_value c.word_at-next-2.ensures c.up_walk.ensures
+    c.with_step-longer-2.ensures.result_value c.at_or-next-2.ensures c.up_walk.ensures

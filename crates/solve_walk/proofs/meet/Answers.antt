@@ -4,4 +4,4 @@ use Rattle.solve_walk.proofs.meet.Goals as goal
 
 pub returns : goal.returns
 unfolding pick
-returns c = rw (c.with.ensures, c.word_at-v.ensures)
+returns c = rw (c.with.ensures, c.at_or-v.ensures)

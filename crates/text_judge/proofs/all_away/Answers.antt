@@ -8,13 +8,13 @@ use Rattle.text_judge.proofs.all_away.Goals as goal
 pub loop-j-init : goal.loop-j-init
 loop-j-init c = rw sub-zero
 
-pub returns-then-word_at-source : goal.returns-then-word_at-source
-returns-then-word_at-source c =
-    all_miss _ _ _ c.loop-j-test.true (same_not _ _ (sym c.word_at.ensures ∙ c.if-word_at-source.true)) ∙ c.loop-j.invariant
+pub returns-then-at_or-source : goal.returns-then-at_or-source
+returns-then-at_or-source c =
+    all_miss _ _ _ c.loop-j-test.true (same_not _ _ (sym c.at_or.ensures ∙ c.if-at_or-source.true)) ∙ c.loop-j.invariant
 
 pub loop-j-preserved : goal.loop-j-preserved
 loop-j-preserved c =
-    all_hit _ _ _ c.loop-j-test.true (other_not _ _ (λ e. c.if-word_at-source.false (c.word_at.ensures ∙ e))) ∙ c.loop-j.invariant
+    all_hit _ _ _ c.loop-j-test.true (other_not _ _ (λ e. c.if-at_or-source.false (c.at_or.ensures ∙ e))) ∙ c.loop-j.invariant
 
 pub returns : goal.returns
 returns c = all_end _ _ _ c.loop-j-test.false ∙ c.loop-j.invariant

@@ -8,21 +8,21 @@ use Rattle.text_judge.proofs.all_differ.Goals as goal
 pub loop-i-init : goal.loop-i-init
 loop-i-init c = rw sub-zero
 
-pub returns-then-word_at : goal.returns-then-word_at
-returns-then-word_at c =
-    let at_word_at2 = c.word_at-in-loop-i in
-    let at_word_at = c.word_at in
+pub returns-then-at_or : goal.returns-then-at_or
+returns-then-at_or c =
+    let at_word_at2 = c.at_or-in-loop-i in
+    let at_word_at = c.at_or in
     let at_loop_test = c.loop-i-test in
     let at_loop = c.loop-i in
-    all_miss _ _ _ at_loop_test.true (same_not _ _ (sym at_word_at.ensures ∙ c.if-word_at.true ∙ at_word_at2.ensures)) ∙ at_loop.invariant
+    all_miss _ _ _ at_loop_test.true (same_not _ _ (sym at_word_at.ensures ∙ c.if-at_or.true ∙ at_word_at2.ensures)) ∙ at_loop.invariant
 
 pub loop-i-preserved : goal.loop-i-preserved
 loop-i-preserved c =
-    let at_word_at2 = c.word_at-in-loop-i in
-    let at_word_at = c.word_at in
+    let at_word_at2 = c.at_or-in-loop-i in
+    let at_word_at = c.at_or in
     let at_loop_test = c.loop-i-test in
     let at_loop = c.loop-i in
-    all_hit _ _ _ at_loop_test.true (other_not _ _ (λ e. c.if-word_at.false (at_word_at.ensures ∙ e ∙ sym at_word_at2.ensures))) ∙ at_loop.invariant
+    all_hit _ _ _ at_loop_test.true (other_not _ _ (λ e. c.if-at_or.false (at_word_at.ensures ∙ e ∙ sym at_word_at2.ensures))) ∙ at_loop.invariant
 
 pub returns : goal.returns
 returns c = all_end _ _ _ c.loop-i-test.false ∙ c.loop-i.invariant

@@ -26,7 +26,7 @@ returns-then-holds c =
     let at_read_number = c.read_number-found in
     let at_if1 = c.if-s-n in
     let at_index_of = c.index_of-n in record {
-      s_value = field_in _ _ _ _ at_index_of.ensures at_if1.false _ (sym at_read_number.ensures ∙ c.in-Value.is)
+      s_value = field_in _ _ _ _ at_index_of.ensures at_if1.false _ (sym at_read_number.ensures ∙ c.in-Some.is)
           (sym at_holds.ensures ∙ c.if-holds.true);
       used_in_bounds = omega arith;
       value = λ some. absurd (some refl);
@@ -39,19 +39,19 @@ returns-else-holds c =
     let at_read_number = c.read_number-found in
     let at_if1 = c.if-s-n in
     let at_index_of = c.index_of-n in record {
-      s_value = field_out _ _ _ _ at_index_of.ensures at_if1.false _ (sym at_read_number.ensures ∙ c.in-Value.is)
+      s_value = field_out _ _ _ _ at_index_of.ensures at_if1.false _ (sym at_read_number.ensures ∙ c.in-Some.is)
           (sym at_holds.ensures ∙ c.if-holds.false);
       used_in_bounds = omega arith;
       value = λ some. refl;
     }
 
-pub returns-in-Malformed : goal.returns-in-Malformed
+pub returns-in-None : goal.returns-in-None
 unfolding answer_read pick
-returns-in-Malformed c =
+returns-in-None c =
     let at_read_number = c.read_number-found in
     let at_if1 = c.if-s-n in
     let at_index_of = c.index_of-n in record {
-      s_value = field_malformed _ _ _ _ at_index_of.ensures at_if1.false (sym at_read_number.ensures ∙ c.in-Malformed.is);
+      s_value = field_malformed _ _ _ _ at_index_of.ensures at_if1.false (sym at_read_number.ensures ∙ c.in-None.is);
       used_in_bounds = omega arith;
       value = λ some. refl;
     }

@@ -11,47 +11,47 @@ use Rattle.text.specs.declared.Line.{Line}
 use Rattle.text_lines.proofs.Reading.{line_end, line_step, line_step_stop, rest_used, then_got, answer_read_got, answer_read_refused, line-letter, line_comma, line-opened, two_bytes, refused_used, refused_rest}
 use Rattle.text_lines.proofs.line.Goals as goal
 
-pub byte_at-requires : goal.byte_at-requires
-byte_at-requires c = tt
+pub at_or-requires : goal.at_or-requires
+at_or-requires c = tt
 
 pub refused_line-requires : goal.refused_line-requires
 refused_line-requires c = tt
 
-pub returns-then-byte_at-letter : goal.returns-then-byte_at-letter
-returns-then-byte_at-letter c =
-    let at_if1 = c.if-byte_at-letter in
-    let at_byte_at = c.byte_at in record {
+pub returns-then-at_or-letter : goal.returns-then-at_or-letter
+returns-then-at_or-letter c =
+    let at_if1 = c.if-at_or-letter in
+    let at_byte_at = c.at_or in record {
       s_value = answer_read_refused _ _ _ _ 1 (ap (λ (l : Line). l.answer) c.refused_line.ensures) (λ e. omega arith)
           ∙ sym (line-letter _ _ _ (λ e. at_if1.true (at_byte_at.ensures ∙ e)));
       used_in_bounds = refused_used c.refused_line.ensures;
       line_rest = refused_rest c.refused_line.ensures;
     }
 
-pub byte_at-requires-2 : goal.byte_at-requires-2
-byte_at-requires-2 c = tt
+pub at_or-requires-2 : goal.at_or-requires-2
+at_or-requires-2 c = tt
 
-pub refused_line-requires-then-byte_at-ne44 : goal.refused_line-requires-then-byte_at-ne44
-refused_line-requires-then-byte_at-ne44 c = tt
+pub refused_line-requires-then-at_or-ne44 : goal.refused_line-requires-then-at_or-ne44
+refused_line-requires-then-at_or-ne44 c = tt
 
-pub returns-then-byte_at-ne44 : goal.returns-then-byte_at-ne44
-returns-then-byte_at-ne44 c =
-    let at_if2 = c.if-byte_at-ne44 in
-    let at_byte_at2 = c.byte_at-2 in
-    let at_if1 = c.if-byte_at-letter in
-    let at_byte_at = c.byte_at in record {
-      s_value = answer_read_refused _ _ _ _ 1 (ap (λ (l : Line). l.answer) c.refused_line-then-byte_at-ne44.ensures) (λ e. omega arith)
+pub returns-then-at_or-ne44 : goal.returns-then-at_or-ne44
+returns-then-at_or-ne44 c =
+    let at_if2 = c.if-at_or-ne44 in
+    let at_byte_at2 = c.at_or-2 in
+    let at_if1 = c.if-at_or-letter in
+    let at_byte_at = c.at_or in record {
+      s_value = answer_read_refused _ _ _ _ 1 (ap (λ (l : Line). l.answer) c.refused_line-then-at_or-ne44.ensures) (λ e. omega arith)
           ∙ sym (line_comma _ _ _ (sym at_byte_at.ensures ∙ at_if1.false) (λ e. at_if2.true (at_byte_at2.ensures ∙ e)));
-      used_in_bounds = refused_used c.refused_line-then-byte_at-ne44.ensures;
-      line_rest = refused_rest c.refused_line-then-byte_at-ne44.ensures;
+      used_in_bounds = refused_used c.refused_line-then-at_or-ne44.ensures;
+      line_rest = refused_rest c.refused_line-then-at_or-ne44.ensures;
     }
 
 pub loop-i-init : goal.loop-i-init
 loop-i-init c =
-    let at_byte_at2 = c.byte_at-2 in
-    let at_if1 = c.if-byte_at-letter in
-    let at_byte_at = c.byte_at in
+    let at_byte_at2 = c.at_or-2 in
+    let at_if1 = c.if-at_or-letter in
+    let at_byte_at = c.at_or in
     let at_args = c.args in
-    let comma = sym at_byte_at2.ensures ∙ c.if-byte_at-ne44.false in (
+    let comma = sym at_byte_at2.ensures ∙ c.if-at_or-ne44.false in (
       omega arith,
       omega arith,
       two_bytes at_args.s.now comma,

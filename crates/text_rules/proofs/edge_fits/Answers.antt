@@ -4,4 +4,4 @@ use Rattle.text_rules.proofs.edge_fits.Goals as goal
 
 pub returns : goal.returns
 returns c =
-    c.edge_numbers_fit.ensures ∙ rw (c.word_at-flow.ensures, c.word_at-head.ensures, c.word_at-tail.ensures)
+    c.edge_numbers_fit.ensures ∙ rw (c.at_or-flow.ensures, c.at_or-head.ensures, c.at_or-tail.ensures)

@@ -4,4 +4,4 @@ use Rattle.text_rules.proofs.terminal_fits.Goals as goal
 
 pub returns : goal.returns
 returns c =
-    c.terminal_numbers_fit.ensures ∙ rw (c.word_at-demand.ensures, c.word_at-home.ensures)
+    c.terminal_numbers_fit.ensures ∙ rw (c.at_or-demand.ensures, c.at_or-home.ensures)

@@ -6,11 +6,11 @@ use lib.Seq.{length-sets}
 use Rattle.text_writer.proofs.Writing.{line-begun, line-length, line_turned, line_done}
 use Rattle.text_writer.proofs.put_line.Goals as goal
 
-pub put_byte-requires : goal.put_byte-requires
-put_byte-requires c = tt
+pub put-requires : goal.put-requires
+put-requires c = tt
 
-pub put_byte-requires-2 : goal.put_byte-requires-2
-put_byte-requires-2 c = tt
+pub put-requires-2 : goal.put-requires-2
+put-requires-2 c = tt
 
 pub loop-i-init : goal.loop-i-init
 loop-i-init c = (omega arith, omega arith, record { size = refl; gives = refl })
@@ -18,12 +18,12 @@ loop-i-init c = (omega arith, omega arith, record { size = refl; gives = refl })
 pub end_byte-requires : goal.end_byte-requires
 end_byte-requires c = tt
 
-pub put_byte-requires-in-loop-i : goal.put_byte-requires-in-loop-i
-put_byte-requires-in-loop-i c = tt
+pub put-requires-in-loop-i : goal.put-requires-in-loop-i
+put-requires-in-loop-i c = tt
 
 pub loop-i-preserved : goal.loop-i-preserved
 loop-i-preserved c =
-    let at_put_byte3 = c.put_byte-in-loop-i in
+    let at_put_byte3 = c.put-in-loop-i in
     let at_end_byte = c.end_byte in
     let at_write_number = c.write_number-end in
     let at_loop_test = c.loop-i-test in
@@ -36,8 +36,8 @@ loop-i-preserved c =
 
 pub shape_of-buf : goal.shape_of-buf
 shape_of-buf c =
-    let at_put_byte2 = c.put_byte-2 in
-    let at_put_byte = c.put_byte in
+    let at_put_byte2 = c.put-2 in
+    let at_put_byte = c.put in
     let at_args = c.args in
     ap length
     ((line_done at_args.values.now _ c.loop-i-test.false c.loop-i.invariant.2).1
@@ -46,8 +46,8 @@ shape_of-buf c =
 
 pub returns : goal.returns
 returns c =
-    let at_put_byte2 = c.put_byte-2 in
-    let at_put_byte = c.put_byte in
+    let at_put_byte2 = c.put-2 in
+    let at_put_byte = c.put in
     let at_args = c.args in
     let d = line_done at_args.values.now _ c.loop-i-test.false c.loop-i.invariant.2 in record {
       value = d.0 ∙ line-length _ _ _;

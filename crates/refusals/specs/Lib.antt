@@ -1,0 +1,2 @@
+-- Refusals: their numbers.
+pub mod Refusals
