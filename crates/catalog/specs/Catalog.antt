@@ -3,7 +3,7 @@ use Rattle.std.specs.Prelude.{Bool, List, ◌++◌, ℕ, zero, suc, ◌+◌, ◌
 use Rattle.lists.specs.Choice.{pick, both, unless, when}
 use Rattle.text.specs.Text.{line_text, lines_text}
 use Rattle.text.specs.Results.{read_text}
-use Rattle.text.specs.declared.Written.{Written}
+use Rattle.text.specs.Results.{Written}
 use Rattle.catalog.specs.Table.{table}
 
 -- "Forty boards", numbered from 0

@@ -17,7 +17,7 @@ use Rattle.graph_flows.specs.Trails.{Step}
 use Rattle.text_rules.specs.Rules.{lawful}
 use Rattle.text_rules.proofs.Meaning.{lawful_tested}
 use Rattle.text.specs.Results.{writable, write_text, written, write_text_in, written_in}
-use Rattle.text.specs.declared.Written.{Written}
+use Rattle.text.specs.Results.{Written}
 use Rattle.load.specs.Load.{load_text}
 use Rattle.load.proofs.Loads.{load_refused}
 use Rattle.move_guard.specs.Guard.{intact, loaded, playing}

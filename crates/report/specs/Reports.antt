@@ -5,7 +5,7 @@ use Rattle.lists.specs.Choice.{pick, both, unless}
 use Rattle.board.specs.Record.{finished_stage}
 use Rattle.board.specs.Whole.{Board}
 use Rattle.text.specs.Text.{line_text, lines_text}
-use Rattle.text.specs.declared.Written.{Written}
+use Rattle.text.specs.Results.{Written}
 use Rattle.move_guard.specs.Parts.{acyclic_flow}
 use Rattle.move_guard.specs.Guard.{loaded}
 use Rattle.report_routes.specs.Routes.{route, load}

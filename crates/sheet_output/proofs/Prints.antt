@@ -17,7 +17,7 @@ use Rattle.board.specs.declared.Network.{Network}
 use Rattle.text.specs.Text.{Read, refused, got, then, header, headed, numbers_text}
 use Rattle.text.specs.Views.{part_read, header_part}
 use Rattle.text.specs.declared.Part.{Part}
-use Rattle.text.specs.declared.Written.{Written}
+use Rattle.text.specs.Results.{Written}
 use Rattle.text_lines.proofs.Reading.{answer_read_got, answer_read_refused}
 use Rattle.text_writer.proofs.Writing.{sets_append}
 use Rattle.sheet_output.specs.Inputs.{lines_of, lines_wanted}

@@ -1,5 +1,5 @@
 -- What the calls answer.
-use Rattle.std.specs.Prelude.{Bool, List, ◌++◌, ℕ, leb, eqb, length, drop}
+use Rattle.std.specs.Prelude.{Bool, Result, Ok, Err, List, ◌++◌, ℕ, leb, eqb, length, drop}
 use Rattle.lists.specs.Choice.{pick, both, unless}
 use Rattle.board.specs.Record.{empty_network, staged}
 use Rattle.text.specs.Text.{Read, refused, got, layout, text_of}
@@ -7,7 +7,8 @@ use Rattle.text_rules.specs.Rules.{judged, lawful}
 use Rattle.board.specs.declared.Network.{Network}
 use Rattle.text.specs.declared.Reading.{Reading}
 use Rattle.board.specs.Whole.{Board}
-use Rattle.text.specs.declared.Written.{Written}
+use Rattle.refusals.specs.declared.Refusal.{Refusal}
+use Rattle.refusals.specs.Refusals.{number}
 
 -- a refusal, with no network
 abbrev pub refusal : ℕ → Reading
@@ -31,9 +32,19 @@ read_text s = reading_of (layout s)
 unfoldable pub writable : ℕ → Network → Bool
 writable stage net = both (staged stage) (lawful net)
 
+-- what writing gives: 0 and the length of the text, or the number it is refused with and 0
+pub record Written : Type 0 where
+  pub answer : ℕ
+  pub used : ℕ
+
 -- a text that is refused, of which nothing is written
 abbrev pub unwritten : ℕ → Written
 unwritten n = record { answer = n; used = 0 }
+
+-- what the code gives: the length of the text, or why it is refused
+abbrev pub as_written : Result ℕ Refusal → Written
+as_written (Ok n) = record { answer = 0; used = n }
+as_written (Err r) = unwritten (number r)
 
 -- writing into a buffer of n bytes: 29 where no board was loaded, then 8, else 0 and the length of the text; by the stage and the network
 unfoldable pub write_text_in : ℕ → Network → ℕ → Written

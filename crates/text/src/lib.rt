@@ -4,7 +4,7 @@
 ghost use Rattle.std.specs.Prelude.{◌≡◌, ◌<◌, leb, ltb};
 ghost use Rattle.lists.specs.Choice.{pick, both};
 ghost use Rattle.text.specs.Text.{vertex_below};
-ghost use Rattle.text.specs.Results.{refusal, unwritten};
+ghost use Rattle.text.specs.Results.{refusal};
 ghost use Rattle.text.specs.Views.{refused_part};
 
 use board::Network;
@@ -47,13 +47,6 @@ pub struct Part {
     pub used: usize,
 }
 
-// What writing gives: 0 and the length of the text, or the number it is refused with and 0.
-#[derive(Clone, Copy)]
-pub struct Written {
-    pub answer: u32,
-    pub used: usize,
-}
-
 impl Range {
     pub fn holds(self, n: u32) -> bool
         ensures { result ≡ both (leb self.low n) (leb n self.high) }
@@ -81,17 +74,6 @@ impl Part {
         Part {
             answer: answer,
             network: network,
-            used: 0,
-        }
-    }
-}
-
-impl Written {
-    pub fn refused(answer: u32) -> Written
-        ensures { result ≡ unwritten answer }
-    {
-        Written {
-            answer: answer,
             used: 0,
         }
     }

@@ -1,6 +1,6 @@
 -- What the call ensures.
 use mathlib.Core.Path.{ap}
-use Rattle.text.specs.declared.Written.{Written}
+use Rattle.text.specs.Results.{Written}
 use Rattle.boundary.proofs.vulprow_parts_catalog.Goals as goal
 
 pub returns : goal.returns

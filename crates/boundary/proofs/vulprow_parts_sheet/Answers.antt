@@ -2,7 +2,7 @@
 use mathlib.Core.Path.{ap, ◌∙◌}
 use lib.ListN.{length}
 use Rattle.board.specs.Whole.{Board}
-use Rattle.text.specs.declared.Written.{Written}
+use Rattle.text.specs.Results.{Written}
 use Rattle.report.specs.Reports.{sheet_call, sheeted}
 use Rattle.boundary.proofs.vulprow_parts_sheet.Goals as goal
 

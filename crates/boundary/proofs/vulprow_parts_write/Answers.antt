@@ -2,7 +2,7 @@
 use mathlib.Core.Path.{ap, ◌∙◌}
 use lib.ListN.{length}
 use Rattle.board.specs.Whole.{Board}
-use Rattle.text.specs.declared.Written.{Written}
+use Rattle.text.specs.Results.{Written}
 use Rattle.text.specs.Results.{write_text, written}
 use Rattle.boundary.proofs.vulprow_parts_write.Goals as goal
 
