@@ -92,6 +92,7 @@ impl Reading {
 }
 
 // What ends a field with `left` fields behind it on its line.
+#[tactic(auto, unfolding(lists::specs::Choice::pick))]
 pub fn end_byte(left: usize) -> u8
     ensures { result ≡ pick (ltb 0 left) 44 10 }
 {
