@@ -1,6 +1,8 @@
 -- The journal as words, and the board that a table and its words stand for.
-use Rattle.std.specs.Prelude.{List, [], ◌∷◌, map, ℕ, zero, suc, ◌+◌, ◌-◌, ◌%◌, eqb, get_or, set, replicate}
+use Rattle.std.specs.Prelude.{List, [], ◌∷◌, map, Result, Ok, Err, ℕ, zero, suc, ◌+◌, ◌-◌, ◌%◌, eqb, get_or, set, replicate}
 use Rattle.lists.specs.Choice.{pick}
+use Rattle.refusals.specs.declared.Refusal.{Refusal}
+use Rattle.refusals.specs.Refusals.{number}
 use Rattle.sets.specs.Sets.{set_of}
 use Rattle.board.specs.Limits.{max_moves}
 use Rattle.board.specs.Record.{blank}
@@ -59,9 +61,14 @@ whole_of t words = record {
   finish_from = t.finish_from;
 }
 
--- what a call gave, as a number and a board
-abbrev pub given_of : Done → List (List ℕ) → Played
-given_of d words = record { answer = d.answer; board = whole_of d.board words }
+-- what a call on a board gave, as a number and a board: the table after it, or a refusal, where the table is as it was
+abbrev pub given_of : Table → Result Table Refusal → List (List ℕ) → Played
+given_of old (Ok b) words = record { answer = 0; board = whole_of b words }
+given_of old (Err r) words = record { answer = number r; board = whole_of old words }
+
+-- the same of a call that gives a number and a table
+abbrev pub done_of : Done → List (List ℕ) → Played
+done_of d words = record { answer = d.answer; board = whole_of d.board words }
 
 -- the words of an empty journal
 abbrev pub no_words : List (List ℕ)

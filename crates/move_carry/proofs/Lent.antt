@@ -1,13 +1,15 @@
--- What a carry with the journal lent gives, by its number: at 0 the board and the words with one more move, else both as they were.
+-- What a carry with the journal lent gives: the board and the words with one more move, or a refusal, where both are as they were.
 use mathlib.Core.Path.{◌≡◌, refl, sym, ap, ◌∙◌}
 use mathlib.Core.Bool.{Bool, true}
 use mathlib.Core.List.{List, []}
-use mathlib.Core.Logic.{◌≢◌}
 use Prim.Native.Nat.{ℕ, ◌+◌, ◌<◌, ◌≤◌}
 use native.Mathlib.Omega.{arith}
 use lib.ListN.{set}
 use borrow.Author.Tests.{ltb-true}
 use Rattle.lists.proofs.Laws.{pick_passed, both_left, both_right}
+use Rattle.refusals.specs.declared.Refusal.{Refusal}
+use Rattle.refusals.specs.Refusals.{number}
+use Rattle.refusals.proofs.Laws.{refused}
 use Rattle.board.specs.Limits.{max_edges, max_terminals, max_moves}
 use Rattle.board.specs.Whole.{Board}
 use Rattle.board.specs.Whole.{Played}
@@ -57,27 +59,27 @@ module _ (t : Table) (w : List (List ℕ)) (i e : ℕ) where
     pub room_move : t.moves ≤ max_moves
     room_move = playing_moves b plays
 
-  module _ (number : ℕ) (en : number ≡ carry_refusal b i e) where
-    -- one more move: the parts that the code stores
-    module _ (change : Change) (words : List (List ℕ)) where
-      pub lent_accepted : number ≡ 0 → change ≡ carried_in t.network t.flows t.marks t.places i e
-          → words ≡ set w t.moves (packed (carry_entry i e)) → entries_of words ≡ set (entries_of w) t.moves (carry_entry i e)
-          → (record { answer = number; board = with_parts b change.flows t.marks change.places (journal_of (t.moves + 1) words) (t.moves + 1) } ≡ carry_call b i e)
-          × (words ≡ words_after t.moves (carry_call b i e).board w)
-      unfolding carry_call carried_in
-      lent_accepted h ec hw he =
-          let yes : Change = carried_in t.network t.flows t.marks t.places i e in
-          let call : changed b yes ≡ carry_call b i e = answered_yes 0 b _ refl ∙ sym (answered_yes (carry_refusal b i e) b _ (sym en ∙ h)) in
-          let js : journal_of (t.moves + 1) words ≡ set b.journal t.moves (carry_entry i e) =
-          ap (standing (t.moves + 1)) he ∙ sym (add_standing t.moves (t.moves + 1) (entries_of w) (carry_entry i e) (omega arith)) in (
-            rw (h, ec, js) (change_stored b yes refl ∙ call),
-            hw ∙ words_stored b yes w (whole_long t w) refl ∙ ap (λ (q : Played). words_after t.moves q.board w) call,
-          )
+  -- one more move: the parts that the code stores
+  module _ (change : Change) (words : List (List ℕ)) where
+    pub lent_accepted : carry_refusal b i e ≡ 0 → change ≡ carried_in t.network t.flows t.marks t.places i e
+        → words ≡ set w t.moves (packed (carry_entry i e)) → entries_of words ≡ set (entries_of w) t.moves (carry_entry i e)
+        → (record { answer = 0; board = with_parts b change.flows t.marks change.places (journal_of (t.moves + 1) words) (t.moves + 1) } ≡ carry_call b i e)
+        × (words ≡ words_after t.moves (carry_call b i e).board w)
+    unfolding carry_call carried_in
+    lent_accepted h ec hw he =
+        let yes : Change = carried_in t.network t.flows t.marks t.places i e in
+        let call : changed b yes ≡ carry_call b i e = answered_yes 0 b _ refl ∙ sym (answered_yes (carry_refusal b i e) b _ h) in
+        let js : journal_of (t.moves + 1) words ≡ set b.journal t.moves (carry_entry i e) =
+        ap (standing (t.moves + 1)) he ∙ sym (add_standing t.moves (t.moves + 1) (entries_of w) (carry_entry i e) (omega arith)) in (
+          rw (ec, js) (change_stored b yes refl ∙ call),
+          hw ∙ words_stored b yes w (whole_long t w) refl ∙ ap (λ (q : Played). words_after t.moves q.board w) call,
+        )
 
-    -- none
-    pub lent_refused : number ≢ 0 → (record { answer = number; board = b } ≡ carry_call b i e) × (w ≡ words_after t.moves (carry_call b i e).board w)
-    unfolding carry_call
-    lent_refused h =
-        let no : Change = unchanged number t.flows t.marks t.places in
-        let call : changed b no ≡ carry_call b i e = answered_no number b _ h ∙ rw en (sym (answered_no (carry_refusal b i e) b _ (λ z. h (en ∙ z)))) in
-        (change_refused b no h ∙ call, words_kept b no w h ∙ ap (λ (q : Played). words_after t.moves q.board w) call)
+  -- a refusal, where both are as they were
+  pub lent_refused : (r : Refusal) → carry_refusal b i e ≡ number r
+      → (record { answer = number r; board = b } ≡ carry_call b i e) × (w ≡ words_after t.moves (carry_call b i e).board w)
+  unfolding carry_call
+  lent_refused r is =
+      let no : Change = unchanged (number r) t.flows t.marks t.places in
+      let call : changed b no ≡ carry_call b i e = answered_no (number r) b _ (refused r) ∙ sym (rw is (answered_no (number r) b _ (refused r))) in
+      (change_refused b no (refused r) ∙ call, words_kept b no w (refused r) ∙ ap (λ (q : Played). words_after t.moves q.board w) call)

@@ -2,6 +2,7 @@
 #![tactic(auto)]
 
 ghost use Rattle.std.specs.Prelude.{◌≡◌, []};
+ghost use Rattle.refusals.specs.Refusals.{answer_of};
 ghost use Rattle.sets.specs.Sets.{set_of};
 ghost use Rattle.board.specs.Whole.{entry_of};
 ghost use Rattle.journal.specs.Words.{whole_of, given_of, words_after};
@@ -9,8 +10,9 @@ ghost use Rattle.move_carry.specs.Opens.{flow_fits};
 ghost use Rattle.move_carry.specs.Carries.{carry_call, carry_refusal_in, carry_entry};
 ghost use Rattle.move_carry.specs.Frames.{net_of};
 
-use board::{Board, Entry, Move, Played, Relocation};
+use board::{Board, Entry, Move, Relocation};
 use journal::WORDS;
+use refusals::Refusal;
 use sets::EdgeSet;
 
 // The numbers that a move goes by, beside the lists of its board: the counts, the source, the marked edges, the
@@ -33,8 +35,9 @@ pub fn flow_fits(mark: bool, flow: u32, demand: u32) -> bool
     if mark { flow == demand } else { demand <= flow }
 }
 
-// 20, 6, 21, 22 or 23, in this order; 0 where the carry is accepted. No carry looks at the set of the positive edges.
-pub fn refusal_in<'a>(
+// Whether a carry is accepted; else it is refused with 20, 6, 21, 22 or 23, in this order. No carry looks at the set of
+// the positive edges.
+pub fn judge_in<'a>(
     in_play: bool,
     frame: Frame,
     heads: &'a [u32],
@@ -43,30 +46,30 @@ pub fn refusal_in<'a>(
     places: &'a [u32],
     i: u32,
     e: u32,
-) -> u32
-    ensures { result ≡ carry_refusal_in in_play (net_of frame [] heads.now demands.now)
+) -> Result<(), Refusal>
+    ensures { answer_of result ≡ carry_refusal_in in_play (net_of frame [] heads.now demands.now)
         flows.now (set_of frame.marks) places.now i e }
 {
     if !in_play {
-        return 20;
+        return Err(Refusal::NotInPlay);
     }
     if !lists::and(i < frame.terminals, e < frame.edges) {
-        return 6;
+        return Err(Refusal::NotOnBoard);
     }
     let place = lists::at_or(places, i as usize, 0);
     if place == frame.source {
-        return 21;
+        return Err(Refusal::AtSource);
     }
     if lists::at_or(heads, e as usize, 0) != place {
-        return 22;
+        return Err(Refusal::NotEntering);
     }
     let mark = sets::has(frame.marks, e as usize);
     let flow = lists::at_or(flows, e as usize, 0);
     let demand = lists::at_or(demands, i as usize, 0);
     if !flow_fits(mark, flow, demand) {
-        return 23;
+        return Err(Refusal::NotOpen);
     }
-    0
+    Ok(())
 }
 
 // The entry of a carry of terminal i over edge e.
@@ -81,14 +84,14 @@ fn entry_of(i: u32, e: u32) -> Entry
     }
 }
 
-// Relocates terminal i over edge e, to its tail.
+// Relocates terminal i over edge e, to its tail. A refused carry leaves the journal as it was.
 pub fn carry(
     mut board: Board,
     journal: &mut [[u64; WORDS]; Board::JOURNAL],
     i: u32,
     e: u32,
-) -> Played
-    ensures journal_after { given_of result journal.new ≡ carry_call (whole_of board journal.old) i e }
+) -> Result<Board, Refusal>
+    ensures journal_after { given_of board result journal.new ≡ carry_call (whole_of board journal.old) i e }
     ensures journal_after_2 { journal.new ≡
         words_after board.moves (carry_call (whole_of board journal.old) i e).board
         journal.old }
@@ -103,7 +106,7 @@ pub fn carry(
         positive: sets::none(),
         resume: 0,
     };
-    let number = refusal_in(
+    judge_in(
         in_play,
         frame,
         &board.network.heads,
@@ -112,22 +115,17 @@ pub fn carry(
         &board.places,
         i,
         e,
-    );
-    if number == 0 {
-        let terminal = i as usize;
-        let edge = e as usize;
-        let flow = lists::at_or(&board.flows, edge, 0);
-        let demand = lists::at_or(&board.network.demands, terminal, 0);
-        let tail = lists::at_or(&board.network.tails, edge, 0);
-        let rest = lists::minus(flow, demand);
-        let m = board.moves;
-        board.flows[edge] = rest;
-        board.places[terminal] = tail;
-        board.moves = m + 1;
-        journal::put_entry(journal, m as usize, entry_of(i, e));
-    }
-    Played {
-        answer: number,
-        board: board,
-    }
+    )?;
+    let terminal = i as usize;
+    let edge = e as usize;
+    let flow = lists::at_or(&board.flows, edge, 0);
+    let demand = lists::at_or(&board.network.demands, terminal, 0);
+    let tail = lists::at_or(&board.network.tails, edge, 0);
+    let rest = lists::minus(flow, demand);
+    let m = board.moves;
+    board.flows[edge] = rest;
+    board.places[terminal] = tail;
+    board.moves = m + 1;
+    journal::put_entry(journal, m as usize, entry_of(i, e));
+    Ok(board)
 }

@@ -1,24 +1,24 @@
 -- The carry is judged by the board's own parts. Where it is accepted, the terminal and the edge are on the board, and what is stored is one more move.
-use mathlib.Core.Path.{◌≡◌, refl, ap, ◌∙◌}
+use mathlib.Core.Path.{◌≡◌, refl, sym, ap, ◌∙◌}
 use mathlib.Core.Bool.{Bool}
 use mathlib.Core.List.{List}
 use Prim.Native.Nat.{ℕ, ◌<◌, ◌≤◌}
 use native.Mathlib.Omega.{arith}
 use lib.ListN.{set}
+use Rattle.refusals.proofs.Laws.{passed_on}
+use Rattle.refusals.specs.Refusals.{answer_of}
 use Rattle.board.specs.Limits.{max_edges, max_terminals, max_moves}
 use Rattle.board.specs.Whole.{Entry, Table}
 use Rattle.journal.specs.Words.{packed, entries_of, whole_of}
 use Rattle.move_carry.specs.Carries.{carry_refusal_in, carry_refusal}
 use Rattle.move_carry.proofs.Makes.{makes_carried}
 use Rattle.move_carry.proofs.Lent.{carry_refusal_bare, room_edge, room_terminal, room_move, lent_accepted, lent_refused}
-use Rattle.move_carry.proofs.carry.Lts as lts
-use Rattle.move_carry.proofs.carry.Tie as tie
-use Rattle.move_carry.proofs.carry.Reads as reads
+use Rattle.move_carry.proofs.carry.Goals.{After-judge_in, In_ok-judge_in, After-minus-rest}
 use Rattle.move_carry.proofs.carry.Goals as goal
 
 -- where the carry is judged: the test before it, the table and the words
 abbrev Judged : Type 0
-Judged = lts.After-refusal_in tie.the-claims reads.Pre reads.Post tie.handed_clauses
+Judged = After-judge_in
 
 abbrev table : Judged → Table
 table c = c.args.board
@@ -26,21 +26,21 @@ table c = c.args.board
 abbrev words : Judged → List (List ℕ)
 words c = c.args.journal.now
 
-judged : (c : Judged) → c.refusal_in-number.result ≡ carry_refusal (whole_of (table c) (words c)) c.args.i c.args.e
+judged : (c : Judged) → answer_of c.judge_in.result ≡ carry_refusal (whole_of (table c) (words c)) c.args.i c.args.e
 judged c =
     let t = table c in
-    c.refusal_in-number.ensures ∙ carry_refusal_bare _ t.network t.flows t.marks c.none.result t.places _ _
+    c.judge_in.ensures ∙ carry_refusal_bare _ t.network t.flows t.marks c.none.result t.places _ _
     ∙ ap (λ (p : Bool). carry_refusal_in p t.network t.flows t.marks t.places c.args.i c.args.e) c.playing-in_play.ensures
 
 -- where it is accepted
 abbrev Stored : Type 0
-Stored = lts.After-minus tie.the-claims reads.Pre reads.Post tie.handed_clauses
+Stored = After-minus-rest
 
-abbrev accepted : Stored → lts.Then1 tie.the-claims reads.Pre reads.Post tie.handed_clauses
+abbrev accepted : Stored → In_ok-judge_in
 accepted c = c.before.before.before.before.before.before.before.before.before.before
 
 none : (c : Stored) → carry_refusal (whole_of c.args.board c.args.journal.now) c.args.i c.args.e ≡ 0
-none c = let q = judged (accepted c).before in let z = c.if-number-eq0.true in omega (arith, q, z)
+none c = sym (judged (accepted c).before.before) ∙ ap answer_of c.in_ok-judge_in.was
 
 edge : (c : Stored) → c.args.e < max_edges
 edge c = room_edge c.args.board c.args.journal.now c.args.i c.args.e (none c)
@@ -69,23 +69,24 @@ overflow_add-board c = omega (arith, room c)
 pub overflow_cast-m : goal.overflow_cast-m
 overflow_cast-m c = omega (arith, room c.before)
 
-pub returns-then-number-eq0 : goal.returns-then-number-eq0
-returns-then-number-eq0 c =
-    let judge = (accepted c.before.before.before).before in
-    let t = table judge in
-    let change = makes_carried t.network t.flows t.marks t.places judge.args.i judge.args.e _ _ _ _ _ _ c.at_or-flow.ensures
-    c.at_or-demand.ensures c.at_or-tail.ensures c.minus-rest.ensures refl refl in
-    let all = lent_accepted t (words judge) judge.args.i judge.args.e _ (judged judge) _ _ c.if-number-eq0.true change
-    (c.put_entry.ensures.journal_after ∙ ap (λ (x : Entry). set (words judge) t.moves (packed x)) c.entry_of.ensures)
-    (c.put_entry.ensures.journal_after_2 ∙ ap (λ (x : Entry). set (entries_of (words judge)) t.moves x) c.entry_of.ensures) in record {
-      journal_after = all.0;
+pub returns-in_err-judge_in : goal.returns-in_err-judge_in
+returns-in_err-judge_in c =
+    let judge = c.before.before.before in
+    let all = lent_refused (table judge) (words judge) c.args.i c.args.e _ (sym (judged judge) ∙ ap answer_of c.in_err-judge_in.was) in record {
+      journal_after = rw (passed_on _ _ c.from_residual.ensures.1) all.0;
       journal_after_2 = all.1;
     }
 
-pub returns-else-number-eq0 : goal.returns-else-number-eq0
-returns-else-number-eq0 c =
-    let judge = c.before in
-    let all = lent_refused (table judge) (words c.before) c.args.i c.args.e _ (judged judge) c.if-number-eq0.false in record {
+pub returns : goal.returns
+returns c =
+    let stored = c.before.before.before in
+    let judge = (accepted stored).before.before in
+    let t = table judge in
+    let change = makes_carried t.network t.flows t.marks t.places judge.args.i judge.args.e _ _ _ _ _ _ c.at_or-flow.ensures
+    c.at_or-demand.ensures c.at_or-tail.ensures c.minus-rest.ensures refl refl in
+    let all = lent_accepted t (words judge) judge.args.i judge.args.e _ _ (none stored) change
+    (c.put_entry.ensures.journal_after ∙ ap (λ (x : Entry). set (words judge) t.moves (packed x)) c.entry_of.ensures)
+    (c.put_entry.ensures.journal_after_2 ∙ ap (λ (x : Entry). set (entries_of (words judge)) t.moves x) c.entry_of.ensures) in record {
       journal_after = all.0;
       journal_after_2 = all.1;
     }

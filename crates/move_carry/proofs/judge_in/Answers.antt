@@ -7,10 +7,10 @@ use Rattle.move_carry.specs.Opens.{fits_in}
 use Rattle.move_carry.specs.Carries.{on_board_in}
 use Rattle.move_carry.specs.Frames.{net_of}
 use Rattle.move_carry.proofs.Refusing.{fits_read, refused_20, refused_6, refused_21, refused_22, refused_23, accepted}
-use Rattle.move_carry.proofs.refusal_in.Lts as lts
-use Rattle.move_carry.proofs.refusal_in.Tie as tie
-use Rattle.move_carry.proofs.refusal_in.Reads as reads
-use Rattle.move_carry.proofs.refusal_in.Goals as goal
+use Rattle.move_carry.proofs.judge_in.Lts as lts
+use Rattle.move_carry.proofs.judge_in.Tie as tie
+use Rattle.move_carry.proofs.judge_in.Reads as reads
+use Rattle.move_carry.proofs.judge_in.Goals as goal
 
 -- the places where a test is passed, each by the one before, and what is known there
 abbrev InPlay : Type 0
