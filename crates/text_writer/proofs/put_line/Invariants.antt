@@ -1,5 +1,5 @@
 -- What is left of the line, written into the buffer as it is now, gives the line written into the first buffer.
-use Prim.Native.Nat.{◌+◌, ◌-◌, ◌≤◌}
+use Prim.Native.Nat.{◌+◌, ◌≤◌}
 use lib.ListN.{length, drop}
 use lib.Seq.{sets}
 use Rattle.text.specs.Sizes.{line_bytes}
@@ -9,8 +9,5 @@ use Rattle.text_writer.proofs.put_line.Given as goal
 
 abbrev pub invariant-loop-i : goal.invariant-loop-i
 invariant-loop-i l =
-    (l.i ≤ length l.values) × (l.to ≤ l.at + line_bytes l.i)
+    (l.to ≤ l.at + line_bytes l.i)
     × TextLeft l.buf (sets l.initial.buf (l.at + 2) (numbers_text l.values)) l.to (l.at + 2 + length (numbers_text l.values)) (numbers_text (drop l.i l.values))
-
-abbrev pub decreases-loop-i : goal.decreases-loop-i
-decreases-loop-i l = length l.values - l.i

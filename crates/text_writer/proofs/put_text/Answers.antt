@@ -4,11 +4,10 @@ use Rattle.text_writer.proofs.put_text.Goals as goal
 
 pub returns : goal.returns
 returns c =
-    let at_put_terminals = c.put_terminals in
-    let at_put_edges = c.put_edges-edges in
-    let at_put_line = c.put_line-head in
-    let all = text_written _ _ _ _ _ _ _ _ at_put_line.ensures.value at_put_line.ensures.buf_after at_put_edges.ensures.value at_put_edges.ensures.buf_after
-    at_put_terminals.ensures.value at_put_terminals.ensures.buf_after in record {
+    let head = c.put_line-head.ensures in
+    let edges = c.put_rows-edges.ensures in
+    let terminals = c.put_rows.ensures in
+    let all = text_written c.args.net _ _ _ _ _ _ _ head.value head.buf_after edges.value edges.buf_after terminals.value terminals.buf_after in record {
       value = all.0;
       buf_after = all.1;
     }

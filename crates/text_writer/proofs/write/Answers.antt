@@ -7,9 +7,9 @@ use Rattle.text_writer.proofs.write.Goals as goal
 
 pub returns-then-not-writable : goal.returns-then-not-writable
 returns-then-not-writable c =
-    let closed = write_closed _ _ _ (sym c.writable.ensures ∙ c.if-not-writable.true) in record {
-      value = c.refused.ensures ∙ closed.0;
-      buf_after = closed.1;
+    let all = write_closed _ _ c.args.buf.now (sym c.writable.ensures ∙ c.if-not-writable.true) in record {
+      value = all.0;
+      buf_after = all.1;
     }
 
 pub put_text-length-requires : goal.put_text-length-requires
@@ -17,22 +17,19 @@ put_text-length-requires c = writable_counts _ _ (sym c.writable.ensures ∙ c.i
 
 pub returns-then-buf-length : goal.returns-then-buf-length
 returns-then-buf-length c =
-    let args = c.args in
-    let short = write_short _ _ args.buf.now (sym c.writable.ensures ∙ c.if-not-writable.false)
+    let all = write_short _ _ c.args.buf.now (sym c.writable.ensures ∙ c.if-not-writable.false)
     (omega (arith, c.if-buf-length.true, c.put_text-length.ensures.value)) in record {
-      value = c.refused-then-buf-length.ensures ∙ short.0;
-      buf_after = short.1;
+      value = all.0;
+      buf_after = all.1;
     }
 
-pub put_text-used-requires : goal.put_text-used-requires
-put_text-used-requires c =
-    writable_counts _ _ (sym c.writable.ensures ∙ c.if-not-writable.false)
+pub put_text-requires : goal.put_text-requires
+put_text-requires c = writable_counts _ _ (sym c.writable.ensures ∙ c.if-not-writable.false)
 
 pub returns : goal.returns
 returns c =
-    let args = c.args in
-    let all = write_done _ _ args.buf.now (sym c.writable.ensures ∙ c.if-not-writable.false) _ _
-    (omega (arith, c.if-buf-length.false, c.put_text-length.ensures.value)) c.put_text-used.ensures.value c.put_text-used.ensures.buf_after in record {
+    let all = write_done _ _ c.args.buf.now (sym c.writable.ensures ∙ c.if-not-writable.false) _ _
+    (omega (arith, c.if-buf-length.false, c.put_text-length.ensures.value)) c.put_text.ensures.value c.put_text.ensures.buf_after in record {
       value = all.0;
       buf_after = all.1;
     }
