@@ -33,7 +33,7 @@ pub fn read_number(s: &[u8]) -> Option<u32>
     if s.len() == 1 {
         return scan(s);
     }
-    if s[0] == 48 {
+    if s[0] == b'0' {
         return None;
     }
     scan(s)
@@ -65,12 +65,10 @@ pub fn write_number(buf: &mut [u8], at: usize, n: u32) -> usize
     ensures upper_bound { result ≤ at + 10 }
 {
     let count = digit_count(n);
-    let mut left = count;
     let mut rest = n;
-    while 0 < left {
-        left -= 1;
-        lists::put(buf, at + left, 48 + ((rest % 10) as u8));
-        rest = rest / 10;
+    for i in (0..count).rev() {
+        lists::put(buf, at + i, b'0' + (rest % 10) as u8);
+        rest /= 10;
     }
     at + count
 }

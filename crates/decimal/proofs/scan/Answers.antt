@@ -11,7 +11,7 @@ loop-d-init c = (omega arith, omega arith, refl)
 pub returns-then-not-is_ascii_digit : goal.returns-then-not-is_ascii_digit
 returns-then-not-is_ascii_digit c =
     elim c.if-not-is_ascii_digit.ensures.cases [
-      inl l ↦ scan_low _ _ _ _ c.loop-d.invariant.2 c.loop-d-test.true l
+      | inl l ↦ scan_low _ _ _ _ c.loop-d.invariant.2 c.loop-d-test.true l
       | inr g ↦ scan_high _ _ _ _ c.loop-d.invariant.2 c.loop-d-test.true (omega arith) g
     ]
 
@@ -22,7 +22,7 @@ pub overflow_add-acc : goal.overflow_add-acc
 overflow_add-acc c = omega (arith, ten_bound c.loop-d.d-index (omega arith))
 
 pub loop-d-preserved : goal.loop-d-preserved
-loop-d-preserved c = 
+loop-d-preserved c =
     let digit = c.if-not-is_ascii_digit.ensures.cases in (
       omega arith,
       ten_more _ _ _ c.loop-d.invariant.1 (omega (arith, digit)),

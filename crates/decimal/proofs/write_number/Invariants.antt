@@ -5,8 +5,5 @@ use Rattle.decimal.specs.Decimal.{decimal}
 use Rattle.decimal.proofs.Loops.{DigitsLeft}
 use Rattle.decimal.proofs.write_number.Given as goal
 
-abbrev pub invariant-loop-left : goal.invariant-loop-left
-invariant-loop-left l = (l.left ≤ 10) × DigitsLeft l.buf (sets l.initial.buf l.at (decimal l.n)) l.at l.left l.rest
-
-abbrev pub decreases-loop-left : goal.decreases-loop-left
-decreases-loop-left l = l.left
+abbrev pub invariant-loop-i : goal.invariant-loop-i
+invariant-loop-i l = (l.count ≤ 10) × DigitsLeft l.buf (sets l.initial.buf l.at (decimal l.n)) l.at l.i l.rest
