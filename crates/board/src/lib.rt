@@ -55,6 +55,7 @@ pub struct Network {
 // and how many moves stand. The moves are in the journal, which is lent beside it (crates/journal).
 #[derive(Clone, Copy)]
 pub struct Board {
+    // A number and no enum: the memory that a C caller lends, and the inputs of replay, may hold any number here.
     pub stage: u32,
     pub network: Network,
     pub acyclic: [u32; Board::MAX_EDGES],
@@ -81,7 +82,7 @@ impl Board {
 
     pub const MAX_TERMINALS: usize = 16;
 
-    pub const MAX_FLOW: u32 = 1000000;
+    pub const MAX_FLOW: u32 = 1_000_000;
 
     // What the terminals need together at most.
     pub const MAX_TOTAL: u32 = Board::MAX_TERMINALS as u32 * Board::MAX_FLOW;
@@ -108,14 +109,12 @@ impl Board {
     pub fn closed() -> Board
         ensures { result ≡ closed_table }
     {
-        let network = Network::empty();
-        let marks = sets::none();
         Board {
             stage: Board::CLOSED,
-            network: network,
+            network: Network::empty(),
             acyclic: [0; Board::MAX_EDGES],
             flows: [0; Board::MAX_EDGES],
-            marks: marks,
+            marks: sets::none(),
             places: [0; Board::MAX_TERMINALS],
             moves: 0,
             finish_from: 0,
@@ -149,10 +148,10 @@ impl Augmentation {
             ≡ record { amount = amount; down = set_of down; up = set_of up; marked = set_of marked } }
     {
         Augmentation {
-            amount: amount,
-            down: down,
-            up: up,
-            marked: marked,
+            amount,
+            down,
+            up,
+            marked,
         }
     }
 

@@ -1,17 +1,17 @@
 -- Words that were packed stand for the entry that was packed; a store of packed words is a store of the entry.
-use mathlib.Core.Path.{◌≡◌, refl, sym, ap}
-use mathlib.Core.Bool.{Bool, true, false}
+use mathlib.Core.Path.{◌≡◌, refl, sym, ap, ◌∙◌}
+use mathlib.Core.Bool.{Bool, true, false, ◌&&◌}
 use mathlib.Core.List.{List, [], ◌∷◌, map}
 use Prim.Native.Nat.{ℕ, zero, suc, ◌<◌, ◌≤◌}
 use native.Mathlib.Omega.{arith}
 use native.Mathlib.Nat.{mod-eq_of_lt}
-use lib.Seq.{set_out}
-use lib.ListN.{length, get_or, set, length-map, get_or-eq_default}
+use lib.Pointwise.{pointwise}
+use lib.ListN.{length, get_or, set, replicate, get_or-map, get_or-eq_default}
 use lib.Dec.{eqb}
 use Rattle.lists.specs.Choice.{pick, both}
 use Rattle.board.specs.Record.{blank}
 use Rattle.board.specs.Whole.{Move, Carry, Turn, Entry}
-use Rattle.journal.specs.Words.{packed, unpacked, entries_of, entry_in, standing, blank_words}
+use Rattle.journal.specs.Words.{packed, unpacked, entry_in, standing, blank_words}
 use Rattle.journal.specs.Inner.{place_words, is_zeros, is_blank_at}
 
 -- the numbers of a move are numbers of 32 bits
@@ -29,17 +29,10 @@ map-set f [] i w = refl
 map-set f (x ∷ l) zero w = refl
 map-set f (x ∷ l) (suc i) w = ap (λ (t : List Entry). f x ∷ t) (map-set f l i w)
 
-pub read_inside : (l : List (List ℕ)) (i : ℕ) (d : List ℕ) → i < length l → unpacked (get_or l i d) ≡ entry_in l i
-read_inside [] i d h = absurd (omega arith)
-read_inside (x ∷ l) zero d h = refl
-read_inside (x ∷ l) (suc i) d h = read_inside l i d (omega arith)
-
-pub read_past : (l : List (List ℕ)) (i : ℕ) → length l ≤ i → blank ≡ entry_in l i
-read_past l i h = sym (get_or-eq_default (map unpacked l) blank (omega (arith, h, length-map l unpacked)))
-
--- a store past the end changes nothing
-pub put_past : (l : List (List ℕ)) (i : ℕ) (w : List ℕ) (x : Entry) → length l ≤ i → (l ≡ set l i w) × (entries_of l ≡ set (entries_of l) i x)
-put_past l i w x h = (sym (set_out l i w h), sym (set_out (entries_of l) i x (omega (arith, h, length-map l unpacked))))
+-- the entry at a place is the one that its words stand for
+pub read_at : (l : List (List ℕ)) (i : ℕ) → unpacked (get_or l i blank_words) ≡ entry_in l i
+unfolding unpacked pick
+read_at l i = sym (get_or-map unpacked l i blank_words)
 
 -- the standing moves, with one more, with one less, and the last of them; k is the greater count
 add_next : (m : ℕ) (es : List Entry) (x : Entry) → set (standing m es) m x ≡ standing (suc m) (set es m x)
@@ -94,31 +87,20 @@ length-standing m [] = refl
 length-standing zero (y ∷ es) = ap suc (length-standing zero es)
 length-standing (suc m) (y ∷ es) = ap suc (length-standing m es)
 
--- five words, and whether they are zeros
-both_end : (t : Bool) → t ≡ both t true
+-- words compared with so many zeros
+both_test : (s t : Bool) → (s && t) ≡ both s t
 unfolding both
-both_end true = refl
-both_end false = refl
+both_test true t = refl
+both_test false t = refl
 
-pub zeros_five : (w : List ℕ) → length w ≡ place_words
-    → both (eqb (get_or w 0 0) 0) (both (eqb (get_or w 1 0) 0) (both (eqb (get_or w 2 0) 0) (both (eqb (get_or w 3 0) 0) (eqb (get_or w 4 0) 0)))) ≡ is_zeros place_words w
+pub zeros_compared : (n : ℕ) (w : List ℕ) → pointwise eqb w (replicate n 0) ≡ is_zeros n w
 unfolding is_zeros
-zeros_five [] h = absurd (omega (arith, h))
-zeros_five (a ∷ []) h = absurd (omega (arith, h))
-zeros_five (a ∷ b ∷ []) h = absurd (omega (arith, h))
-zeros_five (a ∷ b ∷ c ∷ []) h = absurd (omega (arith, h))
-zeros_five (a ∷ b ∷ c ∷ d ∷ []) h = absurd (omega (arith, h))
-zeros_five (a ∷ b ∷ c ∷ d ∷ e ∷ []) h =
-    ap (λ (t : Bool). both (eqb a 0) (both (eqb b 0) (both (eqb c 0) (both (eqb d 0) t)))) (both_end (eqb e 0))
-zeros_five (a ∷ b ∷ c ∷ d ∷ e ∷ f ∷ w) h = absurd (omega (arith, h))
+zeros_compared zero [] = refl
+zeros_compared zero (x ∷ w) = refl
+zeros_compared (suc n) [] = refl
+zeros_compared (suc n) (x ∷ w) = both_test (eqb x 0) (pointwise eqb w (replicate n 0)) ∙ ap (both (eqb x 0)) (zeros_compared n w)
 
--- a place inside the words, and one past them
-pub blank_inside : (l : List (List ℕ)) (i : ℕ) (d : List ℕ) → i < length l → is_zeros place_words (get_or l i d) ≡ is_blank_at l i
-unfolding is_blank_at
-blank_inside [] i d h = absurd (omega arith)
-blank_inside (x ∷ l) zero d h = refl
-blank_inside (x ∷ l) (suc i) d h = blank_inside l i d (omega arith)
-
+-- a place past the words
 pub blank_past : (l : List (List ℕ)) (i : ℕ) → length l ≤ i → true ≡ is_blank_at l i
 unfolding is_blank_at is_zeros both
 blank_past l i h = ap (is_zeros place_words) (sym (get_or-eq_default l blank_words h))

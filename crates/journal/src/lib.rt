@@ -13,6 +13,9 @@ use board::{Augmentation, Board, Entry, Move, Relocation};
 // How many words a place of the journal has.
 pub const WORDS: usize = 5;
 
+// The words of the blank.
+const BLANK: [u64; WORDS] = [0; WORDS];
+
 // An entry in words.
 pub fn pack(entry: Entry) -> [u64; WORDS]
     ensures value { result ≡ packed (entry_of entry) }
@@ -51,11 +54,8 @@ pub fn unpack(w: [u64; WORDS]) -> Entry
 pub fn entry_at(journal: &[[u64; WORDS]], i: usize) -> Entry
     ensures { entry_of result ≡ entry_in journal.now i }
 {
-    if i < journal.len() {
-        let w = journal[i];
-        return unpack(w);
-    }
-    Entry::blank()
+    let w = lists::at_or(journal, i, BLANK);
+    unpack(w)
 }
 
 // The last of so many moves, or the blank.
@@ -74,28 +74,14 @@ pub fn put_entry(journal: &mut [[u64; WORDS]], i: usize, entry: Entry)
     ensures journal_after_2 { entries_of journal.new ≡ set (entries_of journal.old) i (entry_of entry) }
 {
     let w = pack(entry);
-    if i < journal.len() {
-        journal[i] = w;
-    }
-}
-
-// Whether the words of a place are zeros, as those of the blank are.
-fn is_zero(w: [u64; WORDS]) -> bool
-    ensures { result ≡ is_zeros place_words w }
-{
-    let sets = lists::and(w[2] == 0, lists::and(w[3] == 0, w[4] == 0));
-    lists::and(w[0] == 0, lists::and(w[1] == 0, sets))
+    lists::put(journal, i, w);
 }
 
 // Whether a place holds the blank. There is nothing else past the end.
 pub fn is_blank(journal: &[[u64; WORDS]], i: usize) -> bool
     ensures { result ≡ is_blank_at journal.now i }
 {
-    if i < journal.len() {
-        let w = journal[i];
-        return is_zero(w);
-    }
-    true
+    lists::at_or(journal, i, BLANK) == BLANK
 }
 
 // Puts the blank into so many places.
@@ -103,10 +89,8 @@ pub fn wipe(journal: &mut [[u64; WORDS]], from: usize, count: usize)
     requires { (from ≤ max_moves + 1) × (count ≤ max_moves) }
     ensures { journal.new ≡ packed_on count from [] journal.old }
 {
-    let mut k: usize = 0;
-    while k < count {
-        put_entry(journal, from + k, Entry::blank());
-        k += 1;
+    for i in from..from + count {
+        put_entry(journal, i, Entry::blank());
     }
 }
 
@@ -114,6 +98,5 @@ pub fn wipe(journal: &mut [[u64; WORDS]], from: usize, count: usize)
 pub fn clear(journal: &mut [[u64; WORDS]; Board::JOURNAL])
     ensures { journal.new ≡ no_words }
 {
-    let blank = [0u64; WORDS];
-    *journal = [blank; Board::JOURNAL];
+    *journal = [BLANK; Board::JOURNAL];
 }

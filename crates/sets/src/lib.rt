@@ -17,6 +17,9 @@ pub type VertexSet = u64;
 // How many numbers a set of edges has room for.
 pub const WIDTH: u32 = word::WIDTH as u32;
 
+// Five of these call their namesakes in `word`. They stay two: the contracts here speak of `set_of` and `set_width`, so
+// that a set of edges may take more than one word; those of `word` speak of the word itself, which a set of vertices is.
+
 // The empty set.
 pub fn none() -> EdgeSet
     ensures { set_of result ≡ none }
@@ -64,7 +67,7 @@ pub fn common(m: EdgeSet, s: EdgeSet) -> EdgeSet
 pub fn without(m: EdgeSet, s: EdgeSet) -> EdgeSet
     ensures { set_of result ≡ without (set_of m) (set_of s) }
 {
-    m - (m & s)
+    m & !s
 }
 
 // The lowest number in the set; WIDTH where it is empty.

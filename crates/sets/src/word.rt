@@ -20,7 +20,7 @@ pub fn none() -> VertexSet
 pub fn has(m: VertexSet, c: usize) -> bool
     ensures { result ≡ has_bit m c }
 {
-    if c < WIDTH { (m >> c) % 2 == 1 } else { false }
+    c < WIDTH && (m >> c) % 2 == 1
 }
 
 // The set, with c where it is to join.
@@ -42,5 +42,5 @@ pub fn joined(m: VertexSet, s: VertexSet) -> VertexSet
 pub fn lowest(m: VertexSet) -> u32
     ensures { result ≡ lowest_below word_width m }
 {
-    u64::trailing_zeros(m)
+    m.trailing_zeros()
 }

@@ -1,10 +1,8 @@
--- The words at the place are unpacked; past the end there is the blank.
-use mathlib.Core.Path.{◌∙◌}
-use Rattle.journal.proofs.Laws.{read_inside, read_past}
+-- The entry that the words at the place stand for is that at the place; past the end both are the blank.
+use mathlib.Core.Path.{ap, ◌∙◌}
+use Rattle.journal.specs.Words.{unpacked}
+use Rattle.journal.proofs.Laws.{read_at}
 use Rattle.journal.proofs.entry_at.Goals as goal
 
-pub returns-then-i-journal : goal.returns-then-i-journal
-returns-then-i-journal c = c.unpack.ensures ∙ read_inside c.args.journal.now _ _ c.if-i-journal.true
-
 pub returns : goal.returns
-returns c = c.blank.ensures ∙ read_past c.args.journal.now _ c.if-i-journal.false
+returns c = c.unpack.ensures ∙ ap unpacked c.at_or-w.ensures ∙ read_at c.args.journal.now c.args.i

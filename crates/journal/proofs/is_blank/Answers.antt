@@ -1,11 +1,9 @@
--- Inside the words the place is tested; past them there is nothing but the blank.
+-- The words at the place, or the blank's past the end, are compared with zeros.
 use mathlib.Core.Path.{◌∙◌}
-use Rattle.journal.proofs.Laws.{blank_inside, blank_past}
+use Rattle.journal.specs.Inner.{is_blank_at}
+use Rattle.journal.proofs.Laws.{zeros_compared}
 use Rattle.journal.proofs.is_blank.Goals as goal
 
-pub returns-then-i-journal : goal.returns-then-i-journal
-returns-then-i-journal c =
-    c.is_zero.ensures ∙ blank_inside c.args.journal.now c.args.i _ c.if-i-journal.true
-
 pub returns : goal.returns
-returns c = blank_past c.args.journal.now c.args.i c.if-i-journal.false
+unfolding is_blank_at
+returns c = c.eq.ensures ∙ rw c.at_or.ensures (zeros_compared 5 _)

@@ -1,35 +1,30 @@
 -- The loop has blanked the places up to its own.
 use mathlib.Core.Path.{◌≡◌, refl, ap, ◌∙◌}
 use mathlib.Core.List.{List, []}
-use Prim.Native.Nat.{ℕ, ◌+◌}
+use Prim.Native.Nat.{ℕ, suc, ◌+◌, ◌-◌}
 use native.Mathlib.Omega.{arith}
-use native.Mathlib.Numerals.{add-one}
-use lib.ListN.{length, set}
+use lib.ListN.{set}
 use Rattle.board.specs.Whole.{Entry}
 use Rattle.journal.specs.Words.{packed, packed_on}
-use Rattle.journal.proofs.Places.{packed_on-length}
 use Rattle.journal.proofs.wipe.Goals as goal
 
-pub loop-k-init : goal.loop-k-init
+pub loop-i-init : goal.loop-i-init
 unfolding packed_on
-loop-k-init c = (omega arith, refl)
+loop-i-init c = let none : c.args.from - c.args.from ≡ 0 = omega arith in rw none refl
 
-pub loop-k-preserved : goal.loop-k-preserved
+pub loop-i-preserved : goal.loop-i-preserved
 unfolding packed_on
-loop-k-preserved c =
-    let loop = c.loop-k in
-    let from = c.args.from in (
-      omega arith,
-      c.put_entry.ensures.journal_after
-          ∙ ap (λ (e : Entry). set loop.journal (from + loop.k) (packed e)) c.blank.ensures
-          ∙ rw (add-one) (ap (λ (t : List (List ℕ)). set t (from + loop.k) _) loop.invariant.1),
-    )
-
-pub shape_of-journal : goal.shape_of-journal
-shape_of-journal c =
-    ap length c.loop-k.invariant.1 ∙ packed_on-length c.args.from c.loop-k.k [] c.args.journal.now
+loop-i-preserved c =
+    let loop = c.loop-i in
+    let from = c.args.from in
+    let one_more : loop.i + 1 - from ≡ suc (loop.i - from) = omega arith in
+    let here : from + (loop.i - from) ≡ loop.i = omega arith in
+    rw (one_more, packed_on, here)
+    (c.put_entry.ensures.journal_after
+    ∙ ap (λ (e : Entry). set loop.journal loop.i (packed e)) c.blank.ensures
+    ∙ ap (λ (t : List (List ℕ)). set t loop.i _) loop.invariant)
 
 pub returns : goal.returns
 returns c =
-    let all : c.loop-k.k ≡ c.args.count = omega arith in
-    c.loop-k.invariant.1 ∙ ap (λ (n : ℕ). packed_on n c.args.from [] c.args.journal.now) all
+    let all : c.loop-i.i - c.args.from ≡ c.args.count = omega arith in
+    c.loop-i.invariant ∙ ap (λ (n : ℕ). packed_on n c.args.from [] c.args.journal.now) all
