@@ -39,13 +39,13 @@ no_flow text acyclic flow = go (known (eqb text 0)) (known (eqb acyclic 0))
         let above = eqb-false acyclic 0 n in
         rw (eqb-true text 0 t, lt-leb acyclic 0 (omega (arith, above)), n)
 
-past_edge : (edges vertices tail head text acyclic flow i : ℕ) → edges ≤ i
+pub past_edge : (edges vertices tail head text acyclic flow i : ℕ) → edges ≤ i
     → edge_numbers_intact (ltb i edges) tail head text acyclic flow vertices ≡ both (eqb tail 0) (both (eqb head 0) (both (eqb text 0) (both (eqb acyclic 0) (eqb flow 0))))
 unfolding pick
 past_edge edges vertices tail head text acyclic flow i h =
     rw (le-ltb i edges h) (three (eqb tail 0) (eqb head 0) (eqb text 0) _ ∙ ap (λ (r : Bool). both (eqb tail 0) (both (eqb head 0) r)) (no_flow text acyclic flow))
 
-past_terminal : (terminals vertices home demand place j : ℕ) → terminals ≤ j
+pub past_terminal : (terminals vertices home demand place j : ℕ) → terminals ≤ j
     → terminal_numbers_intact (ltb j terminals) home demand place vertices ≡ both (eqb home 0) (both (eqb demand 0) (eqb place 0))
 unfolding pick
 past_terminal terminals vertices home demand place j h = rw (le-ltb j terminals h) (two (eqb home 0) (eqb demand 0) (eqb place 0))

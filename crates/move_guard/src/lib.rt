@@ -1,17 +1,15 @@
 // Which boards a call of play works on.
 #![tactic(auto)]
 
-ghost use Rattle.std.specs.Prelude.{◌≡◌, ◌-◌, ◌≤◌, leb, ltb, eqb};
+ghost use Rattle.std.specs.Prelude.{◌≡◌, ◌<◌, ◌≤◌, leb, eqb};
 ghost use Rattle.journal.specs.Words.{whole_of};
 ghost use Rattle.lists.specs.Choice.{pick};
 ghost use Rattle.lists.specs.Lists.{all};
 ghost use Rattle.board.specs.Limits.{max_edges, max_terminals, max_total};
 ghost use Rattle.board.specs.Whole.{move_of};
 ghost use Rattle.move_guard.specs.Guard.{
-  edge_numbers_intact,
-  edge_lists_intact,
-  terminal_numbers_intact,
-  terminal_lists_intact,
+  edge_intact_in,
+  terminal_intact_in,
   edge_blank_in,
   terminal_blank_in,
   move_intact,
@@ -20,10 +18,11 @@ ghost use Rattle.move_guard.specs.Guard.{
   playing,
 };
 
-use board::{Board, Move};
+use board::{Board, Move, Network};
 use journal::WORDS;
 
 // Whether an edge's flow is small, and 0 where its acyclic flow is.
+#[tactic(auto, unfolding(lists::specs::Choice::pick))]
 fn small_flow(acyclic: u32, flow: u32) -> bool
     ensures { result ≡ pick (eqb acyclic 0) (eqb flow 0) (leb flow max_total) }
 {
@@ -34,41 +33,60 @@ fn small_flow(acyclic: u32, flow: u32) -> bool
     }
 }
 
-// Whether the numbers of an edge are intact, or those of a place past the edges.
-fn edge_intact(
-    is_edge: bool,
-    tail: u32,
-    head: u32,
-    text: u32,
-    acyclic: u32,
-    flow: u32,
-    vertices: u32,
+// Whether the numbers of edge i are intact.
+fn edge_intact<'a>(
+    net: &'a Network,
+    acyclic: &'a [u32; Board::MAX_EDGES],
+    flows: &'a [u32; Board::MAX_EDGES],
+    i: usize,
 ) -> bool
-    ensures { result ≡ edge_numbers_intact is_edge tail head text acyclic flow vertices }
+    requires within { net.now.edges ≤ max_edges }
+    requires edge { i < net.now.edges }
+    ensures { result ≡ edge_intact_in net.now acyclic.now flows.now i }
 {
-    let fits = text_rules::edge_numbers_fit(is_edge, tail, head, text, vertices);
-    let small = small_flow(acyclic, flow);
-    lists::and(fits, lists::and(acyclic <= text, small))
+    let fits = text_rules::edge_numbers_fit(
+        true,
+        net.tails[i],
+        net.heads[i],
+        net.flows[i],
+        net.vertices,
+    );
+    let small = small_flow(acyclic[i], flows[i]);
+    lists::and(fits, lists::and(acyclic[i] <= net.flows[i], small))
 }
 
-// Whether a terminal is at a vertex, and a place past the terminals holds 0.
-fn placed(is_terminal: bool, place: u32, vertices: u32) -> bool
-    ensures { result ≡ pick is_terminal (ltb place vertices) (eqb place 0) }
+// Whether every number of a place past the edges is 0.
+fn edge_blank<'a>(
+    net: &'a Network,
+    acyclic: &'a [u32; Board::MAX_EDGES],
+    flows: &'a [u32; Board::MAX_EDGES],
+    i: usize,
+) -> bool
+    requires { i < max_edges }
+    ensures { result ≡ edge_blank_in net.now.tails net.now.heads net.now.flows acyclic.now flows.now i }
 {
-    if is_terminal {
-        place < vertices
-    } else {
-        place == 0
-    }
+    let flow = lists::and(acyclic[i] == 0, flows[i] == 0);
+    let numbers = lists::and(net.heads[i] == 0, lists::and(net.flows[i] == 0, flow));
+    lists::and(net.tails[i] == 0, numbers)
 }
 
-// Whether the numbers of a terminal are intact, or those of a place past the terminals.
-fn terminal_intact(is_terminal: bool, home: u32, demand: u32, place: u32, vertices: u32) -> bool
-    ensures { result ≡ terminal_numbers_intact is_terminal home demand place vertices }
+// Whether the numbers of terminal j are intact.
+fn terminal_intact<'a>(net: &'a Network, places: &'a [u32; Board::MAX_TERMINALS], j: usize) -> bool
+    requires within { net.now.terminals ≤ max_terminals }
+    requires terminal { j < net.now.terminals }
+    ensures { result ≡ terminal_intact_in net.now places.now j }
 {
-    let fits = text_rules::terminal_numbers_fit(is_terminal, home, demand, vertices);
-    let there = placed(is_terminal, place, vertices);
-    lists::and(fits, there)
+    let fits = text_rules::terminal_numbers_fit(true, net.homes[j], net.demands[j], net.vertices);
+    lists::and(fits, places[j] < net.vertices)
+}
+
+// Whether every number of a place past the terminals is 0.
+fn terminal_blank<'a>(net: &'a Network, places: &'a [u32; Board::MAX_TERMINALS], j: usize) -> bool
+    requires { j < max_terminals }
+    ensures { result ≡ terminal_blank_in net.now.homes net.now.demands places.now j }
+{
+    let numbers = lists::and(net.demands[j] == 0, places[j] == 0);
+    lists::and(net.homes[j] == 0, numbers)
 }
 
 // Whether a move's amount is one that can be taken back.
@@ -81,125 +99,64 @@ fn move_intact(step: Move) -> bool
     }
 }
 
-// Whether every number of the places from one on is 0, as past the edges.
-fn edges_blank<'a>(
-    tails: &'a [u32; Board::MAX_EDGES],
-    heads: &'a [u32; Board::MAX_EDGES],
-    texts: &'a [u32; Board::MAX_EDGES],
-    acyclic: &'a [u32; Board::MAX_EDGES],
-    flows: &'a [u32; Board::MAX_EDGES],
-    from: usize,
-) -> bool
-    ensures { result ≡ all (edge_blank_in tails.now heads.now texts.now
-        acyclic.now flows.now) from (max_edges - from) }
-{
-    let mut i = from;
-    while i < Board::MAX_EDGES {
-        let flow = lists::and(acyclic[i] == 0, flows[i] == 0);
-        let numbers = lists::and(heads[i] == 0, lists::and(texts[i] == 0, flow));
-        if !lists::and(tails[i] == 0, numbers) {
-            return false;
-        }
-        i += 1;
-    }
-    true
-}
-
-// Whether every edge is intact.
+// Whether every edge is intact, and every number past the edges 0. One loop over all places, with a test of which kind
+// each is, was tried and takes three times the instructions.
 fn edges_intact<'a>(
-    edges: u32,
-    vertices: u32,
-    tails: &'a [u32; Board::MAX_EDGES],
-    heads: &'a [u32; Board::MAX_EDGES],
-    texts: &'a [u32; Board::MAX_EDGES],
+    net: &'a Network,
     acyclic: &'a [u32; Board::MAX_EDGES],
     flows: &'a [u32; Board::MAX_EDGES],
 ) -> bool
-    requires { edges ≤ max_edges }
-    ensures { result ≡ all (edge_lists_intact edges vertices tails.now heads.now
-        texts.now acyclic.now flows.now) 0 max_edges }
+    requires { net.now.edges ≤ max_edges }
+    ensures { result ≡ all (edge_intact_in net.now acyclic.now flows.now) 0 max_edges }
 {
-    let mut i: usize = 0;
-    while i < edges as usize {
-        if !edge_intact(
-            true, tails[i], heads[i], texts[i], acyclic[i], flows[i], vertices,
-        ) {
+    let edges = net.edges as usize;
+    for i in 0..edges {
+        if !edge_intact(net, acyclic, flows, i) {
             return false;
         }
-        i += 1;
     }
-    edges_blank(tails, heads, texts, acyclic, flows, i)
-}
-
-// Whether every number of the places from one on is 0, as past the terminals.
-fn terminals_blank<'a>(
-    homes: &'a [u32; Board::MAX_TERMINALS],
-    demands: &'a [u32; Board::MAX_TERMINALS],
-    places: &'a [u32; Board::MAX_TERMINALS],
-    from: usize,
-) -> bool
-    ensures { result ≡ all (terminal_blank_in homes.now demands.now places.now)
-        from (max_terminals - from) }
-{
-    let mut j = from;
-    while j < Board::MAX_TERMINALS {
-        let numbers = lists::and(demands[j] == 0, places[j] == 0);
-        if !lists::and(homes[j] == 0, numbers) {
+    for past in edges..Board::MAX_EDGES {
+        if !edge_blank(net, acyclic, flows, past) {
             return false;
         }
-        j += 1;
     }
     true
 }
 
-// Whether every terminal is intact.
-fn terminals_intact<'a>(
-    terminals: u32,
-    vertices: u32,
-    homes: &'a [u32; Board::MAX_TERMINALS],
-    demands: &'a [u32; Board::MAX_TERMINALS],
-    places: &'a [u32; Board::MAX_TERMINALS],
-) -> bool
-    requires { terminals ≤ max_terminals }
-    ensures { result ≡ all (terminal_lists_intact terminals vertices homes.now demands.now
-        places.now) 0 max_terminals }
+// Whether every terminal is intact, and every number past the terminals 0: two loops, as over the edges.
+fn terminals_intact<'a>(net: &'a Network, places: &'a [u32; Board::MAX_TERMINALS]) -> bool
+    requires { net.now.terminals ≤ max_terminals }
+    ensures { result ≡ all (terminal_intact_in net.now places.now) 0 max_terminals }
 {
-    let mut j: usize = 0;
-    while j < terminals as usize {
-        if !terminal_intact(true, homes[j], demands[j], places[j], vertices) {
+    let terminals = net.terminals as usize;
+    for j in 0..terminals {
+        if !terminal_intact(net, places, j) {
             return false;
         }
-        j += 1;
     }
-    terminals_blank(homes, demands, places, j)
+    for past in terminals..Board::MAX_TERMINALS {
+        if !terminal_blank(net, places, past) {
+            return false;
+        }
+    }
+    true
 }
 
 // Whether no number of the board can lead a call astray.
 pub fn intact(board: Board, journal: &[[u64; WORDS]; Board::JOURNAL]) -> bool
     ensures { result ≡ intact (whole_of board journal.now) }
 {
-    let vertices = board.network.vertices;
-    let edges = board.network.edges;
-    let terminals = board.network.terminals;
-    if !text_judge::counts_fit_in(vertices, edges, terminals, board.network.source) {
+    let counts_fit = text_judge::counts_fit_in(
+        board.network.vertices,
+        board.network.edges,
+        board.network.terminals,
+        board.network.source,
+    );
+    if !counts_fit {
         return false;
     }
-    let edges_fit = edges_intact(
-        edges,
-        vertices,
-        &board.network.tails,
-        &board.network.heads,
-        &board.network.flows,
-        &board.acyclic,
-        &board.flows,
-    );
-    let terminals_fit = terminals_intact(
-        terminals,
-        vertices,
-        &board.network.homes,
-        &board.network.demands,
-        &board.places,
-    );
+    let edges_fit = edges_intact(&board.network, &board.acyclic, &board.flows);
+    let terminals_fit = terminals_intact(&board.network, &board.places);
     let last = journal::last_entry(journal, board.moves);
     let step = last.step;
     let room = lists::and(board.moves <= Board::JOURNAL as u32, move_intact(step));
