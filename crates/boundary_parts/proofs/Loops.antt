@@ -1,6 +1,7 @@
 -- One round of each loop that fills a row. What is still to be stored stands behind what is stored, so that a round leaves the whole as it was.
 use mathlib.Core.Path.{◌≡◌, refl, sym, ap, ◌∙◌}
-use mathlib.Core.Bool.{true, false}
+use mathlib.Core.Bool.{Bool, true, false}
+use Rattle.std.specs.Int.{from_bool}
 use mathlib.Core.List.{List, [], ◌∷◌, ◌++◌, map, append-nil}
 use Prim.Native.Nat.{ℕ, suc, ◌+◌, ◌-◌, ◌<◌, ◌≤◌}
 use native.Mathlib.Nat.{zero-add, add-zero, add-suc, suc-add, sub-zero}
@@ -8,12 +9,13 @@ use native.Mathlib.Numerals.{add-one}
 use native.Mathlib.Omega.{arith}
 use lib.ListN.{length, set, drop, replicate, length-replicate, drop_of_length-le}
 use lib.Seq.{sets, sets-eq}
+use Rattle.lists.specs.Choice.{pick}
 use Rattle.lists.specs.Lists.{tabulated}
 use Rattle.lists.proofs.Laws.{pick_yes, pick_no}
 use Rattle.lists.proofs.Tabulated.{length-tabulated}
 use Rattle.sets.specs.Sets.{has_bit}
 use Rattle.board.specs.Limits.{max_edges}
-use Rattle.boundary_parts.specs.Shown.{no_row, way_in, elements_from, elements, in_row}
+use Rattle.boundary_parts.specs.Shown.{as_number, no_row, way_in, elements_from, elements, in_row}
 
 -- what is left from i on, before and after one more
 next_left : (n i : ℕ) → i < n → n - i ≡ suc (n - suc i)
@@ -114,3 +116,10 @@ module _ (m ups : ℕ) where
         let none = ap (elements_from m e) (none_left max_edges e h) ∙ no_element m e in
         let number : count + 0 ≡ length (elements m) = rw none at l.counted in
         (sym (add-zero count) ∙ number, (rw none at l.listed_edges, rw none at l.listed_ways))
+
+-- ---- A test as a number.
+
+pub from_test : (t : Bool) → from_bool t ≡ as_number t
+unfolding pick
+from_test true = refl
+from_test false = refl

@@ -5,8 +5,8 @@ ghost use Rattle.std.specs.Prelude.{◌≡◌, [], map, length};
 ghost use Rattle.board.specs.Limits.{max_edges};
 ghost use Rattle.board.specs.Whole.{Carry, Turn, relocation_of, augmentation_of, move_of};
 ghost use Rattle.lists.specs.Lists.{tabulated};
+ghost use Rattle.refusals.specs.Refusals.{answer_of};
 ghost use Rattle.boundary_parts.specs.Shown.{
-  as_number,
   byte_at,
   marked_in,
   way_in,
@@ -34,6 +34,7 @@ ghost use Rattle.boundary_parts.specs.Memory.{
 use board::{Augmentation, Board, Move, Network, Relocation};
 use journal::WORDS;
 use move_cycle::StepCode;
+use refusals::Refusal;
 use sets::EdgeSet;
 use solve_next::Advice;
 
@@ -41,6 +42,7 @@ use solve_next::Advice;
 pub const VERSION: u32 = 1;
 
 // The parts of a game's memory: how many numbers, rows over the edges and rows over the terminals there are.
+// C lends them one by one (`vulprow_parts_load` and the others), so they stay parameters beside one another.
 pub const NUMBERS: usize = 8;
 
 pub const EDGE_ROWS: usize = 5;
@@ -85,21 +87,16 @@ fn network_in<'a>(
 ) -> Network
     ensures { result ≡ network_in numbers.now edges.now terminals.now }
 {
-    let tails = edges[0];
-    let heads = edges[1];
-    let flows = edges[2];
-    let homes = terminals[0];
-    let demands = terminals[1];
     Network {
         vertices: numbers[2],
         edges: numbers[3],
         terminals: numbers[4],
         source: numbers[5],
-        tails: tails,
-        heads: heads,
-        flows: flows,
-        homes: homes,
-        demands: demands,
+        tails: edges[0],
+        heads: edges[1],
+        flows: edges[2],
+        homes: terminals[0],
+        demands: terminals[1],
     }
 }
 
@@ -113,18 +110,13 @@ pub fn board_in<'a>(
     ensures { IsBoardOf result numbers.now edges.now terminals.now
         marks.now }
 {
-    let network = network_in(numbers, edges, terminals);
-    let stage = stage_in(numbers[0], numbers[1]);
-    let acyclic = edges[3];
-    let flows = edges[4];
-    let places = terminals[2];
     Board {
-        stage: stage,
-        network: network,
-        acyclic: acyclic,
-        flows: flows,
+        stage: stage_in(numbers[0], numbers[1]),
+        network: network_in(numbers, edges, terminals),
+        acyclic: edges[3],
+        flows: edges[4],
         marks: *marks,
-        places: places,
+        places: terminals[2],
         moves: numbers[6],
         finish_from: numbers[7],
     }
@@ -151,9 +143,8 @@ pub fn store(
     ensures marks_after { set_of marks.new ≡ set_of board.marks }
 {
     let net = board.network;
-    let version = version_of(board.stage);
     *numbers = [
-        version,
+        version_of(board.stage),
         board.stage,
         net.vertices,
         net.edges,
@@ -167,19 +158,18 @@ pub fn store(
     let texts = net.flows;
     let acyclic = board.acyclic;
     let flows = board.flows;
-    let edge_rows = [tails, heads, texts, acyclic, flows];
-    *edges = edge_rows;
+    *edges = [tails, heads, texts, acyclic, flows];
     let homes = net.homes;
     let demands = net.demands;
     let places = board.places;
-    let terminal_rows = [homes, demands, places];
-    *terminals = terminal_rows;
+    *terminals = [homes, demands, places];
     *marks = board.marks;
 }
 
 // ---- The rows of what calls give.
 
 // The edges of a set by ascending number, and of each whether it is in another set; zeros behind them.
+// C's memory has rows of a fixed length (`vulprow_parts_journal`), so the count stands beside them.
 #[derive(Clone, Copy)]
 pub struct EdgeList {
     pub count: u32,
@@ -187,23 +177,13 @@ pub struct EdgeList {
     pub ways: [u32; Board::MAX_EDGES],
 }
 
-// 1 where the test holds.
-fn as_number(test: bool) -> u32
-    ensures { result ≡ as_number test }
-{
-    if test { 1 } else { 0 }
-}
-
 // The steps of a hint as bytes.
 pub fn step_bytes(steps: [StepCode; Board::MAX_EDGES]) -> [u8; Board::MAX_EDGES]
     ensures { result ≡ tabulated (byte_at steps) 0 max_edges }
 {
     let mut bytes = [0u8; Board::MAX_EDGES];
-    let mut i: usize = 0;
-    while i < Board::MAX_EDGES {
-        let byte = move_cycle::encoded(steps[i]);
-        bytes[i] = byte;
-        i += 1;
+    for (i, code) in steps.iter().enumerate() {
+        bytes[i] = move_cycle::encoded(*code);
     }
     bytes
 }
@@ -213,12 +193,8 @@ pub fn marked_row(edges: u32, marks: EdgeSet) -> [u32; Board::MAX_EDGES]
     ensures { result ≡ tabulated (marked_in edges (set_of marks)) 0 max_edges }
 {
     let mut row = [0u32; Board::MAX_EDGES];
-    let mut e: u32 = 0;
-    while e < Board::MAX_EDGES as u32 {
-        let there = lists::and(e < edges, sets::has(marks, e as usize));
-        let number = as_number(there);
-        row[e as usize] = number;
-        e += 1;
+    for e in 0..Board::MAX_EDGES {
+        row[e] = u32::from(lists::and(e < edges as usize, sets::has(marks, e)));
     }
     row
 }
@@ -231,56 +207,19 @@ pub fn elements(set: EdgeSet, ups: EdgeSet) -> EdgeList
 {
     let mut edges = [0u32; Board::MAX_EDGES];
     let mut ways = [0u32; Board::MAX_EDGES];
-    let mut count: u32 = 0;
-    let mut e: u32 = 0;
-    while e < Board::MAX_EDGES as u32 {
-        let here = e;
-        e += 1;
-        if sets::has(set, here as usize) {
-            let way = as_number(sets::has(ups, here as usize));
-            edges[count as usize] = here;
-            ways[count as usize] = way;
+    let mut count: usize = 0;
+    for e in 0..Board::MAX_EDGES {
+        if sets::has(set, e) {
+            edges[count] = e as u32;
+            ways[count] = u32::from(sets::has(ups, e));
             count += 1;
         }
     }
     EdgeList {
-        count: count,
-        edges: edges,
-        ways: ways,
+        count: count as u32,
+        edges,
+        ways,
     }
-}
-
-// A carry of the journal in numbers; its rows are empty.
-fn show_carry(
-    carry: Relocation,
-    numbers: &mut [u32; ENTRY_NUMBERS],
-    rows: &mut [[u32; Board::MAX_EDGES]; ENTRY_ROWS],
-)
-    ensures numbers_after { numbers.new ≡ move_numbers (Carry (relocation_of carry)) }
-    ensures rows_after { rows.new ≡ move_rows (Carry (relocation_of carry)) }
-{
-    *numbers = [Advice::CARRY, carry.terminal, carry.edge, 0, 0, 0];
-    let none = [0u32; Board::MAX_EDGES];
-    *rows = [none; ENTRY_ROWS];
-}
-
-// A turn of the journal in numbers and rows.
-fn show_turn(
-    turn: Augmentation,
-    numbers: &mut [u32; ENTRY_NUMBERS],
-    rows: &mut [[u32; Board::MAX_EDGES]; ENTRY_ROWS],
-)
-    ensures numbers_after { numbers.new ≡ move_numbers (Turn (augmentation_of turn)) }
-    ensures rows_after { rows.new ≡ move_rows (Turn (augmentation_of turn)) }
-{
-    let cycle = elements(sets::joined(turn.down, turn.up), turn.up);
-    let newly = elements(turn.marked, sets::none());
-    *numbers = [Advice::TURN, 0, 0, turn.amount, cycle.count, newly.count];
-    let edges = cycle.edges;
-    let ways = cycle.ways;
-    let marked = newly.edges;
-    let three = [edges, ways, marked];
-    *rows = three;
 }
 
 // A move of the journal in numbers and rows.
@@ -294,10 +233,17 @@ pub fn show_move(
 {
     match step {
         Move::Carry(carry) => {
-            show_carry(carry, numbers, rows);
+            *numbers = [Advice::CARRY, carry.terminal, carry.edge, 0, 0, 0];
+            *rows = [[0; Board::MAX_EDGES]; ENTRY_ROWS];
         }
         Move::Turn(turn) => {
-            show_turn(turn, numbers, rows);
+            let cycle = elements(sets::joined(turn.down, turn.up), turn.up);
+            let newly = elements(turn.marked, sets::none());
+            *numbers = [Advice::TURN, 0, 0, turn.amount, cycle.count, newly.count];
+            let edges = cycle.edges;
+            let ways = cycle.ways;
+            let marked = newly.edges;
+            *rows = [edges, ways, marked];
         }
     }
 }
@@ -327,21 +273,27 @@ pub fn show_board(
     let heads = net.heads;
     let acyclic = board.acyclic;
     let flows = board.flows;
-    let edge_rows = [tails, heads, acyclic, flows, marked];
-    *edges = edge_rows;
+    *edges = [tails, heads, acyclic, flows, marked];
     let homes = net.homes;
     let places = board.places;
     let demands = net.demands;
-    let terminal_rows = [homes, places, demands];
-    *terminals = terminal_rows;
+    *terminals = [homes, places, demands];
 }
 
-// Why there is no standing move at a place: 29 or 2, in this order; 0 where there is one.
-pub fn entry_refusal(board: Board, journal: &[[u64; WORDS]; Board::JOURNAL], place: u32) -> u32
-    ensures { result ≡ entry_refusal (whole_of board journal.now) place }
+// Whether a move stands at a place: not where no board was loaded, then not where no move stands there.
+pub fn entry_refusal(
+    board: Board,
+    journal: &[[u64; WORDS]; Board::JOURNAL],
+    place: u32,
+) -> Result<(), Refusal>
+    ensures { answer_of result ≡ entry_refusal (whole_of board journal.now) place }
 {
     if !move_guard::loaded(board, journal) {
-        return 29;
+        return Err(Refusal::NotLoaded);
     }
-    if place < board.moves { 0 } else { 2 }
+    if place < board.moves {
+        Ok(())
+    } else {
+        Err(Refusal::OutOfRange)
+    }
 }

@@ -5,4 +5,4 @@ use Rattle.boundary_parts.proofs.board_in.Goals as goal
 pub returns : goal.returns
 returns c =
     let args = c.args in
-    stands-for args.numbers.now args.edges.now args.terminals.now _ _ _ c.stage_in-stage.ensures c.network_in-network.ensures
+    stands-for args.numbers.now args.edges.now args.terminals.now _ _ _ c.stage_in.ensures c.network_in.ensures
