@@ -4,7 +4,7 @@ use mathlib.Core.Path.{◌≡◌, refl, sym, ap, ◌∙◌}
 use mathlib.Core.Logic.{◌⊎◌, inl, inr, ◌≢◌}
 use mathlib.Core.List.{List, [], ◌∷◌, ◌++◌, append-nil}
 use Prim.Native.Nat.{ℕ, suc, ◌+◌, ◌-◌, ◌<◌, ◌≤◌}
-use native.Mathlib.Nat.{zero-add, sub-zero}
+use native.Mathlib.Nat.{zero-add}
 use native.Mathlib.Omega.{arith}
 use lib.Dec.{eqb}
 use lib.ListN.{length, get_or, set, take, drop, replicate, length-append, length-take, length-drop, length-replicate, drop_of_length-le}
@@ -14,7 +14,7 @@ use Rattle.lists.specs.Choice.{pick}
 use Rattle.lists.specs.Lists.{tabulated}
 use Rattle.lists.proofs.Laws.{Known, was_true, was_false, known, pick_yes, pick_no}
 use Rattle.lists.proofs.Tabulated.{length-tabulated, tabulated_from, set-tabulated, sets_snoc}
-use Rattle.board.specs.Limits.{max_vertices, max_terminals, max_moves}
+use Rattle.board.specs.Limits.{max_vertices, max_terminals}
 use Rattle.board.specs.Whole.{Relocation, Augmentation, Move, Carry, Turn, Entry}
 use Rattle.report_routes.specs.Routes.{carried_over, route_in}
 use Rattle.report_routes.specs.Inner.{row_of, counts_of, rows_of}
@@ -141,71 +141,58 @@ counts_none : replicate max_terminals 0 ≡ counts_of []
 unfolding counts_of tabulated route_in
 counts_none = refl
 
--- A walk from the last standing move of a journal to the first that has passed k moves: the rows and the counts are those of the moves it has passed.
-abbrev pub Filled : ℕ → List Entry → ℕ → ℕ → List (List ℕ) → List ℕ → Type 0
-Filled moves journal standing k rows counts =
-    (standing ≤ moves)
-    × (standing ≤ max_moves)
-    × (rows ≡ rows_of (drop (standing - k) (take moves journal)))
-    × (counts ≡ counts_of (drop (standing - k) (take moves journal)))
+-- A walk from the last standing move of a journal to the first that has come to a place: the rows and the counts are those of the moves from there on.
+abbrev pub Filled : ℕ → List Entry → ℕ → List (List ℕ) → List ℕ → Type 0
+Filled moves journal at rows counts = (rows ≡ rows_of (drop at (take moves journal))) × (counts ≡ counts_of (drop at (take moves journal)))
 
-module _ (moves : ℕ) (journal : List Entry) (standing : ℕ) where
+module _ (moves : ℕ) (journal : List Entry) where
   -- as many moves stand as the count says, or as there are places: none is behind them
-  behind-none : length (take moves journal) ≤ standing → drop (standing - 0) (take moves journal) ≡ []
-  behind-none h = rw (sub-zero standing) (drop_of_length-le (take moves journal) h)
+  pub fill_start : (standing : ℕ) → length (take moves journal) ≤ standing
+      → Filled moves journal standing (replicate max_terminals (replicate max_vertices 0)) (replicate max_terminals 0)
+  fill_start standing h =
+      let none = drop_of_length-le (take moves journal) h in
+      (rw none rows_none, rw none counts_none)
 
-  pub fill_start : length journal ≡ max_moves → ((moves < max_moves) × (standing ≡ moves)) ⊎ ((max_moves ≤ moves) × (standing ≡ max_moves))
-      → Filled moves journal standing 0 (replicate max_terminals (replicate max_vertices 0)) (replicate max_terminals 0)
-  fill_start long (inl w) =
-      let none = behind-none (omega (arith, length-take moves journal)) in
-      (omega arith, omega arith, rw none rows_none, rw none counts_none)
-  fill_start long (inr w) =
-      let none = behind-none (omega (arith, length-take moves journal)) in
-      (omega arith, omega arith, rw none rows_none, rw none counts_none)
-
-  module _ (k : ℕ) (rows : List (List ℕ)) (counts : List ℕ) where
-    pub fill_end : standing ≤ k → Filled moves journal standing k rows counts
-        → (rows ≡ rows_of (take moves journal)) × (counts ≡ counts_of (take moves journal))
-    fill_end h inv = let z : standing - k ≡ 0 = omega arith in (rw z at inv.2, rw z at inv.3)
-
+  module _ (at : ℕ) (rows : List (List ℕ)) (counts : List ℕ) (inv : Filled moves journal at rows counts) where
     -- no count wraps
-    pub fill_short : (i : ℕ) → length journal ≡ max_moves → i < max_terminals → Filled moves journal standing k rows counts → get_or counts i 0 ≤ max_moves
-    fill_short i long h inv =
-        let passed : List Entry = drop (standing - k) (take moves journal) in
-        rw inv.3 (omega (arith, counts_short passed i h, length-drop (standing - k) (take moves journal), length-take moves journal))
+    pub fill_short : (i : ℕ) → i < max_terminals → get_or counts i 0 ≤ length journal
+    fill_short i h = rw inv.1 (omega (arith, counts_short (drop at (take moves journal)) i h, length-drop at (take moves journal), length-take moves journal))
 
-    module _ (d : Entry) (below : k < standing) (long : length journal ≡ max_moves) (inv : Filled moves journal standing k rows counts) where
+    -- the walk has come to the first move
+    pub fill_end : at ≤ 0 → (rows ≡ rows_of (take moves journal)) × (counts ≡ counts_of (take moves journal))
+    fill_end h = let z : at ≡ 0 = omega arith in (rw z at inv.0, rw z at inv.1)
+
+    module _ (d : Entry) (below : 0 < at) (inside : at ≤ length (take moves journal)) where
       -- the next move of the walk
-      behind_next : drop (standing - (k + 1)) (take moves journal) ≡ get_or journal (standing - 1 - k) d ∷ drop (standing - k) (take moves journal)
+      behind_next : drop (at - 1) (take moves journal) ≡ get_or journal (at - 1) d ∷ drop at (take moves journal)
       behind_next =
-          let s : standing - k ≡ suc (standing - 1 - k) = omega arith in
-          let s1 : standing - (k + 1) ≡ standing - 1 - k = omega arith in
-          let inside : standing - 1 - k < length (take moves journal) = omega (arith, length-take moves journal, inv.0, inv.1) in
-          let here = get_or-take moves journal (standing - 1 - k) d (omega (arith, inv.0)) in
-          rw (s, s1, drop-cons (take moves journal) (standing - 1 - k) d inside, here)
+          let s : suc (at - 1) ≡ at = omega arith in
+          let less : at - 1 < length (take moves journal) = omega arith in
+          let here = get_or-take moves journal (at - 1) d (omega (arith, length-take moves journal)) in
+          rw (drop-cons (take moves journal) (at - 1) d less, here, s)
 
-      stepped : (s : Move) (next : List (List ℕ)) (lengths : List ℕ) → (get_or journal (standing - 1 - k) d).step ≡ s
-          → next ≡ rows_of (record { step = s } ∷ drop (standing - k) (take moves journal))
-          → lengths ≡ counts_of (record { step = s } ∷ drop (standing - k) (take moves journal))
-          → Filled moves journal standing (k + 1) next lengths
+      stepped : (s : Move) (next : List (List ℕ)) (lengths : List ℕ) → (get_or journal (at - 1) d).step ≡ s
+          → next ≡ rows_of (record { step = s } ∷ drop at (take moves journal))
+          → lengths ≡ counts_of (record { step = s } ∷ drop at (take moves journal))
+          → Filled moves journal (at - 1) next lengths
       stepped s next lengths q p c =
-          let passed = behind_next ∙ ap (λ (m : Move). record { step = m } ∷ drop (standing - k) (take moves journal)) q in
-          (inv.0, inv.1, p ∙ ap rows_of (sym passed), c ∙ ap counts_of (sym passed))
+          let passed = behind_next ∙ ap (λ (m : Move). record { step = m } ∷ drop at (take moves journal)) q in
+          (p ∙ ap rows_of (sym passed), c ∙ ap counts_of (sym passed))
 
       -- it was a turn; or a carry of no terminal; or the carry of a terminal, whose row has room or is full
-      pub fill_turned : (a : Augmentation) → (get_or journal (standing - 1 - k) d).step ≡ Turn a → Filled moves journal standing (k + 1) rows counts
-      fill_turned a q = stepped (Turn a) rows counts q (inv.2 ∙ rows_turned _ a) (inv.3 ∙ counts_turned _ a)
+      pub fill_turned : (a : Augmentation) → (get_or journal (at - 1) d).step ≡ Turn a → Filled moves journal (at - 1) rows counts
+      fill_turned a q = stepped (Turn a) rows counts q (inv.0 ∙ rows_turned _ a) (inv.1 ∙ counts_turned _ a)
 
-      pub fill_past : (r : Relocation) → (get_or journal (standing - 1 - k) d).step ≡ Carry r → max_terminals ≤ r.terminal
-          → Filled moves journal standing (k + 1) rows counts
-      fill_past r q past = stepped (Carry r) rows counts q (inv.2 ∙ rows_past _ r past) (inv.3 ∙ counts_past _ r past)
+      pub fill_past : (r : Relocation) → (get_or journal (at - 1) d).step ≡ Carry r → max_terminals ≤ r.terminal
+          → Filled moves journal (at - 1) rows counts
+      fill_past r q past = stepped (Carry r) rows counts q (inv.0 ∙ rows_past _ r past) (inv.1 ∙ counts_past _ r past)
 
-      pub fill_carried : (r : Relocation) (next : List (List ℕ)) → (get_or journal (standing - 1 - k) d).step ≡ Carry r → r.terminal < max_terminals
+      pub fill_carried : (r : Relocation) (next : List (List ℕ)) → (get_or journal (at - 1) d).step ≡ Carry r → r.terminal < max_terminals
           → ((get_or counts r.terminal 0 < max_vertices) × (next ≡ set rows r.terminal (set (get_or rows r.terminal []) (get_or counts r.terminal 0) r.edge)))
           ⊎ ((max_vertices ≤ get_or counts r.terminal 0) × (next ≡ rows))
-          → Filled moves journal standing (k + 1) next (set counts r.terminal (get_or counts r.terminal 0 + 1))
+          → Filled moves journal (at - 1) next (set counts r.terminal (get_or counts r.terminal 0 + 1))
       fill_carried r next q inside (inl w) =
-          stepped (Carry r) next _ q (w.1 ∙ rw (inv.2, inv.3) (rows_carried _ r inside)) (rw inv.3 (counts_carried _ r inside))
+          stepped (Carry r) next _ q (w.1 ∙ rw (inv.0, inv.1) (rows_carried _ r inside)) (rw inv.1 (counts_carried _ r inside))
       fill_carried r next q inside (inr w) =
-          let full = rw inv.3 at w.0 in
-          stepped (Carry r) next _ q (w.1 ∙ inv.2 ∙ rows_full _ r inside full) (rw inv.3 (counts_carried _ r inside))
+          let full = rw inv.1 at w.0 in
+          stepped (Carry r) next _ q (w.1 ∙ inv.0 ∙ rows_full _ r inside full) (rw inv.1 (counts_carried _ r inside))

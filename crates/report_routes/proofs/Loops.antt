@@ -6,7 +6,7 @@ use mathlib.Core.Logic.{◌⊎◌, inl, inr, ◌≢◌}
 use mathlib.Core.List.{List, ◌∷◌}
 use Prim.Native.Nat.{ℕ, suc, ◌+◌, ◌-◌, ◌*◌, ◌<◌, ◌≤◌}
 use native.Mathlib.Numerals.{add-one}
-use native.Mathlib.Nat.{add-zero, zero-add, sub-zero}
+use native.Mathlib.Nat.{add-zero}
 use native.Mathlib.Omega.{arith}
 use lib.Dec.{eqb}
 use lib.ListN.{length, get_or, set, drop, drop_of_length-le}
@@ -97,9 +97,6 @@ module _ (f : ℕ → ℕ) (n i sum whole : ℕ) where
 -- what terminal i adds to the load of edge e, by the sets
 abbrev pub part : List ℕ → List ℕ → ℕ → ℕ → ℕ
 part routes demands e i = pick (has_bit (get_or routes i 0) e) (get_or demands i 0) 0
-
-pub load_start : (f : ℕ → ℕ) (n : ℕ) → (0 ≤ 0 * max_flow) × (0 + total f 0 (n - 0) ≡ total f 0 n)
-load_start f n = (omega arith, rw (sub-zero n) (zero-add (total f 0 n)))
 
 -- one terminal more: the sum grows by its demand where its set has e, else it stays
 pub load_turn : (routes demands : List ℕ) (e n i sum next whole : ℕ) (found : Bool) → i < n → found ≡ has_bit (get_or routes i 0) e

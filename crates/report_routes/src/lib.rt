@@ -27,17 +27,10 @@ pub fn fill(
     let blank = [0; Board::MAX_VERTICES];
     let mut rows = [blank; Board::MAX_TERMINALS];
     let mut lengths = [0; Board::MAX_TERMINALS];
-    let mut standing = Board::JOURNAL;
-    if (moves as usize) < Board::JOURNAL {
-        standing = moves as usize;
-    }
-    let mut k: usize = 0;
-    while k < standing {
-        let at = standing - 1 - k;
+    let standing = (moves as usize).min(Board::JOURNAL);
+    for at in (0..standing).rev() {
         let entry = journal::entry_at(words, at);
-        k += 1;
-        let step = entry.step;
-        if let Move::Carry(r) = step {
+        if let Move::Carry(r) = entry.step {
             let i = r.terminal as usize;
             if i < Board::MAX_TERMINALS {
                 let n = lengths[i];
@@ -57,13 +50,11 @@ fn edge_set(edges: &[u32]) -> EdgeSet
     ensures { IsSetOf (set_of result) edges.now }
 {
     let mut set = sets::none();
-    let mut i: usize = 0;
-    while i < edges.len() {
-        let e = edges[i] as usize;
+    for edge in edges {
+        let e = *edge as usize;
         if e < Board::MAX_EDGES {
             set = sets::with(set, true, e);
         }
-        i += 1;
     }
     set
 }
@@ -72,24 +63,18 @@ fn edge_set(edges: &[u32]) -> EdgeSet
 fn row_set(edges: [u32; Board::MAX_VERTICES], count: usize) -> EdgeSet
     ensures { IsSetOf (set_of result) (take count edges) }
 {
-    if count < Board::MAX_VERTICES {
-        edge_set(&edges[..count])
-    } else {
-        edge_set(&edges)
-    }
+    edge_set(&edges[..count.min(Board::MAX_VERTICES)])
 }
 
 // Whether every route has room in its row.
 pub fn routes_fit(counts: &[u32; Board::MAX_TERMINALS], terminals: u32) -> bool
     ensures { result ≡ all (λ i. leb (get_or counts.now i 0) max_vertices) 0 terminals }
 {
-    let mut i: u32 = 0;
-    while i < terminals {
+    for i in 0..terminals {
         let count = lists::at_or(counts, i as usize, 0);
         if (Board::MAX_VERTICES as u32) < count {
             return false;
         }
-        i += 1;
     }
     true
 }
@@ -103,14 +88,10 @@ pub fn edge_sets(
     requires { terminals ≤ max_terminals }
     ensures { RouteSets (sets_of result) counts.now rows.now terminals }
 {
-    let none = sets::none();
-    let mut routes = [none; Board::MAX_TERMINALS];
-    let mut i: usize = 0;
-    while i < terminals as usize {
-        let row = rows[i];
+    let mut routes = [sets::none(); Board::MAX_TERMINALS];
+    for i in 0..terminals as usize {
         let count = lists::at_or(counts, i, 0);
-        routes[i] = row_set(row, count as usize);
-        i += 1;
+        routes[i] = row_set(rows[i], count as usize);
     }
     routes
 }
@@ -126,13 +107,10 @@ pub fn load(
     ensures { result ≡ set_load (sets_of routes.now) demands.now e terminals }
 {
     let mut sum: u32 = 0;
-    let mut i: usize = 0;
-    while i < terminals as usize {
-        let route = routes[i];
-        if sets::has(route, e as usize) {
+    for i in 0..terminals as usize {
+        if sets::has(routes[i], e as usize) {
             sum += demands[i];
         }
-        i += 1;
     }
     sum
 }

@@ -1,13 +1,9 @@
 -- Each terminal that was passed has the set of its route in its place, and the places from there on hold the empty set.
 use mathlib.Core.Path.{◌≡◌}
-use Prim.Native.Nat.{◌-◌, ◌≤◌}
 use lib.ListN.{length}
 use Rattle.board.specs.Limits.{max_terminals}
 use Rattle.report_routes.specs.Inner.{RouteSets}
 use Rattle.report_routes.proofs.edge_sets.Given as goal
 
 abbrev pub invariant-loop-i : goal.invariant-loop-i
-invariant-loop-i l = (length l.routes ≡ max_terminals) × (l.i ≤ l.terminals) × RouteSets l.routes l.counts l.rows l.i
-
-abbrev pub decreases-loop-i : goal.decreases-loop-i
-decreases-loop-i l = l.terminals - l.i
+invariant-loop-i l = (length l.routes ≡ max_terminals) × RouteSets l.routes l.counts l.rows l.i

@@ -9,6 +9,3 @@ use Rattle.report_routes.proofs.load.Given as goal
 abbrev pub invariant-loop-i : goal.invariant-loop-i
 invariant-loop-i l =
     (l.sum ≤ l.i * max_flow) × (l.sum + total (part l.routes l.demands l.e) l.i (l.terminals - l.i) ≡ total (part l.routes l.demands l.e) 0 l.terminals)
-
-abbrev pub decreases-loop-i : goal.decreases-loop-i
-decreases-loop-i l = l.terminals - l.i

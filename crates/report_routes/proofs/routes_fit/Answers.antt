@@ -1,12 +1,8 @@
 -- What is left of the test of every count is the whole test, as long as no count was too great.
 use mathlib.Core.Path.{◌∙◌}
-use native.Mathlib.Nat.{sub-zero}
 use borrow.Author.Tests.{le-leb, lt-leb}
 use Rattle.lists.proofs.Laws.{all_hit, all_miss, all_end}
 use Rattle.report_routes.proofs.routes_fit.Goals as goal
-
-pub loop-i-init : goal.loop-i-init
-loop-i-init c = rw sub-zero
 
 pub returns-then-count : goal.returns-then-count
 returns-then-count c =

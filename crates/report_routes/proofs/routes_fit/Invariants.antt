@@ -10,6 +10,3 @@ use Rattle.report_routes.proofs.routes_fit.Given as goal
 abbrev pub invariant-loop-i : goal.invariant-loop-i
 invariant-loop-i l =
     all (λ j. leb (get_or l.counts j 0) max_vertices) l.i (l.terminals - l.i) ≡ all (λ j. leb (get_or l.counts j 0) max_vertices) 0 l.terminals
-
-abbrev pub decreases-loop-i : goal.decreases-loop-i
-decreases-loop-i l = l.terminals - l.i
