@@ -13,15 +13,14 @@ use sets::EdgeSet;
 // ---- The edges at each vertex, and the positive edges, as sets.
 
 // Adds edge e to the set of vertex v, where there is such a vertex.
+#[tactic(auto, unfolding(lists::specs::Choice::pick))]
 fn join(edges: &mut [EdgeSet], v: u32, e: usize)
     requires { e < set_width }
     ensures { sets_of edges.new ≡
         set (sets_of edges.old) v (with_bit (get_or (sets_of edges.old) v none) e) }
 {
-    let at = v as usize;
-    if at < edges.len() {
-        edges[at] = sets::with(edges[at], true, e);
-    }
+    let joined = sets::with(lists::at_or(edges, v as usize, sets::none()), true, e);
+    lists::put(edges, v as usize, joined);
 }
 
 // For each vertex the set of the edges that have this end there.
@@ -30,10 +29,8 @@ pub fn at_vertices(ends: [u32; Board::MAX_EDGES]) -> [EdgeSet; Board::MAX_VERTIC
 {
     let none = sets::none();
     let mut edges: [EdgeSet; Board::MAX_VERTICES] = [none; Board::MAX_VERTICES];
-    let mut e: usize = 0;
-    while e < Board::MAX_EDGES {
-        join(&mut edges, ends[e], e);
-        e += 1;
+    for (e, v) in ends.iter().enumerate() {
+        join(&mut edges, *v, e);
     }
     edges
 }
@@ -43,10 +40,8 @@ pub fn positive(flows: &[u32; Board::MAX_EDGES]) -> EdgeSet
     ensures { PositiveSet flows.now (set_of result) }
 {
     let mut m = sets::none();
-    let mut e: usize = 0;
-    while e < Board::MAX_EDGES {
-        m = sets::with(m, 0 < flows[e], e);
-        e += 1;
+    for (e, flow) in flows.iter().enumerate() {
+        m = sets::with(m, 0 < *flow, e);
     }
     m
 }
@@ -55,12 +50,7 @@ pub fn positive(flows: &[u32; Board::MAX_EDGES]) -> EdgeSet
 pub fn touching(edges: &[EdgeSet], positive: EdgeSet, v: u32) -> EdgeSet
     ensures { set_of result ≡ touching_by (sets_of edges.now) (set_of positive) v }
 {
-    let at = v as usize;
-    if at < edges.len() {
-        sets::common(edges[at], positive)
-    } else {
-        sets::none()
-    }
+    sets::common(lists::at_or(edges, v as usize, sets::none()), positive)
 }
 
 // ---- Singular edges, and the edges that a turn marks. The edges that leave each vertex and the positive edges are
@@ -117,6 +107,7 @@ pub fn fresh_by<'a>(
     ensures { set_of result ≡ collect (is_fresh_by heads.now (sets_of leaving.now)
         (set_of positive) vertices (set_of marks)) none 0 set_width }
 {
+    // No index is counted here: the numbers come from the set itself, from which each is dropped.
     let mut rest = sets::without(positive, marks);
     let mut m = sets::none();
     while !sets::is_empty(rest) {
