@@ -4,11 +4,12 @@ use mathlib.Core.Path.{◌≡◌, refl, sym, ap, ◌∙◌}
 use mathlib.Core.Bool.{Bool, true, false, true≢false}
 use mathlib.Core.List.{List, []}
 use mathlib.Core.Logic.{◌⊎◌, inl, inr}
+use Rattle.std.specs.Prelude.{Option, Some, None, is_some}
 use Prim.Native.Nat.{ℕ, ◌<◌, ◌≤◌, ◌^◌}
 use native.Mathlib.Omega.{arith}
 use lib.Dec.{ltb, eqb}
 use lib.ListN.{get_or}
-use borrow.Author.Tests.{lt-ltb, le-ltb, eqb-true, leb-true}
+use borrow.Author.Tests.{lt-ltb, le-ltb, ltb-true, ltb-false, eqb-true, leb-true}
 use Rattle.lists.specs.Choice.{pick, both}
 use Rattle.lists.specs.Lists.{lowest}
 use Rattle.lists.proofs.Laws.{Known, was_true, was_false, known, lt_or_ge, pick_yes, pick_no, both_right}
@@ -16,19 +17,18 @@ use Rattle.lists.proofs.Lowest.{lowest_least, lowest_found}
 use Rattle.sets.specs.Sets.{none, has_bit}
 use Rattle.sets.specs.Sets.{common}
 use Rattle.sets.specs.Inner.{set_width, is_empty, dropped, lowest_in}
-use Rattle.sets.proofs.Bits.{has-none}
-use Rattle.sets.proofs.Scan.{has-common, lowest_is, lowest_in_lem, scan_hit, scan_miss, scan_end}
+use Rattle.sets.proofs.Scan.{has-common, has_inside, lowest_is, lowest_in_lem, scan_hit, scan_miss, scan_end}
 use Rattle.move_edges.specs.Singular.{leaves}
 use Rattle.move_edges.specs.Incidence.{touching_by}
 use Rattle.move_edges.proofs.Meeting.{touching_is}
 use Rattle.board.specs.declared.Network.{Network}
 use Rattle.move_carry.specs.Opens.{flow_fits, enters_in, fits_in, is_open_in, open_edge_in, has_open_in, open_terminal_in, some_open_in}
 use Rattle.move_carry.specs.Frames.{frame_of, net_of}
-use Rattle.solve_carry.specs.Search.{marked_open_in, marked_edge_in, chosen_edge_in, open_carry_in}
-use Rattle.solve_carry.specs.Inner.{lowest_fit_by, chosen_by, Searched}
+use Rattle.solve_carry.specs.Search.{Found, found_of, marked_open_in, marked_edge_in, chosen_edge_in, open_carry_in}
+use Rattle.solve_carry.specs.Inner.{lowest_fit_by, chosen_by, fit_of, Searched}
 use Rattle.move_guard.specs.Bounds.{InBounds}
 use Rattle.move_edges.specs.Incidence.{Incident, PositiveSet}
-use Rattle.solve_carry.specs.declared.Found.{Found}
+use Rattle.board.specs.declared.Relocation.{Relocation}
 
 -- a search that goes on past the last number with q finds the same
 module _ (q : ℕ → Bool) (m n : ℕ) (within : m ≤ n) (past : (e : ℕ) → m ≤ e → q e ≡ false) where
@@ -69,17 +69,37 @@ both_off false = refl
 
 -- one turn of the search over a set, and its end
 module _ (flows : List ℕ) (marks demand m e : ℕ) (lowest_one : e ≡ lowest_in m) where
-  pub fit_here : m < 2 ^ set_width → is_empty m ≡ false → flow_fits (has_bit marks e) (get_or flows e 0) demand ≡ true → e ≡ lowest_fit_by flows marks demand m
-  unfolding lowest_fit_by
-  fit_here small some t = sym (scan_hit (λ k. flow_fits (has_bit marks k) (get_or flows k 0) demand) m e lowest_one (lowest_in_lem m e lowest_one small some) t)
+  pub fit_here : m < 2 ^ set_width → is_empty m ≡ false → flow_fits (has_bit marks e) (get_or flows e 0) demand ≡ true → Some e ≡ fit_of (lowest_fit_by flows marks demand m)
+  unfolding lowest_fit_by fit_of
+  fit_here small some t =
+      let has : has_bit m e ≡ true = lowest_in_lem m e lowest_one small some in
+      rw (scan_hit (λ k. flow_fits (has_bit marks k) (get_or flows k 0) demand) m e lowest_one has t) (sym (pick_yes _ _ _ (lt-ltb e set_width (has_inside m e small has))))
 
   pub fit_later : flow_fits (has_bit marks e) (get_or flows e 0) demand ≡ false → lowest_fit_by flows marks demand (dropped m e) ≡ lowest_fit_by flows marks demand m
   unfolding lowest_fit_by
   fit_later t = scan_miss (λ k. flow_fits (has_bit marks k) (get_or flows k 0) demand) m e lowest_one t
 
-  pub fit_none : is_empty m ≡ true → e ≡ lowest_fit_by flows marks demand m
-  unfolding lowest_fit_by
-  fit_none z = lowest_one ∙ rw (eqb-true m none z) (lowest_is (has_bit 0) set_width set_width (omega arith) (λ l. absurd (omega (arith, l))) (λ j l. has-none j) ∙ sym (scan_end (λ k. flow_fits (has_bit marks k) (get_or flows k 0) demand)))
+-- none is left
+pub fit_none : (flows : List ℕ) (marks demand m : ℕ) → is_empty m ≡ true → None ≡ fit_of (lowest_fit_by flows marks demand m)
+unfolding lowest_fit_by fit_of pick
+fit_none flows marks demand m z = rw (eqb-true m none z, scan_end (λ k. flow_fits (has_bit marks k) (get_or flows k 0) demand)) refl
+
+-- an edge is given where it is below the count of a set's numbers
+fit_some : (a e : ℕ) → fit_of a ≡ Some e → ltb a set_width ≡ true
+unfolding fit_of
+fit_some a e h = go (known (ltb a set_width))
+  where
+    go : Known (ltb a set_width) → ltb a set_width ≡ true
+    go (was_true t) = t
+    go (was_false t) = absurd (true≢false (ap is_some (sym h ∙ pick_no _ _ _ t)))
+
+fit_other : (a : ℕ) → fit_of a ≡ None → ltb a set_width ≡ false
+unfolding fit_of
+fit_other a h = go (known (ltb a set_width))
+  where
+    go : Known (ltb a set_width) → ltb a set_width ≡ false
+    go (was_true t) = absurd (true≢false (ap is_some (sym (pick_yes _ _ _ t) ∙ h)))
+    go (was_false t) = t
 
 module _ (net : Network) (entering flows : List ℕ) (positive marks : ℕ) (places : List ℕ) (searched : Searched net entering flows positive places)
     (fits : positive < 2 ^ set_width) (i : ℕ) (below : i < net.terminals) where
@@ -146,62 +166,61 @@ module _ (net : Network) (entering flows : List ℕ) (positive marks : ℕ) (pla
   first_is = ap (λ (p : ℕ → Bool). lowest p 0 set_width) (λ k e. open_at e k)
 
   -- what they find for terminal i: the edge of its carry, or that it has none
-  abbrev pub Finds : ℕ → Type 0
-  Finds e = (e < net.edges → (has_open_in net flows marks places i ≡ true) × (e ≡ chosen_edge_in net flows marks places i))
-      × (net.edges ≤ e → has_open_in net flows marks places i ≡ false)
+  abbrev pub Finds : Option ℕ → Type 0
+  Finds (Some e) = (e < net.edges) × (has_open_in net flows marks places i ≡ true) × (e ≡ chosen_edge_in net flows marks places i)
+  Finds None = has_open_in net flows marks places i ≡ false
 
-  by_marked : marked_first < net.edges → Finds marked_first
+  by_marked : ltb marked_first set_width ≡ true → Finds (Some marked_first)
   unfolding has_open_in open_edge_in chosen_edge_in marked_edge_in marked_open_in
-  by_marked l =
-      let at : lowest marked_opens 0 set_width < set_width = omega (arith, l, marked_is, searched.few) in
+  by_marked t =
+      let at : lowest marked_opens 0 set_width < set_width = omega (arith, ltb-true _ _ t, marked_is) in
       let same = narrow marked_opens net.edges set_width searched.few marked_past at in
       let hit : opens (lowest marked_opens 0 set_width) ≡ true = both_right _ _ ((lowest_least marked_opens 0 set_width).hit at) in
       let found : lowest opens 0 net.edges ≤ lowest marked_opens 0 set_width = lowest_found opens 0 net.edges (lowest marked_opens 0 set_width) (omega arith) hit in
       let inside : lowest marked_opens 0 net.edges < net.edges = omega (arith, same.0, same.1) in (
-        λ h. (lt-ltb (lowest opens 0 net.edges) net.edges (omega (arith, found, same.1)), marked_is ∙ sym same.0 ∙ sym (pick_yes _ _ _ (lt-ltb _ _ inside))),
-        λ h. absurd (omega (arith, h, l)),
+        omega (arith, marked_is, same.1),
+        lt-ltb (lowest opens 0 net.edges) net.edges (omega (arith, found, same.1)),
+        marked_is ∙ sym same.0 ∙ sym (pick_yes _ _ _ (lt-ltb _ _ inside)),
       )
 
-  by_lowest : net.edges ≤ marked_first → Finds first
-  unfolding has_open_in open_edge_in chosen_edge_in marked_edge_in
-  by_lowest l =
-      let none : net.edges ≤ lowest marked_opens 0 net.edges = missing marked_opens marked_past (omega (arith, l, marked_is)) in (
-        λ h.
-            let at : lowest opens 0 set_width < set_width = omega (arith, h, first_is, searched.few) in
-            let same = narrow opens net.edges set_width searched.few open_past at in
-            (lt-ltb (lowest opens 0 net.edges) net.edges (omega (arith, same.0, same.1)), first_is ∙ sym same.0 ∙ sym (pick_no _ _ _ (le-ltb _ _ none))),
-        λ h. le-ltb _ _ (missing opens open_past (omega (arith, h, first_is))),
-      )
+  by_lowest : ltb marked_first set_width ≡ false → Finds (fit_of first)
+  unfolding has_open_in open_edge_in chosen_edge_in marked_edge_in fit_of
+  by_lowest t = go (known (ltb first set_width))
     where
-      -- a search of all places of a set that ends past the edges has found nothing
-      missing : (q : ℕ → Bool) → ((e : ℕ) → net.edges ≤ e → q e ≡ false) → net.edges ≤ lowest q 0 set_width → net.edges ≤ lowest q 0 net.edges
-      missing q past h = go (lt_or_ge (lowest q 0 set_width) set_width)
-        where
-          go : (lowest q 0 set_width < set_width) ⊎ (set_width ≤ lowest q 0 set_width) → net.edges ≤ lowest q 0 net.edges
-          go (inl k) = let same = narrow q net.edges set_width searched.few past k in absurd (omega (arith, h, same.1))
-          go (inr k) = narrow_none q net.edges set_width searched.few past k
+      none_marked : net.edges ≤ lowest marked_opens 0 net.edges
+      none_marked = narrow_none marked_opens net.edges set_width searched.few marked_past (omega (arith, ltb-false _ _ t, marked_is))
 
-  finds : Finds (chosen_by flows marks net.edges demand into)
-  unfolding chosen_by
-  finds = go (lt_or_ge marked_first net.edges)
+      go : Known (ltb first set_width) → Finds (fit_of first)
+      go (was_true u) =
+          let at : lowest opens 0 set_width < set_width = omega (arith, ltb-true _ _ u, first_is) in
+          let same = narrow opens net.edges set_width searched.few open_past at in
+          rw (pick_yes _ (Some first) None u)
+          (omega (arith, first_is, same.1), lt-ltb (lowest opens 0 net.edges) net.edges (omega (arith, same.0, same.1)), first_is ∙ sym same.0 ∙ sym (pick_no _ _ _ (le-ltb _ _ none_marked)))
+      go (was_false u) =
+          rw (pick_no _ (Some first) None u)
+          (le-ltb _ _ (narrow_none opens net.edges set_width searched.few open_past (omega (arith, ltb-false _ _ u, first_is))))
+
+  finds : Finds (fit_of (chosen_by flows marks set_width demand into))
+  unfolding chosen_by fit_of
+  finds = go (known (ltb marked_first set_width))
     where
-      go : (marked_first < net.edges) ⊎ (net.edges ≤ marked_first) → Finds (chosen_by flows marks net.edges demand into)
-      go (inl l) = rw (pick_yes (ltb marked_first net.edges) marked_first first (lt-ltb marked_first net.edges l)) (by_marked l)
-      go (inr l) = rw (pick_no (ltb marked_first net.edges) marked_first first (le-ltb marked_first net.edges l)) (by_lowest l)
+      go : Known (ltb marked_first set_width) → Finds (fit_of (chosen_by flows marks set_width demand into))
+      go (was_true t) = rw (pick_yes (ltb marked_first set_width) marked_first first t, pick_yes (ltb marked_first set_width) (Some marked_first) None t) (by_marked t)
+      go (was_false t) = rw (pick_no (ltb marked_first set_width) marked_first first t) (by_lowest t)
 
   -- in the code's shape: the place, the demand, the set and the edge by the code's names
-  pub finds_edge : (v d m e : ℕ) → v ≡ place → d ≡ demand → m ≡ touching_by entering positive v → e ≡ chosen_by flows marks net.edges d m → Finds e
-  finds_edge v d m e at needs set is = rw (is, set, needs, at) finds
+  pub finds_edge : (v d m : ℕ) (r : Option ℕ) → v ≡ place → d ≡ demand → m ≡ touching_by entering positive v → r ≡ fit_of (chosen_by flows marks set_width d m) → Finds r
+  finds_edge v d m r at needs set is = rw (is, set, needs, at) finds
 
 -- the edge chosen of a set, in the code's shape
-module _ (flows : List ℕ) (marks edges demand set marked e : ℕ) (is_marked : marked ≡ common set marks) (is : e ≡ lowest_fit_by flows marks demand marked) where
-  pub chosen_marked : e < edges → e ≡ chosen_by flows marks edges demand set
+module _ (flows : List ℕ) (marks demand set marked : ℕ) (r : Option ℕ) (is_marked : marked ≡ common set marks) (is : r ≡ fit_of (lowest_fit_by flows marks demand marked)) where
+  pub chosen_marked : (e : ℕ) → r ≡ Some e → Some e ≡ fit_of (chosen_by flows marks set_width demand set)
   unfolding chosen_by
-  chosen_marked h = rw (← is_marked, ← is) (sym (pick_yes _ _ _ (lt-ltb e edges h)))
+  chosen_marked e h = rw (← is_marked) (sym h ∙ is ∙ ap fit_of (sym (pick_yes _ _ _ (fit_some _ e (sym is ∙ h)))))
 
-  pub chosen_other : edges ≤ e → lowest_fit_by flows marks demand set ≡ chosen_by flows marks edges demand set
+  pub chosen_other : r ≡ None → fit_of (lowest_fit_by flows marks demand set) ≡ fit_of (chosen_by flows marks set_width demand set)
   unfolding chosen_by
-  chosen_other h = rw (← is_marked, ← is) (sym (pick_no _ _ _ (le-ltb e edges h)))
+  chosen_other h = rw (← is_marked) (ap fit_of (sym (pick_no _ _ _ (fit_other _ (sym is ∙ h)))))
 
 -- what was found, by its parts
 module _ (net : Network) (flows : List ℕ) (marks : ℕ) (places : List ℕ) where
@@ -211,39 +230,55 @@ module _ (net : Network) (flows : List ℕ) (marks : ℕ) (places : List ℕ) wh
   abbrev chosen_at : ℕ → ℕ
   chosen_at i = chosen_edge_in net flows marks places i
 
-  pub found_carry : (i e : ℕ) → i ≡ first_open → i < net.terminals → e ≡ chosen_at i → record { terminal = i; edge = e } ≡ open_carry_in net flows marks places
-  unfolding open_carry_in some_open_in
-  found_carry i e p h q =
-      let edge : e ≡ pick (ltb first_open net.terminals) (chosen_at first_open) net.edges =
-      q ∙ ap chosen_at p ∙ sym (pick_yes _ (chosen_at first_open) net.edges (lt-ltb first_open net.terminals (rw p at h))) in
-      λ t. record { terminal = p t; edge = edge t }
-
-  pub found_no_carry : (i : ℕ) → i ≡ first_open → net.terminals ≤ i → record { terminal = i; edge = net.edges } ≡ open_carry_in net flows marks places
-  unfolding open_carry_in some_open_in
-  found_no_carry i p h =
-      let edge : net.edges ≡ pick (ltb first_open net.terminals) (chosen_at first_open) net.edges =
-      sym (pick_no _ (chosen_at first_open) net.edges (le-ltb first_open net.terminals (rw p at h))) in
-      λ t. record { terminal = p t; edge = edge t }
-
-  module _ (r : Found) (e : r ≡ open_carry_in net flows marks places) where
-    pub found_terminal : r.terminal ≡ first_open
-    unfolding open_carry_in
-    found_terminal = ap (λ (f : Found). f.terminal) e
-
-    -- its terminal is below the count exactly where some carry is open
-    pub found_some : ltb r.terminal net.terminals ≡ some_open_in net flows marks places
+  -- the first terminal with an open carry, and that there is none
+  module _ (i : ℕ) (p : i ≡ first_open) where
+    some_yes : i < net.terminals → some_open_in net flows marks places ≡ true
     unfolding some_open_in
-    found_some = ap (λ (i : ℕ). ltb i net.terminals) found_terminal
+    some_yes h = lt-ltb first_open net.terminals (rw p at h)
 
-    pub found_edge : r.terminal < net.terminals → r.edge ≡ chosen_at r.terminal
+    some_no : net.terminals ≤ i → some_open_in net flows marks places ≡ false
+    unfolding some_open_in
+    some_no h = le-ltb first_open net.terminals (rw p at h)
+
+    pub found_carry : (e : ℕ) → i < net.terminals → e ≡ chosen_at i
+        → (record { terminal = i; edge = e } ≡ open_carry_in net flows marks places) × (true ≡ some_open_in net flows marks places)
     unfolding open_carry_in
-    found_edge h = ap (λ (f : Found). f.edge) e ∙ pick_yes _ _ _ (sym found_some ∙ lt-ltb _ _ h) ∙ ap chosen_at (sym found_terminal)
+    found_carry e h q =
+        let edge : e ≡ pick (some_open_in net flows marks places) (chosen_at first_open) net.edges =
+        q ∙ ap chosen_at p ∙ sym (pick_yes _ (chosen_at first_open) net.edges (some_yes h)) in
+        (λ t. record { terminal = p t; edge = edge t }, sym (some_yes h))
+
+    pub found_no_carry : net.terminals ≤ i → i ≤ net.terminals
+        → (record { terminal = net.terminals; edge = net.edges } ≡ open_carry_in net flows marks places) × (false ≡ some_open_in net flows marks places)
+    unfolding open_carry_in
+    found_no_carry h l =
+        let all : net.terminals ≡ i = omega arith in
+        let edge : net.edges ≡ pick (some_open_in net flows marks places) (chosen_at first_open) net.edges =
+        sym (pick_no _ (chosen_at first_open) net.edges (some_no h)) in
+        (λ t. record { terminal = (all ∙ p) t; edge = edge t }, sym (some_no h))
+
+  -- a carry that the code has found, or none
+  module _ (r : Option Relocation) (e : found_of net.terminals net.edges r ≡ open_carry_in net flows marks places) (some : is_some r ≡ some_open_in net flows marks places) where
+    pub open_found : (c : Relocation) → r ≡ Some c → (some_open_in net flows marks places ≡ true) × (c.terminal ≡ first_open) × (c.edge ≡ chosen_at first_open)
+    unfolding open_carry_in
+    open_found c h =
+        let yes : some_open_in net flows marks places ≡ true = sym some ∙ ap is_some h in
+        let is : record { terminal = c.terminal; edge = c.edge } ≡ open_carry_in net flows marks places = ap (found_of net.terminals net.edges) (sym h) ∙ e in
+        (yes, ap (λ (f : Found). f.terminal) is, ap (λ (f : Found). f.edge) is ∙ pick_yes _ _ _ yes)
+
+    pub none_found : r ≡ None → some_open_in net flows marks places ≡ false
+    none_found h = sym some ∙ ap is_some h
 
 -- no search looks at the tails, the text's flows or the homes
 pub open_carry_bare : (net : Network) (flows : List ℕ) (marks positive : ℕ) (places : List ℕ)
     → open_carry_in (net_of (frame_of net marks positive 0) [] net.heads net.demands) flows marks places ≡ open_carry_in net flows marks places
 unfolding open_carry_in chosen_edge_in marked_edge_in marked_open_in some_open_in open_terminal_in has_open_in open_edge_in is_open_in enters_in
 open_carry_bare net flows marks positive places = refl
+
+pub some_open_bare : (net : Network) (flows : List ℕ) (marks positive : ℕ) (places : List ℕ)
+    → some_open_in (net_of (frame_of net marks positive 0) [] net.heads net.demands) flows marks places ≡ some_open_in net flows marks places
+unfolding some_open_in open_terminal_in has_open_in open_edge_in is_open_in enters_in
+some_open_bare net flows marks positive places = refl
 
 -- what the search leans on holds of the parts of a board in play
 pub bounds_searched : (net : Network) (flows places entering : List ℕ) (marks positive : ℕ) → InBounds net flows places → Incident net.heads entering → PositiveSet flows positive

@@ -1,5 +1,5 @@
 -- For inner contracts only: the search for an open carry by sets of edges, as the code makes it, and what it leans on.
-use Rattle.std.specs.Prelude.{◌≡◌, false, List, ℕ, ◌<◌, ◌≤◌, ltb, length, get_or}
+use Rattle.std.specs.Prelude.{◌≡◌, false, List, ℕ, Option, Some, None, ◌<◌, ◌≤◌, ltb, length, get_or}
 use Rattle.lists.specs.Choice.{pick, both}
 use Rattle.lists.specs.Lists.{lowest}
 use Rattle.sets.specs.Sets.{has_bit, common}
@@ -17,6 +17,10 @@ lowest_fit_by flows marks demand set = lowest (λ e. both (has_bit set e) (flow_
 unfoldable pub chosen_by : List ℕ → ℕ → ℕ → ℕ → ℕ → ℕ
 chosen_by flows marks edges demand set =
     pick (ltb (lowest_fit_by flows marks demand (common set marks)) edges) (lowest_fit_by flows marks demand (common set marks)) (lowest_fit_by flows marks demand set)
+
+-- an edge that such a search gives, or none: no set has more numbers
+unfoldable pub fit_of : ℕ → Option ℕ
+fit_of e = pick (ltb e set_width) (Some e) None
 
 -- what the search leans on: the sets are those of the lists, each terminal is at a vertex and needs something, and the places past the edges hold no flow
 pub record Searched (net : Network) (entering flows : List ℕ) (positive : ℕ) (places : List ℕ) : Type 0 where

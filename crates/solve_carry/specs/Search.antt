@@ -1,13 +1,23 @@
 -- The open carry that the solver makes: document 01, "Finish". A name that ends in In is said of the parts of a board: its network, flows, marks and places; the name
 -- without it of the board.
-use Rattle.std.specs.Prelude.{Bool, List, ℕ, ltb}
+use Rattle.std.specs.Prelude.{Bool, List, ℕ, Option, Some, None, ltb}
 use Rattle.lists.specs.Choice.{pick, both}
 use Rattle.lists.specs.Lists.{lowest}
 use Rattle.sets.specs.Sets.{has_bit}
 use Rattle.board.specs.Whole.{Board}
 use Rattle.board.specs.declared.Network.{Network}
 use Rattle.move_carry.specs.Opens.{is_open_in, open_edge_in, open_terminal_in, some_open_in}
-use Rattle.solve_carry.specs.declared.Found.{Found}
+use Rattle.board.specs.declared.Relocation as code-relocation
+
+-- a mill and the channel of its carry; the counts of mills and of channels where no carry is open
+pub record Found : Type 0 where
+  pub terminal : ℕ
+  pub edge : ℕ
+
+-- what the code found, by the counts of mills and of channels
+abbrev pub found_of : ℕ → ℕ → Option code-relocation.Relocation → Found
+found_of terminals edges (Some r) = record { terminal = r.terminal; edge = r.edge }
+found_of terminals edges None = record { terminal = terminals; edge = edges }
 
 module _ (net : Network) (flows : List ℕ) (marks : ℕ) (places : List ℕ) where
   -- "of its open carries, marked channels first, then lowest channel"

@@ -3,8 +3,8 @@ use mathlib.Core.Path.{◌∙◌}
 use Rattle.solve_carry.proofs.Finds.{chosen_marked, chosen_other}
 use Rattle.solve_carry.proofs.chosen.Goals as goal
 
-pub returns-then-e-edges : goal.returns-then-e-edges
-returns-then-e-edges c = chosen_marked _ _ _ _ _ _ _ c.common-marked.ensures c.lowest_fit-e.ensures c.if-e-edges.true
+pub returns-in-Some : goal.returns-in-Some
+returns-in-Some c = chosen_marked _ _ _ _ _ _ c.common-marked.ensures c.lowest_fit.ensures _ c.in-Some.is
 
 pub returns : goal.returns
-returns c = c.lowest_fit.ensures ∙ chosen_other _ _ _ _ _ _ _ c.common-marked.ensures c.lowest_fit-e.ensures c.if-e-edges.false
+returns c = c.lowest_fit-2.ensures ∙ chosen_other _ _ _ _ _ _ c.common-marked.ensures c.lowest_fit.ensures c.in_default.is

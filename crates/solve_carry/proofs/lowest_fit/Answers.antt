@@ -1,10 +1,11 @@
 -- What is left of the set has the lowest edge that fits, as long as no edge passed.
-use mathlib.Core.Path.{◌≡◌, refl, sym, ◌∙◌}
+use mathlib.Core.Path.{◌≡◌, refl, sym, ap, ◌∙◌}
 use mathlib.Core.Bool.{false}
 use native.Mathlib.Omega.{arith}
 use borrow.Author.Rules.{rules}
 use Rattle.sets.specs.Inner.{is_empty}
 use Rattle.sets.proofs.Scan.{lowest_in_lem, dropped_less}
+use Rattle.solve_carry.specs.Inner.{fit_of}
 use Rattle.solve_carry.proofs.Finds.{fit_here, fit_later, fit_none}
 use Rattle.solve_carry.proofs.lowest_fit.Lts as lts
 use Rattle.solve_carry.proofs.lowest_fit.Tie as tie
@@ -24,7 +25,7 @@ loop-e-init c = (search rules, refl)
 pub returns-then-fits : goal.returns-then-fits
 returns-then-fits c =
     let inv = c.loop-e.invariant in
-    fit_here _ _ _ _ _ c.lowest-e.ensures inv.0 (some c.before.before.before) (sym c.fits.ensures ∙ c.if-fits.true) ∙ inv.1
+    fit_here _ _ _ _ _ c.lowest-e.ensures inv.0 (some c.before.before.before) (sym c.fits.ensures ∙ c.if-fits.true) ∙ ap fit_of inv.1
 
 pub loop-e-smaller : goal.loop-e-smaller
 loop-e-smaller c =
@@ -40,4 +41,4 @@ loop-e-preserved c =
 
 pub returns : goal.returns
 returns c =
-    fit_none _ _ _ _ _ c.lowest.ensures (sym c.is_empty.ensures ∙ c.loop-e-test.false) ∙ c.loop-e.invariant.1
+    fit_none _ _ _ _ (sym c.is_empty.ensures ∙ c.loop-e-test.false) ∙ ap fit_of c.loop-e.invariant.1

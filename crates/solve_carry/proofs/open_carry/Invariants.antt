@@ -9,7 +9,4 @@ use Rattle.solve_carry.proofs.open_carry.Given as goal
 
 abbrev pub invariant-loop-i : goal.invariant-loop-i
 invariant-loop-i l =
-    lowest (has_open_in (net_of l.frame [] l.heads l.demands) l.flows l.frame.marks l.places) l.i (l.terminals - l.i) ≡ open_terminal_in (net_of l.frame [] l.heads l.demands) l.flows l.frame.marks l.places
-
-abbrev pub decreases-loop-i : goal.decreases-loop-i
-decreases-loop-i l = l.terminals - l.i
+    lowest (has_open_in (net_of l.frame [] l.heads l.demands) l.flows l.frame.marks l.places) l.i (l.frame.terminals - l.i) ≡ open_terminal_in (net_of l.frame [] l.heads l.demands) l.flows l.frame.marks l.places
