@@ -1,1 +1,3 @@
 pub mod Sums
+pub mod Every
+pub mod Refused

@@ -1,30 +1,23 @@
 -- The sums of all keys at once: a value that is added at its key adds, to the sum at each place, what it adds to the sum of that place's key.
 -- So after all values the sum at v has grown by `sum_at keys values v`.
-use mathlib.Core.Path.{◌≡◌, refl, sym, ap, ap₂, ◌∙◌}
-use mathlib.Core.Bool.{Bool, true, false, not}
+use mathlib.Core.Path.{◌≡◌, refl, sym, ap₂, ◌∙◌}
+use mathlib.Core.Bool.{Bool}
 use mathlib.Core.List.{List, [], ◌∷◌}
 use mathlib.Core.Logic.{⊎_elim, ◌≢◌}
 use Prim.Native.Nat.{ℕ, zero, suc, ◌+◌, ◌*◌, ◌<◌, ◌≤◌}
 use native.Mathlib.Nat.{add-zero}
 use native.Mathlib.Omega.{arith}
 use lib.Dec.{eqb}
-use lib.ListN.{length, get_or, set, drop, replicate, length-replicate}
+use lib.ListN.{length, get_or, set, replicate, length-replicate}
 use lib.Seq.{get_or-set_same, get_or-set_other}
 use borrow.Author.Tests.{eq-eqb, ne_eqb}
 use Rattle.lists.specs.Choice.{either}
 use Rattle.lists.specs.Lists.{all, keyed, sum_at}
-use Rattle.lists.proofs.Laws.{eq_or_ne, all_same, sum_turn, zeros_at}
+use Rattle.lists.proofs.Laws.{eq_or_ne, all_same, zeros_at}
 use Rattle.board.specs.Limits.{max_vertices}
 use Rattle.board.specs.declared.Network.{Network}
 use Rattle.text_rules.specs.Sound.{inflow, outflow, demand_at}
 use Rattle.text_rules.specs.Rules.{balanced_in, balanced}
-
--- a test for equality, negated
-pub same_not : (a b : ℕ) → a ≡ b → not (eqb a b) ≡ false
-same_not a b e = rw (eq-eqb a b e)
-
-pub other_not : (a b : ℕ) → (a ≡ b → ⊥) → not (eqb a b) ≡ true
-other_not a b h = rw (ne_eqb a b h)
 
 -- a value y added at k
 pub stored_keyed : (s : List ℕ) (k y v : ℕ) → v < length s → get_or (set s k (get_or s k 0 + y)) v 0 ≡ get_or s v 0 + keyed k v y
@@ -44,13 +37,17 @@ stored_most (x ∷ s) zero y (suc v) = omega arith
 stored_most (x ∷ s) (suc k) y zero = omega arith
 stored_most (x ∷ s) (suc k) y (suc v) = stored_most s k y v
 
--- one more value, at i
-pub keyed_turn : (ks xs s r : List ℕ) (i k y v total : ℕ) → i < length ks → length ks ≡ length xs → k ≡ get_or ks i 0 → y ≡ get_or xs i 0
-    → r ≡ set s k (get_or s k 0 + y) → v < length s → get_or s v 0 + sum_at (drop i ks) (drop i xs) v ≡ total
-    → get_or r v 0 + sum_at (drop (i + 1) ks) (drop (i + 1) xs) v ≡ total
-keyed_turn ks xs s r i k y v total h size ek ey er less inv =
-    let grown : get_or r v 0 ≡ get_or s v 0 + keyed k v y = ap (λ (l : List ℕ). get_or l v 0) er ∙ stored_keyed s k y v less in
-    rw grown (sum_turn ks xs v i (get_or s v 0) total (keyed k v y) h size (ap₂ (λ (a b : ℕ). keyed a v b) ek ey) inv)
+-- one more value, of those that are left
+pub keyed_turn : (ks xs s r : List ℕ) (k y v total : ℕ) → r ≡ set s k (get_or s k 0 + y) → v < length s → get_or s v 0 + sum_at (k ∷ ks) (y ∷ xs) v ≡ total
+    → get_or r v 0 + sum_at ks xs v ≡ total
+unfolding sum_at
+keyed_turn ks xs s r k y v total er less inv = rw (er, stored_keyed s k y v less) (omega (arith, inv))
+
+-- no value is left
+pub none_left : (ks xs : List ℕ) (v sum total : ℕ) → length ks ≡ 0 → sum + sum_at ks xs v ≡ total → sum ≡ total
+unfolding sum_at
+none_left [] xs v sum total e inv = omega (arith, inv)
+none_left (k ∷ ks) xs v sum total e inv = absurd (omega arith)
 
 -- sums that values were added to once, from nothing, are within the bound
 pub nothing_most : (v : ℕ) → get_or (replicate max_vertices 0) v 0 ≤ 4294967296 * 65536

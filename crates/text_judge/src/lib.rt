@@ -4,12 +4,11 @@
 ghost use Rattle.std.specs.Prelude.{◌≡◌, true, ℕ, ◌+◌, ◌*◌, ◌≤◌, ◌<◌, leb, length, get_or, set};
 ghost use Rattle.lists.specs.Choice.{both};
 ghost use Rattle.lists.specs.Lists.{all, sum_at};
+ghost use Rattle.refusals.specs.Refusals.{answer_of};
 ghost use Rattle.board.specs.Limits.{max_vertices};
 ghost use Rattle.text_rules.specs.Rules.{
-  no_loop_in,
-  away_from_source_in,
-  balanced_in,
-  keeps,
+  no_loop,
+  away_from_source,
   balanced,
   judged,
   counts_fit_in,
@@ -18,54 +17,21 @@ ghost use Rattle.text_rules.specs.Rules.{
 };
 
 use board::{Board, Network};
-use text_rules::Rule;
+use refusals::Refusal;
 
-// Whether the first n places keep a rule.
-fn all_keep(rule: Rule, net: Network, n: u32) -> bool
-    ensures { result ≡ all (keeps rule net) 0 n }
+// Whether no edge of a network is a loop.
+fn all_differ(net: Network) -> bool
+    ensures { result ≡ all (no_loop net) 0 net.edges }
 {
-    let mut i: u32 = 0;
-    while i < n {
-        if !text_rules::keeps(rule, net, i) {
-            return false;
-        }
-        i += 1;
-    }
-    true
+    (0..net.edges).all(|i| lists::at_or(&net.tails, i as usize, 0)
+        != lists::at_or(&net.heads, i as usize, 0))
 }
 
-// Whether no edge of the first n is a loop.
-fn all_differ<'a>(tails: &'a [u32], heads: &'a [u32], n: u32) -> bool
-    ensures { result ≡ all (no_loop_in tails.now heads.now) 0 n }
+// Whether no terminal of a network is at its source.
+fn all_away(net: Network) -> bool
+    ensures { result ≡ all (away_from_source net) 0 net.terminals }
 {
-    let mut i: u32 = 0;
-    while i < n {
-        if lists::at_or(tails, i as usize, 0) == lists::at_or(heads, i as usize, 0) {
-            return false;
-        }
-        i += 1;
-    }
-    true
-}
-
-// Whether none of the first n terminals is at the source.
-fn all_away(homes: &[u32], source: u32, n: u32) -> bool
-    ensures { result ≡ all (away_from_source_in homes.now source) 0 n }
-{
-    let mut j: u32 = 0;
-    while j < n {
-        if lists::at_or(homes, j as usize, 0) == source {
-            return false;
-        }
-        j += 1;
-    }
-    true
-}
-
-fn wide(x: u32) -> u64
-    ensures { (result ≡ x) × (result < 4294967296) }
-{
-    x as u64
+    (0..net.terminals).all(|j| lists::at_or(&net.homes, j as usize, 0) != net.source)
 }
 
 // Adds x to the sum at k, and nothing past the end.
@@ -86,30 +52,9 @@ fn add_keyed<'a>(keys: &'a [u32], values: &'a [u32], sums: &mut [u64])
         get_or sums.old v 0 + sum_at keys.now values.now v }
     ensures by_index_3 { (v : ℕ) → get_or sums.new v 0 ≤ get_or sums.old v 0 + 4294967296 * 65536 }
 {
-    let mut i: usize = 0;
-    while i < keys.len() {
-        let k = keys[i] as usize;
-        let x = wide(values[i]);
-        add_at(sums, k, x);
-        i += 1;
+    for (k, x) in keys.iter().zip(values) {
+        add_at(sums, *k as usize, u64::from(*x));
     }
-}
-
-// Whether the two sums of each of the first n vertices are equal, but for those of the source.
-fn all_even<'a>(enters: &'a [u64], leaves: &'a [u64], source: u32, n: u32) -> bool
-    requires { (n ≤ length enters.now) × (n ≤ length leaves.now) }
-    ensures { result ≡ all (balanced_in (λ v. get_or enters.now v 0) (λ v. get_or leaves.now v 0)
-        source) 0 n }
-{
-    let mut v: u32 = 0;
-    while v < n {
-        let even = enters[v as usize] == leaves[v as usize];
-        if !lists::or(v == source, even) {
-            return false;
-        }
-        v += 1;
-    }
-    true
 }
 
 // Whether each vertex but the source balances, by the sums of all vertices at once.
@@ -122,30 +67,35 @@ fn all_balanced(net: Network) -> bool
     add_keyed(&net.heads, &net.flows, &mut inflow);
     add_keyed(&net.tails, &net.flows, &mut outflow);
     add_keyed(&net.homes, &net.demands, &mut outflow);
-    all_even(&inflow, &outflow, net.source, net.vertices)
+    (0..net.vertices).all(|v| {
+        let even = lists::at_or(&inflow, v as usize, 0) == lists::at_or(&outflow, v as usize, 0);
+        lists::or(v == net.source, even)
+    })
 }
 
-// 3, 4 or 5, in this order, each over the whole network; 0 where it keeps the rules. The counts are tested before.
-pub fn judged(net: Network) -> u32
+// The first of the three rules that is broken, each over the whole network. The counts are tested before.
+#[tactic(auto, unfolding(text_rules::specs::Rules::judged, lists::specs::Choice::pick))]
+pub fn judged(net: Network) -> Result<(), Refusal>
     requires { counts_fit net ≡ true }
-    ensures { result ≡ judged net }
+    ensures { answer_of result ≡ judged net }
 {
-    if !all_differ(&net.tails, &net.heads, net.edges) {
-        return 3;
+    if !all_differ(net) {
+        return Err(Refusal::EdgeIsLoop);
     }
-    if !all_away(&net.homes, net.source, net.terminals) {
-        return 4;
+    if !all_away(net) {
+        return Err(Refusal::TerminalAtSource);
     }
     if !all_balanced(net) {
-        return 5;
+        return Err(Refusal::Unbalanced);
     }
-    0
+    Ok(())
 }
 
+#[tactic(auto, unfolding(lists::specs::Choice::both))]
 fn between(low: u32, n: u32, high: u32) -> bool
     ensures { result ≡ both (leb low n) (leb n high) }
 {
-    lists::and(low <= n, n <= high)
+    (low..=high).contains(&n)
 }
 
 // Whether the counts and the source are in their ranges.
@@ -176,8 +126,7 @@ pub fn lawful(net: Network) -> bool
     if !counts_fit(net) {
         return false;
     }
-    let edges = all_keep(Rule::EdgeFits, net, Board::MAX_EDGES as u32);
-    let terminals = all_keep(Rule::TerminalFits, net, Board::MAX_TERMINALS as u32);
-    let answer = judged(net);
-    lists::and(edges, lists::and(terminals, answer == 0))
+    let edges = (0..Board::MAX_EDGES as u32).all(|i| text_rules::edge_fits(net, i));
+    let terminals = (0..Board::MAX_TERMINALS as u32).all(|j| text_rules::terminal_fits(net, j));
+    lists::and(edges, lists::and(terminals, judged(net).is_ok()))
 }

@@ -5,8 +5,6 @@ use Rattle.lists.specs.Lists.{all, sum_at}
 use Rattle.board.specs.Limits.{max_vertices, max_edges, max_terminals, max_flow}
 use Rattle.board.specs.declared.Network.{Network}
 use Rattle.text_rules.specs.Sound.{inflow, outflow, demand_at, Sound, Balanced}
-use Rattle.text_rules.specs.declared.Rule.{Rule}
-use Rattle.text_rules.specs.declared.Rule.TheVariants.{EdgeFits, TerminalFits}
 
 -- 3: a channel's tail is its head; by the tails and the heads, and of a network
 abbrev pub no_loop_in : List ℕ → List ℕ → ℕ → Bool
@@ -47,11 +45,6 @@ terminal_numbers_fit is_terminal home demand vertices =
 -- the same at place j of a network
 abbrev pub terminal_fits : Network → ℕ → Bool
 terminal_fits net j = terminal_numbers_fit (ltb j net.terminals) (get_or net.homes j 0) (get_or net.demands j 0) net.vertices
-
--- each rule that the code tests place by place, at one place
-abbrev pub keeps : Rule → Network → ℕ → Bool
-keeps EdgeFits net i = edge_fits net i
-keeps TerminalFits net j = terminal_fits net j
 
 -- 3, 4 or 5, in this order, each over the whole network; 0 where it keeps the rules
 unfoldable pub judged : Network → ℕ

@@ -7,19 +7,12 @@ ghost use Rattle.text_rules.specs.Rules.{
   terminal_numbers_fit,
   edge_fits,
   terminal_fits,
-  keeps,
 };
 
 use board::{Board, Network};
 
-// The rules that a network is tested for one place after the other.
-#[derive(Clone, Copy)]
-pub enum Rule {
-    EdgeFits,
-    TerminalFits,
-}
-
 // Whether the numbers of a place are those of an edge, or all 0 where the place is past the edges.
+#[tactic(auto, unfolding(lists::specs::Choice::pick))]
 pub fn edge_numbers_fit(is_edge: bool, tail: u32, head: u32, flow: u32, vertices: u32) -> bool
     ensures { result ≡ edge_numbers_fit is_edge tail head flow vertices }
 {
@@ -33,7 +26,8 @@ pub fn edge_numbers_fit(is_edge: bool, tail: u32, head: u32, flow: u32, vertices
     }
 }
 
-fn edge_fits(net: Network, i: u32) -> bool
+// The same of the numbers at place i of a network.
+pub fn edge_fits(net: Network, i: u32) -> bool
     ensures { result ≡ edge_fits net i }
 {
     let tail = lists::at_or(&net.tails, i as usize, 0);
@@ -43,6 +37,7 @@ fn edge_fits(net: Network, i: u32) -> bool
 }
 
 // Whether the numbers of a place are those of a terminal, or both 0 where the place is past the terminals.
+#[tactic(auto, unfolding(lists::specs::Choice::pick))]
 pub fn terminal_numbers_fit(is_terminal: bool, home: u32, demand: u32, vertices: u32) -> bool
     ensures { result ≡ terminal_numbers_fit is_terminal home demand vertices }
 {
@@ -56,19 +51,11 @@ pub fn terminal_numbers_fit(is_terminal: bool, home: u32, demand: u32, vertices:
     }
 }
 
-fn terminal_fits(net: Network, j: u32) -> bool
+// The same of the numbers at place j of a network.
+pub fn terminal_fits(net: Network, j: u32) -> bool
     ensures { result ≡ terminal_fits net j }
 {
     let home = lists::at_or(&net.homes, j as usize, 0);
     let demand = lists::at_or(&net.demands, j as usize, 0);
     terminal_numbers_fit(j < net.terminals, home, demand, net.vertices)
-}
-
-pub fn keeps(rule: Rule, net: Network, i: u32) -> bool
-    ensures { result ≡ keeps rule net i }
-{
-    match rule {
-        Rule::EdgeFits => edge_fits(net, i),
-        Rule::TerminalFits => terminal_fits(net, i),
-    }
 }

@@ -2,7 +2,9 @@
 use mathlib.Core.Path.{◌∙◌}
 use Rattle.board.specs.Limits.{max_vertices}
 use Rattle.text_judge.proofs.Sums.{all-balanced, nothing_most, added_most}
-use borrow.Author.Rules.{rules}
+use Rattle.std.proofs.Common.{rules}
+use borrow.Author.Tests.{tests}
+use Rattle.text_judge.proofs.Every.{all_below}
 use Rattle.text_judge.proofs.all_balanced.Goals as goal
 
 pub add_keyed-requires : goal.add_keyed-requires
@@ -26,6 +28,6 @@ add_keyed-requires-3 c =
 
 pub returns : goal.returns
 returns c =
-    c.all_even.ensures
+    all_below _ _ _ _ c.all.ensures.ran (λ x b q k. search (rules, tests))
     ∙ all-balanced c.args.net max_vertices c.add_keyed.new.sums c.add_keyed-2.new.sums c.add_keyed-3.new.sums
     c.add_keyed.ensures.by_index_2 c.add_keyed-2.ensures.by_index_2 (search rules) c.add_keyed-3.ensures.by_index_2 c.requires
