@@ -2,9 +2,9 @@
 -- steps and their codes, both ways; and one round of each loop over codes.
 use mathlib.Core.Path.{◌≡◌, refl, sym, ap, ◌∙◌}
 use native.Mathlib.Omega.{arith}
-use mathlib.Core.Bool.{Bool, true, false, not}
+use mathlib.Core.Bool.{Bool, true, false, not, beq}
 use mathlib.Core.List.{List, [], ◌∷◌, ◌++◌}
-use Prim.Native.Nat.{ℕ, suc, ◌+◌, ◌-◌, ◌<◌, ◌≤◌}
+use Prim.Native.Nat.{ℕ, suc, ◌+◌, ◌-◌, ◌*◌, ◌%◌, ◌<◌, ◌≤◌}
 use native.Mathlib.Nat.{mod-eq_of_lt}
 use native.Mathlib.Numerals.{add-one}
 use lib.Dec.{leb, eqb}
@@ -48,6 +48,19 @@ up_code s = split (known (leb code_up s))
     split (was_true t) = t ∙ sym (ap is_up (step_up s (leb-true code_up s t)))
     split (was_false t) = t ∙ sym (ap is_up (step_down s (leb-false code_up s t)))
 
+-- the edge of a code
+pub edge_code : (s : ℕ) → s < 2 * code_up → s % code_up ≡ edge_of (code_step s)
+edge_code s small = split (known (leb code_up s))
+  where
+    split : Known (leb code_up s) → s % code_up ≡ edge_of (code_step s)
+    split (was_true t) = let h = leb-true code_up s t in rw (step_up s h) (omega arith)
+    split (was_false t) = let h = leb-false code_up s t in rw (step_down s h) (omega arith)
+
+-- a step ends where it would start with the ends of its edge exchanged
+pub start_turned : (tails heads : List ℕ) (s : Step) → start_of heads tails s ≡ end_of tails heads s
+start_turned tails heads (down e) = refl
+start_turned tails heads (up e) = refl
+
 -- the code of a code's step is that code; the step of a step's code is that step, where codes have room for its edge
 code_step_lem : (s : ℕ) → step_code (code_step s) ≡ s
 code_step_lem s = split (known (leb code_up s))
@@ -72,6 +85,23 @@ stride_edge false e = refl
 
 pub stride_code : (ups : Bool) (e : ℕ) → e < code_up → code_step (step_code (stride ups e)) ≡ stride ups e
 stride_code ups e h = step_code_lem (stride ups e) (rw (stride_edge ups e) h)
+
+-- the step of a byte by its way and its edge
+byte_stride : (s : ℕ) → s < 2 * up_from → stride (leb up_from s) (s % up_from) ≡ step_of s
+byte_stride s small = split (known (leb up_from s))
+  where
+    split : Known (leb up_from s) → stride (leb up_from s) (s % up_from) ≡ step_of s
+    split (was_true t) =
+        let h = leb-true up_from s t in
+        let e : s % up_from ≡ s - up_from = omega arith in
+        rw (t, e) (sym (byte_up s h))
+    split (was_false t) =
+        let h = leb-false up_from s t in
+        let e : s % up_from ≡ s = omega arith in
+        rw (t, e) (sym (byte_down s h))
+
+pub byte_code : (s : ℕ) → s < 2 * up_from → code_step (step_code (stride (leb up_from s) (s % up_from))) ≡ step_of s
+byte_code s small = stride_code (leb up_from s) (s % up_from) (omega arith) ∙ byte_stride s small
 
 pub codes_steps : (cs : List ℕ) → codes_of (code_steps cs) ≡ cs
 unfolding code_steps
@@ -145,6 +175,14 @@ pub cycle_some : (tails heads s : List ℕ) (r : ℕ) → (length s ≡ 0 → �
 unfolding code_steps is_cycle
 cycle_some tails heads [] r n e = absurd (n refl)
 cycle_some tails heads (x ∷ s) r n e = rw e
+
+-- a step goes the given way where its own way is that one
+pub same_way : (ups rises : Bool) → beq rises ups ≡ pick ups rises (not rises)
+unfolding pick
+same_way true true = refl
+same_way true false = refl
+same_way false true = refl
+same_way false false = refl
 
 pub gather_turn : (ups : Bool) (m : ℕ) (s : List ℕ) (i : ℕ) → i < length s
     → gather ups (pick (goes ups (code_step (get_or s i 0))) (with_bit m (edge_of (code_step (get_or s i 0)))) m) (code_steps (drop (i + 1) s))

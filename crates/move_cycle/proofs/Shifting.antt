@@ -5,7 +5,6 @@ use mathlib.Core.Bool.{Bool, true, false, not, true≢false}
 use mathlib.Core.Logic.{◌⊎◌, inl, inr, ◌≢◌}
 use mathlib.Core.List.{List, [], ◌∷◌}
 use Prim.Native.Nat.{ℕ, zero, suc, ◌+◌, ◌-◌, ◌≤◌, ◌<◌, ◌^◌}
-use native.Mathlib.Numerals.{add-one}
 use native.Mathlib.Omega.{arith}
 use lib.Dec.{eqb}
 use lib.ListN.{length, get_or, set, length-set, get_or-eq_default}
@@ -85,18 +84,6 @@ module _ (x d u : ℕ) where
 
   pub shifted_past : (flows : List ℕ) (e : ℕ) → length flows ≤ e → get_or (shifted x d u flows) e 0 ≡ 0
   shifted_past flows e h = get_or-eq_default (shifted x d u flows) 0 (rw (shifted_length flows) h)
-
-  -- for the code: one turn of its loop, and the end
-  pub shift_turn : (flows new total : List ℕ) (e n f : ℕ) → e < n → f ≡ shifted_at x d u e (get_or flows e 0) → shift_from x d u flows new e (n - e) ≡ total
-      → shift_from x d u flows (set new e f) (e + 1) (n - (e + 1)) ≡ total
-  unfolding shift_from
-  shift_turn flows new total e n f h q inv =
-      let s : n - e ≡ suc (n - suc e) = omega arith in
-      rw (add-one e, q) (rw (s, shift_from) at inv)
-
-  pub shift_end : (flows new total : List ℕ) (e n : ℕ) → n ≤ e → shift_from x d u flows new e (n - e) ≡ total → new ≡ total
-  unfolding shift_from
-  shift_end flows new total e n h inv = let s : n - e ≡ 0 = omega arith in rw (s, shift_from) at inv
 
 -- the edges of `rest` have their old flow, and all others their new one
 pub record ShiftedBut (x d u : ℕ) (flows new : List ℕ) (rest : ℕ) : Type 0 where

@@ -2,7 +2,7 @@
 #![tactic(auto)]
 
 ghost use Rattle.std.specs.Prelude.{◌≡◌, ◌<◌, ◌≤◌, ltb, set};
-ghost use Rattle.graph_flows.specs.Trails.{down, up, edge_of, start_of, end_of};
+ghost use Rattle.graph_flows.specs.Trails.{edge_of, start_of};
 ghost use Rattle.move_cycle.specs.Steps.{
   step_of,
   step_byte,
@@ -12,7 +12,6 @@ ghost use Rattle.move_cycle.specs.Steps.{
   step_code,
   stride,
   is_up,
-  goes,
   leads_back,
   is_cycle,
   gather,
@@ -26,7 +25,8 @@ ghost use Rattle.move_cycle.specs.Shifts.{shifted_at, shifted};
 use board::Board;
 use sets::EdgeSet;
 
-// A step as one number: its edge, and with UP added for a step up, from the edge's head to its tail.
+// A step as one number: its edge, and with UP added for a step up, from the edge's head to its tail. It stays a number,
+// and no struct of an edge and a way, since lent memory and the bytes of the C interface hold codes (`code_steps`).
 pub type StepCode = u16;
 
 // The code of a step up over edge 0.
@@ -37,28 +37,16 @@ pub const UP_BYTE: u8 = 128;
 
 // ---- The steps of a turn.
 
-// A step down over e.
-pub fn down(e: u32) -> StepCode
-    requires { e < code_up }
-    ensures { result ≡ step_code (down e) }
-{
-    e as StepCode
-}
-
-// A step up over e.
-pub fn up(e: u32) -> StepCode
-    requires { e < code_up }
-    ensures { result ≡ step_code (up e) }
-{
-    e as StepCode + UP
-}
-
 // A step over e, up or down.
 pub fn stride(ups: bool, e: u32) -> StepCode
     requires { e < code_up }
     ensures { result ≡ step_code (stride ups e) }
 {
-    if ups { up(e) } else { down(e) }
+    if ups {
+        e as StepCode + UP
+    } else {
+        e as StepCode
+    }
 }
 
 // Whether steps over e have codes.
@@ -70,44 +58,36 @@ pub fn has_code(e: u32) -> bool
 
 // The steps with another one at i.
 pub fn put_step(
-    steps: [StepCode; Board::MAX_EDGES],
+    mut steps: [StepCode; Board::MAX_EDGES],
     i: usize,
     step: StepCode,
 ) -> [StepCode; Board::MAX_EDGES]
     ensures { result ≡ set steps i step }
 {
-    let mut next = steps;
-    if i < Board::MAX_EDGES {
-        next[i] = step;
-    }
-    next
+    lists::put(&mut steps, i, step);
+    steps
 }
 
 // The step of a byte.
 pub fn decoded(byte: u8) -> StepCode
     ensures { code_step result ≡ step_of byte }
 {
-    if byte >= UP_BYTE {
-        return up((byte - UP_BYTE) as u32);
-    }
-    down(byte as u32)
+    stride(byte >= UP_BYTE, (byte % UP_BYTE) as u32)
 }
 
 // The byte of a step.
 pub fn encoded(s: StepCode) -> u8
     ensures { result ≡ step_byte (code_step s) }
 {
-    if s >= UP {
-        return ((s - UP) % UP_BYTE as StepCode) as u8 + UP_BYTE;
-    }
-    (s % UP_BYTE as StepCode) as u8
+    let edge = (edge_of(s) % UP_BYTE as u32) as u8;
+    if is_up(s) { edge + UP_BYTE } else { edge }
 }
 
 // The edge of a step.
 pub fn edge_of(s: StepCode) -> u32
     ensures { result ≡ edge_of (code_step s) }
 {
-    if s >= UP { (s - UP) as u32 } else { s as u32 }
+    (s % UP) as u32
 }
 
 // Whether a step goes up.
@@ -121,21 +101,11 @@ pub fn is_up(s: StepCode) -> bool
 pub fn start_of<'a>(tails: &'a [u32], heads: &'a [u32], s: StepCode) -> u32
     ensures { result ≡ start_of tails.now heads.now (code_step s) }
 {
-    if s >= UP {
-        lists::at_or(heads, (s - UP) as usize, 0)
+    let edge = edge_of(s) as usize;
+    if is_up(s) {
+        lists::at_or(heads, edge, 0)
     } else {
-        lists::at_or(tails, s as usize, 0)
-    }
-}
-
-// Where a step ends.
-fn end_of<'a>(tails: &'a [u32], heads: &'a [u32], s: StepCode) -> u32
-    ensures { result ≡ end_of tails.now heads.now (code_step s) }
-{
-    if s >= UP {
-        lists::at_or(tails, (s - UP) as usize, 0)
-    } else {
-        lists::at_or(heads, s as usize, 0)
+        lists::at_or(tails, edge, 0)
     }
 }
 
@@ -147,19 +117,14 @@ fn leads_back<'a>(tails: &'a [u32], heads: &'a [u32], steps: &'a [StepCode], r: 
 {
     let mut seen = sets::none();
     let mut v = r;
-    let mut i: usize = 0;
-    while i < steps.len() {
-        let s = steps[i];
-        let edge = edge_of(s) as usize;
-        if start_of(tails, heads, s) != v {
-            return false;
-        }
-        if sets::has(seen, edge) {
+    for s in steps {
+        let edge = edge_of(*s) as usize;
+        if start_of(tails, heads, *s) != v || sets::has(seen, edge) {
             return false;
         }
         seen = sets::with(seen, true, edge);
-        v = end_of(tails, heads, s);
-        i += 1;
+        // A step ends where it would start with the ends of its edge exchanged.
+        v = start_of(heads, tails, *s);
     }
     v == r
 }
@@ -176,26 +141,14 @@ pub fn is_cycle<'a>(tails: &'a [u32], heads: &'a [u32], steps: &'a [StepCode]) -
     leads_back(tails, heads, steps, r)
 }
 
-// Whether a step goes the given way: up, or down.
-fn goes(ups: bool, s: StepCode) -> bool
-    ensures { result ≡ goes ups (code_step s) }
-{
-    if ups { is_up(s) } else { !is_up(s) }
-}
-
-// The set of the edges of the steps that go the given way.
+// The set of the edges of the steps that go the given way: up, or down.
 pub fn gather(ups: bool, steps: &[StepCode]) -> EdgeSet
     requires { InSets steps.now }
     ensures { set_of result ≡ gather ups none (code_steps steps.now) }
 {
     let mut m = sets::none();
-    let mut i: usize = 0;
-    while i < steps.len() {
-        let s = steps[i];
-        let edge = edge_of(s) as usize;
-        let joins = goes(ups, s);
-        m = sets::with(m, joins, edge);
-        i += 1;
+    for s in steps {
+        m = sets::with(m, is_up(*s) == ups, edge_of(*s) as usize);
     }
     m
 }
@@ -203,27 +156,23 @@ pub fn gather(ups: bool, steps: &[StepCode]) -> EdgeSet
 // ---- The amount of a turn.
 
 // The smaller of two amounts, where a first one of 0 stands for none.
+#[tactic(auto, unfolding(crate::specs::Amounts::smaller, lists::specs::Choice::pick))]
 fn smaller(a: u32, x: u32) -> u32
     ensures { result ≡ smaller a x }
 {
-    if a == 0 {
-        return x;
-    }
-    if x < a { x } else { a }
+    if a == 0 { x } else { a.min(x) }
 }
 
 // The amount, made smaller by what a terminal allows that is at the head of an edge and has a demand above its flow.
+#[tactic(auto, unfolding(crate::specs::Amounts::lessened, lists::specs::Choice::pick, lists::specs::Choice::both))]
 fn lessened(head: u32, flow: u32, place: u32, demand: u32, a: u32) -> u32
     ensures { result ≡ lessened head flow place demand a }
 {
-    if place != head {
-        return a;
+    if place == head && flow < demand {
+        smaller(a, demand - flow)
+    } else {
+        a
     }
-    if demand <= flow {
-        return a;
-    }
-    let rest = demand - flow;
-    smaller(a, rest)
 }
 
 // The amount, made smaller by what the terminals at the head of an edge allow.
@@ -238,12 +187,10 @@ fn raise<'a>(
     ensures { result ≡ raise_in places.now demands.now head flow a 0 terminals }
 {
     let mut least = a;
-    let mut i: u32 = 0;
-    while i < terminals {
-        let place = lists::at_or(places, i as usize, 0);
-        let demand = lists::at_or(demands, i as usize, 0);
+    for i in 0..terminals as usize {
+        let place = lists::at_or(places, i, 0);
+        let demand = lists::at_or(demands, i, 0);
         least = lessened(head, flow, place, demand, least);
-        i += 1;
     }
     least
 }
@@ -284,10 +231,8 @@ pub fn least_allowed<'a>(
         (code_steps steps.now) }
 {
     let mut a: u32 = 0;
-    let mut i: usize = 0;
-    while i < steps.len() {
-        a = allowed(heads, flows, places, demands, terminals, a, steps[i]);
-        i += 1;
+    for s in steps {
+        a = allowed(heads, flows, places, demands, terminals, a, *s);
     }
     a
 }
@@ -295,17 +240,18 @@ pub fn least_allowed<'a>(
 // ---- Flows changed on sets of edges.
 
 // The new flow of edge e: lowered or raised by x, or as it is.
+#[tactic(auto, unfolding(crate::specs::Shifts::shifted_at, lists::specs::Choice::pick))]
 fn shifted_at(x: u32, downs: EdgeSet, ups: EdgeSet, e: usize, f: u32) -> u32
     requires { (x ≤ max_total) × (f ≤ max_total) }
     ensures { result ≡ shifted_at x (set_of downs) (set_of ups) e f }
 {
     if sets::has(downs, e) {
-        return lists::minus(f, x);
+        f.saturating_sub(x)
+    } else if sets::has(ups, e) {
+        f + x
+    } else {
+        f
     }
-    if sets::has(ups, e) {
-        return f + x;
-    }
-    f
 }
 
 // The flows, lowered by x on one set of edges and raised by x on another.
@@ -320,12 +266,7 @@ pub fn shifted(
     ensures { result ≡ shifted x (set_of downs) (set_of ups) flows }
 {
     let mut new = flows;
-    let mut e: usize = 0;
-    while e < Board::MAX_EDGES {
-        let f = shifted_at(x, downs, ups, e, flows[e]);
-        new[e] = f;
-        e += 1;
-    }
+    shift(x, downs, ups, &mut new);
     new
 }
 
@@ -335,6 +276,7 @@ pub fn shift(x: u32, downs: EdgeSet, ups: EdgeSet, flows: &mut [u32])
     requires at_most { AtMost max_total flows.old }
     ensures { flows.new ≡ shifted x (set_of downs) (set_of ups) flows.old }
 {
+    // No index is counted here: the numbers come from the set itself, from which each is dropped.
     let mut rest = sets::joined(downs, ups);
     while !sets::is_empty(rest) {
         let e = sets::lowest(rest);

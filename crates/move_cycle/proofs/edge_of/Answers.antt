@@ -1,10 +1,7 @@
--- A code from `code_up` on is a step up over the edge so far below it; a lower one is a step down over that edge.
-use mathlib.Core.Path.{refl}
-use Rattle.move_cycle.proofs.Codes.{step_up, step_down}
+-- Without `code_up`, which is there once or not at all, a code is its edge.
+use borrow.Author.Rules.{rules}
+use Rattle.move_cycle.proofs.Codes.{edge_code}
 use Rattle.move_cycle.proofs.edge_of.Goals as goal
 
-pub returns-then-s-ge-UP : goal.returns-then-s-ge-UP
-returns-then-s-ge-UP c = rw (step_up _ c.if-s-ge-UP.true) refl
-
-pub returns-else-s-ge-UP : goal.returns-else-s-ge-UP
-returns-else-s-ge-UP c = rw (step_down _ c.if-s-ge-UP.false) refl
+pub returns : goal.returns
+returns c = edge_code _ (search rules)

@@ -1,13 +1,9 @@
 -- What is left to gather, into the set gathered so far, gives the whole set.
 use mathlib.Core.Path.{◌≡◌}
-use Prim.Native.Nat.{◌-◌}
-use lib.ListN.{length, drop}
+use lib.ListN.{drop}
 use Rattle.sets.specs.Sets.{none}
 use Rattle.move_cycle.specs.Steps.{code_steps, gather}
 use Rattle.move_cycle.proofs.gather.Given as goal
 
-abbrev pub invariant-loop-i : goal.invariant-loop-i
-invariant-loop-i l = gather l.ups l.m (code_steps (drop l.i l.steps)) ≡ gather l.ups none (code_steps l.steps)
-
-abbrev pub decreases-loop-i : goal.decreases-loop-i
-decreases-loop-i l = length l.steps - l.i
+abbrev pub invariant-loop-s : goal.invariant-loop-s
+invariant-loop-s l = gather l.ups l.m (code_steps (drop l.s-index l.steps)) ≡ gather l.ups none (code_steps l.steps)

@@ -1,39 +1,32 @@
 -- What is left of the test, from the vertex and the set reached, is the whole test, as long as no step has failed.
 use mathlib.Core.Path.{sym, ◌∙◌}
 use Rattle.lists.specs.Choice.{pick}
-use Rattle.move_cycle.proofs.Codes.{back_elsewhere, back_twice, back_on, back_end}
+use Rattle.move_cycle.proofs.Codes.{back_elsewhere, back_twice, back_on, back_end, start_turned}
 use Rattle.move_cycle.proofs.leads_back.Goals as goal
+use Rattle.move_cycle.proofs.leads_back.Goals.{then-start_of-v-via-then-start_of-v, then-start_of-v-via-else-start_of-v+then-has}
 
-pub loop-i-init : goal.loop-i-init
-loop-i-init c = rw c.none-seen.ensures
-
-pub bounds-steps-i : goal.bounds-steps-i
-bounds-steps-i c = c.loop-i-test.true
+pub loop-s-init : goal.loop-s-init
+loop-s-init c = rw c.none-seen.ensures
 
 pub returns-then-start_of-v : goal.returns-then-start_of-v
 returns-then-start_of-v c =
-    let at_loop_test = c.loop-i-test in
-    let at_loop = c.loop-i in
-    back_elsewhere _ _ _ _ _ _ _ at_loop_test.true (λ e. c.if-start_of-v.true (c.start_of.ensures ∙ e)) ∙ at_loop.invariant
-
-pub returns-then-has : goal.returns-then-has
-returns-then-has c =
-    let at_loop_test = c.loop-i-test in
-    let at_loop = c.loop-i in
-    let starts = sym c.start_of.ensures ∙ c.if-start_of-v.false in
-    let twice = rw c.edge_of-edge.ensures at (sym c.has.ensures ∙ c.if-has.true) in
-    back_twice _ _ _ _ _ _ _ at_loop_test.true starts twice ∙ at_loop.invariant
+    elim c.then-start_of-v.branch [
+      | then-start_of-v-via-then-start_of-v w ↦ back_elsewhere _ _ _ _ _ _ _ c.loop-s-test.true (λ e. w.if-start_of-v.true (c.start_of.ensures ∙ e)) ∙ c.loop-s.invariant
+      | then-start_of-v-via-else-start_of-v+then-has w ↦
+          let twice = rw c.edge_of-edge.ensures at (sym w.has.ensures ∙ w.if-has.true) in
+          back_twice _ _ _ _ _ _ _ c.loop-s-test.true (sym c.start_of.ensures ∙ w.if-start_of-v.false) twice ∙ c.loop-s.invariant
+    ]
 
 pub with-seen-requires : goal.with-seen-requires
 with-seen-requires c =
-    rw c.edge_of-edge.ensures (c.requires _ c.loop-i-test.true)
+    rw c.edge_of-edge.ensures (c.requires _ c.loop-s-test.true)
 
-pub loop-i-preserved : goal.loop-i-preserved
+pub loop-s-preserved : goal.loop-s-preserved
 unfolding pick
-loop-i-preserved c =
+loop-s-preserved c =
     let starts = sym c.start_of.ensures ∙ c.if-start_of-v.false in
     let fresh = rw c.edge_of-edge.ensures at (sym c.has.ensures ∙ c.if-has.false) in
-    rw (c.end_of-v.ensures, c.with-seen.ensures, c.edge_of-edge.ensures) (back_on _ _ _ _ _ _ _ c.loop-i-test.true starts fresh) ∙ c.loop-i.invariant
+    rw (c.start_of-v.ensures, start_turned, c.with-seen.ensures, c.edge_of-edge.ensures) (back_on _ _ _ _ _ _ _ c.loop-s-test.true starts fresh) ∙ c.loop-s.invariant
 
 pub returns : goal.returns
-returns c = back_end _ _ _ _ _ _ _ c.loop-i-test.false ∙ c.loop-i.invariant
+returns c = back_end _ _ _ _ _ _ _ c.loop-s-test.false ∙ c.loop-s.invariant

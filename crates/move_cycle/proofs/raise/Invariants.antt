@@ -7,6 +7,3 @@ use Rattle.move_cycle.proofs.raise.Given as goal
 abbrev pub invariant-loop-i : goal.invariant-loop-i
 invariant-loop-i l =
     raise_in l.places l.demands l.head l.flow l.least l.i (l.terminals - l.i) ≡ raise_in l.places l.demands l.head l.flow l.a 0 l.terminals
-
-abbrev pub decreases-loop-i : goal.decreases-loop-i
-decreases-loop-i l = l.terminals - l.i

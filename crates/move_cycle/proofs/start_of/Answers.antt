@@ -1,9 +1,0 @@
--- A code from `code_up` on is a step up, which starts at its edge's head; one below is a step down, from the tail.
-use Rattle.move_cycle.proofs.Codes.{step_up, step_down}
-use Rattle.move_cycle.proofs.start_of.Goals as goal
-
-pub returns-then-s-ge-UP : goal.returns-then-s-ge-UP
-returns-then-s-ge-UP c = rw (step_up _ c.if-s-ge-UP.true) c.at_or.ensures
-
-pub returns-else-s-ge-UP : goal.returns-else-s-ge-UP
-returns-else-s-ge-UP c = rw (step_down _ c.if-s-ge-UP.false) c.at_or-else-s-ge-UP.ensures
