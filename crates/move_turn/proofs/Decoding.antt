@@ -1,38 +1,40 @@
--- The steps of bytes, in the code's shape: one round of the search for the greatest edge, from the last byte to the first; and the codes of the bytes, which stand
+-- The steps of bytes, in the code's shape: one round of the search for the greatest edge; and the codes of the bytes, which stand
 -- for the same steps since each code does.
-use mathlib.Core.Path.{◌≡◌, refl, sym, ap, ◌∙◌}
+use mathlib.Core.Path.{◌≡◌, refl, ap, ◌∙◌}
 use mathlib.Core.List.{List, [], ◌∷◌}
-use Prim.Native.Nat.{ℕ, suc, ◌+◌, ◌-◌, ◌<◌, ◌≤◌}
+use Prim.Native.Nat.{ℕ, suc, ◌+◌, ◌<◌, ◌≤◌}
 use native.Mathlib.Omega.{arith}
 use lib.ListN.{length, get_or, set, take, drop, drop_of_length-le}
 use lib.Seq.{drop-cons, get_or-set_same, get_or-set_other}
 use borrow.Author.Count.{below_more}
-use borrow.Author.Tests.{lt-ltb, le-ltb}
-use Rattle.lists.proofs.Laws.{pick_yes, pick_no}
-use Rattle.graph_flows.specs.Trails.{edge_of}
+use lib.Dec.{ltb}
+use native.Mathlib.Numerals.{add-one}
+use borrow.Author.Tests.{ltb-true, ltb-false}
+use Rattle.std.specs.Prelude.{max}
+use Rattle.lists.proofs.Laws.{Known, was_true, was_false, known, pick_yes, pick_no}
+use Rattle.graph_flows.specs.Trails.{Step, edge_of}
 use Rattle.move_cycle.specs.Steps.{step_of, steps_of, code_step, code_steps}
 use Rattle.move_cycle.specs.Inner.{greatest_edge}
 
--- the search has come down to `left`
-pub greatest_none : (s : List ℕ) → 0 ≡ greatest_edge (steps_of (drop (length s) s))
-unfolding greatest_edge steps_of
-greatest_none s = let all : length s ≤ length s = omega arith in rw (drop_of_length-le s all)
+-- the greatest edge of the steps, one by one
+greatest_both : (s : Step) (w : List Step) → greatest_edge (s ∷ w) ≡ max (edge_of s) (greatest_edge w)
+unfolding greatest_edge
+greatest_both s w = go (known (ltb (edge_of s) (greatest_edge w)))
+  where
+    go : Known (ltb (edge_of s) (greatest_edge w)) → greatest_edge (s ∷ w) ≡ max (edge_of s) (greatest_edge w)
+    go (was_true t) = let l = ltb-true (edge_of s) (greatest_edge w) t in pick_yes _ _ _ t ∙ omega (arith, l)
+    go (was_false t) = let l = ltb-false (edge_of s) (greatest_edge w) t in pick_no _ _ _ t ∙ omega (arith, l)
 
-module _ (s : List ℕ) (left most edge : ℕ) (some : 0 < left) (fits : left ≤ length s) (at : most ≡ greatest_edge (steps_of (drop left s)))
-    (read : edge ≡ edge_of (step_of (get_or s (left - 1) 0))) where
-  split : steps_of (drop (left - 1) s) ≡ step_of (get_or s (left - 1) 0) ∷ steps_of (drop left s)
+module _ (s : List ℕ) (i most : ℕ) where
+  pub greatest_more : (edge next : ℕ) → i < length s → edge ≡ edge_of (step_of (get_or s i 0)) → next ≡ max most edge
+      → max next (greatest_edge (steps_of (drop (i + 1) s))) ≡ max most (greatest_edge (steps_of (drop i s)))
   unfolding steps_of
-  split =
-      let back : suc (left - 1) ≡ left = omega arith in
-      rw (drop-cons s (left - 1) 0 (omega arith)) (ap (λ (n : ℕ). step_of (get_or s (left - 1) 0) ∷ steps_of (drop n s)) back)
+  greatest_more edge next h is bound =
+      rw (bound, is, drop-cons s i 0 h, add-one i, steps_of, greatest_both (step_of (get_or s i 0)) (steps_of (drop (suc i) s))) (omega arith)
 
-  pub greatest_here : most ≤ edge → edge ≡ greatest_edge (steps_of (drop (left - 1) s))
-  unfolding greatest_edge
-  greatest_here h = rw (split, ← read, ← at) (sym (pick_no _ most edge (le-ltb edge most h)))
-
-  pub greatest_later : edge < most → most ≡ greatest_edge (steps_of (drop (left - 1) s))
-  unfolding greatest_edge
-  greatest_later h = rw (split, ← read, ← at) (sym (pick_yes _ most edge (lt-ltb edge most h)))
+  pub greatest_all : length s ≤ i → most ≡ max most (greatest_edge (steps_of (drop i s)))
+  unfolding steps_of greatest_edge
+  greatest_all h = rw (drop_of_length-le s h) (omega arith)
 
 -- the codes below n stand for the steps of the bytes
 abbrev pub Decoded : List ℕ → List ℕ → ℕ → Type 0

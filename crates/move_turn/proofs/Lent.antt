@@ -8,9 +8,11 @@ use Prim.Native.Nat.{ℕ, ◌+◌, ◌<◌, ◌^◌}
 use native.Mathlib.Omega.{arith}
 use lib.ListN.{length, set}
 use Rattle.lists.proofs.Laws.{pick_no, pick_passed}
+use Rattle.refusals.specs.declared.Refusal.{Refusal}
+use Rattle.refusals.specs.Refusals.{number}
+use Rattle.refusals.proofs.Laws.{refused}
 use Rattle.sets.specs.Sets.{joined}
 use Rattle.sets.specs.Inner.{set_width}
-use Rattle.board.specs.Record.{blank}
 use Rattle.board.specs.Whole.{Turn, Entry, Board, Played}
 use Rattle.board.specs.declared.Network.{Network}
 use Rattle.graph_flows.specs.Trails.{Step}
@@ -74,20 +76,22 @@ module _ (frame : Frame) (tails heads demands leaving flows : List ℕ) (can : T
       })
       (fresh_same tails heads flows leaving frame.positive can.chart fits frame.vertices frame.marks)
 
-  module _ (any_open : Bool) (places : List ℕ) (w : List Step) (number : ℕ)
-      (h : number ≡ turn_refusal_in true any_open (net_of frame tails heads []) flows w) where
-    pub turn_not_made : (entry : Entry) → number ≢ 0 → entry ≡ blank
-        → record { answer = number; flows = flows; marks = frame.marks; places = places; entry = entry }
-        ≡ turn_change true any_open (net_of frame tails heads demands) flows frame.marks places w
-    turn_not_made entry n e =
-        let same = h ∙ turn_tests any_open w in
-        rw (e, same) (sym (change_refused true any_open (net_of frame tails heads demands) flows frame.marks places w (λ z. n (same ∙ z))))
+  module _ (any_open : Bool) (places : List ℕ) (w : List Step) where
+    abbrev judged : ℕ
+    judged = turn_refusal_in true any_open (net_of frame tails heads []) flows w
 
-    pub turn_is_made : (c : Change) → frame.positive < 2 ^ set_width → number ≡ 0 → c ≡ augmented_by frame heads demands leaving flows places w
+    pub turn_not_made : (r : Refusal) → judged ≡ number r
+        → unchanged (number r) flows frame.marks places ≡ turn_change true any_open (net_of frame tails heads demands) flows frame.marks places w
+    turn_not_made r is =
+        let same = sym is ∙ turn_tests any_open w in
+        ap (λ (n : ℕ). unchanged n flows frame.marks places) same
+        ∙ sym (change_refused true any_open (net_of frame tails heads demands) flows frame.marks places w (λ z. refused r (same ∙ z)))
+
+    pub turn_is_made : (c : Change) → frame.positive < 2 ^ set_width → judged ≡ 0 → c ≡ augmented_by frame heads demands leaving flows places w
         → c ≡ turn_change true any_open (net_of frame tails heads demands) flows frame.marks places w
     turn_is_made c fits z e =
         e ∙ augmented fits places w
-        ∙ sym (change_accepted true any_open (net_of frame tails heads demands) flows frame.marks places w (sym (h ∙ turn_tests any_open w) ∙ z))
+        ∙ sym (change_accepted true any_open (net_of frame tails heads demands) flows frame.marks places w (sym (turn_tests any_open w) ∙ z))
 
 -- a network and its bare one
 pub turn_of_bare : (net : Network) (play any_open : Bool) (flows : List ℕ) (marks : ℕ) (places : List ℕ) (w : List Step)

@@ -1,11 +1,13 @@
 -- For inner contracts only: a turn on lists that are lent, by the numbers beside them.
-use Rattle.std.specs.Prelude.{true, false, List, ℕ, ◌≤◌}
-use Rattle.sets.specs.Sets.{none, joined, collect, set_of}
+use Rattle.std.specs.Prelude.{true, false, List, ℕ, Result, Ok, Err, ◌≤◌}
+use Rattle.refusals.specs.declared.Refusal.{Refusal}
+use Rattle.refusals.specs.Refusals.{number}
+use Rattle.sets.specs.Sets.{EdgeWord, none, joined, collect, set_of}
 use Rattle.sets.specs.Inner.{set_width}
 use Rattle.board.specs.Limits.{max_edges, max_total}
 use Rattle.board.specs.Whole.{Turn, entry_of}
 use Rattle.graph_flows.specs.Trails.{Step}
-use Rattle.move_guard.specs.Moved.{Change}
+use Rattle.move_guard.specs.Moved.{Change, unchanged}
 use Rattle.move_edges.specs.Inner.{ChartedOut}
 use Rattle.move_edges.specs.Marking.{is_fresh_by}
 use Rattle.move_cycle.specs.Steps.{gather}
@@ -15,9 +17,14 @@ use Rattle.move_cycle.specs.Inner.{AtMost}
 use Rattle.move_carry.specs.declared.Frame.{Frame}
 use Rattle.move_turn.specs.declared.Augmented.{Augmented}
 
--- what a turn gave, with the flows and places after it, as a change
+-- what an accepted turn gave, with the flows and places after it, as a change
 abbrev pub change_of : Augmented → List ℕ → List ℕ → Change
-change_of r flows places = record { answer = r.answer; flows = flows; marks = set_of r.marks; places = places; entry = entry_of r.entry }
+change_of r flows places = record { answer = 0; flows = flows; marks = set_of r.marks; places = places; entry = entry_of r.entry }
+
+-- what a turn gave, accepted or refused, by the marks before it
+abbrev pub made_of : EdgeWord → Result Augmented Refusal → List ℕ → List ℕ → Change
+made_of marks (Ok r) flows places = change_of r flows places
+made_of marks (Err r) flows places = unchanged (number r) flows (set_of marks) places
 
 -- an accepted turn, with the new marks by the sets of edges
 abbrev pub fresh_of : Frame → List ℕ → List ℕ → ℕ

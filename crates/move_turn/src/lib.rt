@@ -2,6 +2,7 @@
 #![tactic(auto)]
 
 ghost use Rattle.std.specs.Prelude.{◌≡◌, true, [], ◌-◌, ◌≤◌, ◌<◌, ltb, length, get_or, take};
+ghost use Rattle.refusals.specs.Refusals.{number, answer_of};
 ghost use Rattle.sets.specs.Sets.{set_of};
 ghost use Rattle.sets.specs.Inner.{sets_of};
 ghost use Rattle.lists.specs.Choice.{pick};
@@ -13,14 +14,15 @@ ghost use Rattle.move_edges.specs.Marking.{singular_by};
 ghost use Rattle.move_edges.specs.Inner.{ChartedOut};
 ghost use Rattle.move_turn.specs.Turns.{meets_in, turn_refusal_in, turn_change, turn_call, turn_unkept};
 ghost use Rattle.move_carry.specs.Frames.{net_of};
-ghost use Rattle.move_turn.specs.Lent.{change_of, augmented_by, Turnable};
+ghost use Rattle.move_turn.specs.Lent.{change_of, made_of, augmented_by, Turnable};
 ghost use Rattle.journal.specs.Words.{whole_of, given_of, words_after};
 ghost use Rattle.board.specs.Limits.{max_total};
 
-use board::{Augmentation, Board, Entry, Move, Played};
+use board::{Augmentation, Board, Entry, Move};
 use journal::WORDS;
 use move_carry::Frame;
 use move_cycle::StepCode;
+use refusals::Refusal;
 use sets::EdgeSet;
 
 // The rules that each step of a turn keeps.
@@ -31,10 +33,9 @@ pub enum StepRule {
     UpSingular,
 }
 
-// What a turn gives beside the flows that it changes.
+// What an accepted turn gives beside the flows that it changes.
 #[derive(Clone, Copy)]
 pub struct Augmented {
-    pub answer: u32,
     pub marks: EdgeSet,
     pub entry: Entry,
 }
@@ -106,18 +107,16 @@ fn all_meet<'a>(
         (singular_by heads.now (sets_of leaving.now) (set_of frame.positive) frame.vertices))
         (code_steps steps.now) }
 {
-    let mut i: usize = 0;
-    while i < steps.len() {
-        if !meets(rule, frame, heads, leaving, flows, steps[i]) {
+    for s in steps {
+        if !meets(rule, frame, heads, leaving, flows, *s) {
             return false;
         }
-        i += 1;
     }
     true
 }
 
-// 6, 7, 24, 25 or 26, in this order, on a board in play; 0 where the steps are accepted.
-pub fn refusal_in<'a>(
+// Whether the steps are accepted on a board in play; else they are refused with 6, 7, 24, 25 or 26, in this order.
+pub fn judge_in<'a>(
     any_open: bool,
     frame: Frame,
     tails: &'a [u32],
@@ -125,28 +124,28 @@ pub fn refusal_in<'a>(
     leaving: &'a [EdgeSet],
     flows: &'a [u32],
     steps: &'a [StepCode],
-) -> u32
+) -> Result<(), Refusal>
     requires edges_le_max_edges { frame.edges ≤ max_edges }
     requires charted_out { ChartedOut tails.now heads.now flows.now (sets_of leaving.now) (set_of frame.positive) }
-    ensures { result ≡ turn_refusal_in true any_open (net_of frame tails.now heads.now [])
+    ensures { answer_of result ≡ turn_refusal_in true any_open (net_of frame tails.now heads.now [])
         flows.now (code_steps steps.now) }
 {
     if !all_meet(StepRule::OnBoard, frame, heads, leaving, flows, steps) {
-        return 6;
+        return Err(Refusal::NotOnBoard);
     }
     if !move_cycle::is_cycle(tails, heads, steps) {
-        return 7;
+        return Err(Refusal::NoCycle);
     }
     if any_open {
-        return 24;
+        return Err(Refusal::CarryOpen);
     }
     if !all_meet(StepRule::Positive, frame, heads, leaving, flows, steps) {
-        return 25;
+        return Err(Refusal::NoFlow);
     }
     if !all_meet(StepRule::UpSingular, frame, heads, leaving, flows, steps) {
-        return 26;
+        return Err(Refusal::NotSingular);
     }
-    0
+    Ok(())
 }
 
 // Makes an accepted turn on the flows.
@@ -175,7 +174,6 @@ fn augment<'a>(
     let marks = sets::joined(frame.marks, fresh);
     let turn = Augmentation::of(amount, down, up, fresh);
     Augmented {
-        answer: 0,
         marks: marks,
         entry: Entry {
             step: Move::Turn(turn),
@@ -183,7 +181,8 @@ fn augment<'a>(
     }
 }
 
-// Makes a turn on the flows of a board in play, where it is accepted; `any_open` says whether a carry is open.
+// Makes a turn on the flows of a board in play, where it is accepted; `any_open` says whether a carry is open. A refusal
+// leaves the flows as they were.
 pub fn change<'a>(
     any_open: bool,
     frame: Frame,
@@ -194,41 +193,30 @@ pub fn change<'a>(
     places: &'a [u32; Board::MAX_TERMINALS],
     steps: &'a [StepCode],
     flows: &mut [u32; Board::MAX_EDGES],
-) -> Augmented
+) -> Result<Augmented, Refusal>
     requires { Turnable frame tails.now heads.now demands.now (sets_of leaving.now) flows.old }
-    ensures { change_of result flows.new places.now ≡
+    ensures { made_of frame.marks result flows.new places.now ≡
         turn_change true any_open (net_of frame tails.now heads.now demands.now)
         flows.old (set_of frame.marks) places.now (code_steps steps.now) }
 {
-    let number = refusal_in(any_open, frame, tails, heads, leaving, flows, steps);
-    if number != 0 {
-        let blank = Entry::blank();
-        return Augmented {
-            answer: number,
-            marks: frame.marks,
-            entry: blank,
-        };
-    }
-    augment(frame, heads, demands, leaving, places, steps, flows)
+    judge_in(any_open, frame, tails, heads, leaving, flows, steps)?;
+    Ok(augment(frame, heads, demands, leaving, places, steps, flows))
 }
 
-// Augments along the cycle of the steps, given by their codes.
+// Augments along the cycle of the steps, given by their codes. A refused turn leaves the journal as it was.
 pub fn turn_steps(
     board: Board,
     journal: &mut [[u64; WORDS]; Board::JOURNAL],
     steps: &[StepCode],
-) -> Played
-    ensures journal_after { given_of result journal.new ≡
+) -> Result<Board, Refusal>
+    ensures journal_after { given_of board result journal.new ≡
         turn_call (whole_of board journal.old) (code_steps steps.now) }
     ensures journal_after_2 { journal.new ≡ words_after board.moves
         (turn_call (whole_of board journal.old) (code_steps steps.now)).board
         journal.old }
 {
     if !move_guard::playing(board, journal) {
-        return Played {
-            answer: 20,
-            board: board,
-        };
+        return Err(Refusal::NotInPlay);
     }
     let net = board.network;
     let mut flows = board.flows;
@@ -250,7 +238,7 @@ pub fn turn_steps(
     };
     let found = solve_carry::open_carry(frame, &heads, &demands, &entering, &flows, &places);
     let made = change(
-        found.terminal < net.terminals,
+        found.is_some(),
         frame,
         &tails,
         &heads,
@@ -259,36 +247,29 @@ pub fn turn_steps(
         &places,
         steps,
         &mut flows,
-    );
-    if made.answer != 0 {
-        return Played {
-            answer: made.answer,
-            board: board,
-        };
-    }
-    let entry = made.entry;
-    journal::put_entry(journal, board.moves as usize, entry);
+    )?;
+    journal::put_entry(journal, board.moves as usize, made.entry);
     let mut next = board;
     next.flows = flows;
     next.marks = made.marks;
     next.moves = board.moves + 1;
-    Played {
-        answer: 0,
-        board: next,
-    }
+    Ok(next)
 }
 
 // What a turn is refused with whose steps are more than a board has edges, or one of whose edges is too large for a
-// code:
-// 20, 6 or 7, by the greatest edge alone.
-pub fn turn_unkept(board: Board, journal: &[[u64; WORDS]; Board::JOURNAL], greatest: u32) -> u32
-    ensures { result ≡ turn_unkept (whole_of board journal.now) greatest }
+// code: 20, 6 or 7, by the greatest edge alone.
+pub fn turn_unkept(board: Board, journal: &[[u64; WORDS]; Board::JOURNAL], greatest: u32) -> Refusal
+    ensures { number result ≡ turn_unkept (whole_of board journal.now) greatest }
 {
     if !move_guard::playing(board, journal) {
-        return 20;
+        return Refusal::NotInPlay;
     }
     let net = board.network;
-    if greatest < net.edges { 7 } else { 6 }
+    if greatest < net.edges {
+        Refusal::NoCycle
+    } else {
+        Refusal::NotOnBoard
+    }
 }
 
 // The greatest edge of the steps of bytes, 0 for none.
@@ -296,13 +277,8 @@ fn greatest_edge(steps: &[u8]) -> u32
     ensures { result ≡ greatest_edge (steps_of steps.now) }
 {
     let mut most: u32 = 0;
-    let mut left = steps.len();
-    while 0 < left {
-        left -= 1;
-        let edge = move_cycle::edge_of(move_cycle::decoded(steps[left]));
-        if most <= edge {
-            most = edge;
-        }
+    for s in steps {
+        most = most.max(move_cycle::edge_of(move_cycle::decoded(*s)));
     }
     most
 }
@@ -313,18 +289,19 @@ fn codes_of(steps: &[u8]) -> [StepCode; Board::MAX_EDGES]
     ensures { code_steps (take (length steps.now) result) ≡ steps_of steps.now }
 {
     let mut codes: [StepCode; Board::MAX_EDGES] = [0; Board::MAX_EDGES];
-    let mut i: usize = 0;
-    while i < steps.len() {
-        let code = move_cycle::decoded(steps[i]);
-        codes[i] = code;
-        i += 1;
+    for (i, s) in steps.iter().enumerate() {
+        codes[i] = move_cycle::decoded(*s);
     }
     codes
 }
 
-// Augments along the cycle of the steps, a byte each.
-pub fn turn(board: Board, journal: &mut [[u64; WORDS]; Board::JOURNAL], steps: &[u8]) -> Played
-    ensures journal_after { given_of result journal.new ≡
+// Augments along the cycle of the steps, a byte each. A refused turn leaves the journal as it was.
+pub fn turn(
+    board: Board,
+    journal: &mut [[u64; WORDS]; Board::JOURNAL],
+    steps: &[u8],
+) -> Result<Board, Refusal>
+    ensures journal_after { given_of board result journal.new ≡
         turn_call (whole_of board journal.old) (steps_of steps.now) }
     ensures journal_after_2 { journal.new ≡ words_after board.moves
         (turn_call (whole_of board journal.old) (steps_of steps.now)).board
@@ -332,11 +309,7 @@ pub fn turn(board: Board, journal: &mut [[u64; WORDS]; Board::JOURNAL], steps: &
 {
     if Board::MAX_EDGES < steps.len() {
         let greatest = greatest_edge(steps);
-        let number = turn_unkept(board, journal, greatest);
-        return Played {
-            answer: number,
-            board: board,
-        };
+        return Err(turn_unkept(board, journal, greatest));
     }
     let codes = codes_of(steps);
     turn_steps(board, journal, &codes[..steps.len()])

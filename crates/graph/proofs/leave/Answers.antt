@@ -12,7 +12,7 @@ returns-then-at_or-eq0 c = λ v h. left_zero _ _ _ _ _ c.args.edges.now (sym c.a
 
 pub returns-then-not-at_or : goal.returns-then-not-at_or
 returns-then-not-at_or c =
-    let at_bool_at = c.at_or in
+    let at_bool_at = c.at_or-2 in
     let at_word_at2 = c.at_or-head in
     let at_args = c.args in
     λ v h. left_outside at_args.from.now at_args.to.now at_args.flows.now at_args.seen.now at_args.e at_args.edges.now
@@ -25,7 +25,7 @@ returns c =
     let at_edges_at = c.edges_at in
     let at_word_at3 = c.at_or-tail in
     let at_if2 = c.if-not-at_or in
-    let at_bool_at = c.at_or in
+    let at_bool_at = c.at_or-2 in
     let at_word_at2 = c.at_or-head in
     let at_if1 = c.if-at_or-eq0 in
     let at_word_at = c.at_or in

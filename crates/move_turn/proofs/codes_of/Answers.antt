@@ -15,7 +15,7 @@ loop-i-preserved c =
     let loop = c.loop-i in
     let bytes = c.args.steps.now in
     let room : loop.i < length loop.codes = search rules in
-    (search rules, search rules, decoded_more bytes loop.codes _ _ room loop.invariant.2 c.decoded-code.ensures)
+    (search rules, search rules, decoded_more bytes loop.codes _ _ room loop.invariant.2 c.decoded.ensures)
 
 pub returns : goal.returns
 returns c =

@@ -1,13 +1,10 @@
--- From the last byte to the first: `most` is the greatest edge of the steps from `left` on.
+-- The greatest edge of the steps read so far and of those that are left is that of all.
 use mathlib.Core.Path.{◌≡◌}
-use Prim.Native.Nat.{◌≤◌}
-use lib.ListN.{length, drop}
+use lib.ListN.{drop}
+use Rattle.std.specs.Prelude.{max}
 use Rattle.move_cycle.specs.Steps.{steps_of}
 use Rattle.move_cycle.specs.Inner.{greatest_edge}
 use Rattle.move_turn.proofs.greatest_edge.Given as goal
 
-abbrev pub invariant-loop-left : goal.invariant-loop-left
-invariant-loop-left l = (l.left ≤ length l.steps) × (l.most ≡ greatest_edge (steps_of (drop l.left l.steps)))
-
-abbrev pub decreases-loop-left : goal.decreases-loop-left
-decreases-loop-left l = l.left
+abbrev pub invariant-loop-s : goal.invariant-loop-s
+invariant-loop-s l = max l.most (greatest_edge (steps_of (drop l.s-index l.steps))) ≡ greatest_edge (steps_of l.steps)

@@ -16,7 +16,7 @@ pub returns-then-steps-gt-MAX_EDGES : goal.returns-then-steps-gt-MAX_EDGES
 returns-then-steps-gt-MAX_EDGES c =
     let b = whole_of c.args.board c.args.journal.now in
     let bytes = c.args.steps.now in
-    let all = unkept_lent b (steps_of bytes) _ _ _ c.turn_unkept-number.ensures c.greatest_edge-greatest.ensures (λ few. absurd (omega (arith, few, bytes_length bytes, c.if-steps-gt-MAX_EDGES.true))) in record {
+    let all = unkept_lent b (steps_of bytes) _ _ _ c.turn_unkept.ensures c.greatest_edge-greatest.ensures (λ few. absurd (omega (arith, few, bytes_length bytes, c.if-steps-gt-MAX_EDGES.true))) in record {
       journal_after = all.0;
       journal_after_2 = all.1;
     }

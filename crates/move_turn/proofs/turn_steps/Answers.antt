@@ -1,10 +1,13 @@
 -- The turn on the lent lists is the one by the parts of the board that the table and the words stand for; an accepted one is packed into the next place.
-use mathlib.Core.Path.{◌≡◌, sym, ap, ◌∙◌}
+use mathlib.Core.Path.{◌≡◌, refl, sym, ap, ◌∙◌}
+use Rattle.std.specs.Prelude.{Result}
+use Rattle.refusals.specs.declared.Refusal.{Refusal}
+use Rattle.refusals.proofs.Laws.{refused, passed_on}
 use mathlib.Core.Bool.{true}
 use mathlib.Core.List.{List}
 use Prim.Native.Nat.{ℕ, ◌+◌}
 use native.Mathlib.Omega.{arith}
-use Rattle.board.specs.Whole.{Board, entry_of, Table}
+use Rattle.board.specs.Whole.{Board, Entry, entry_of, Table}
 use Rattle.graph_flows.specs.Trails.{Step}
 use Rattle.journal.specs.Words.{whole_of, entries_of, standing}
 use Rattle.journal.proofs.Laws.{add_standing}
@@ -12,10 +15,11 @@ use Rattle.move_guard.specs.Guard.{playing}
 use Rattle.move_guard.proofs.Facts.{playing_moves}
 use Rattle.move_guard.proofs.Lent.{whole_long}
 use Rattle.move_cycle.specs.Steps.{code_steps}
-use Rattle.move_turn.specs.Lent.{change_of}
+use Rattle.move_turn.specs.declared.Augmented.{Augmented}
+use Rattle.move_turn.specs.Lent.{made_of}
 use Rattle.move_guard.specs.Bounds.{InBounds}
 use Rattle.move_guard.proofs.Bounds.{playing_bounds}
-use Rattle.solve_carry.proofs.Finds.{found_some, open_carry_bare, bounds_searched}
+use Rattle.solve_carry.proofs.Finds.{some_open_bare, bounds_searched}
 use Rattle.solve_carry.proofs.Resumed.{resumes_first}
 use Rattle.move_turn.proofs.Changes.{turn_made}
 use Rattle.move_turn.proofs.Lent.{bounds_turnable, turn_of_bare, closed_made, open_made, lent_refused, lent_stored}
@@ -74,15 +78,16 @@ bounds c =
     })
 
 -- what the turn changes on the board
-made_here : (c : lts.After-change tie.the-claims reads.Pre reads.Post tie.handed_clauses)
+made_here : (c : lts.After-change tie.the-claims reads.Pre reads.Post tie.handed_clauses) (r : Result Augmented Refusal) → c.change.result ≡ r
     → let b = given (begun (charted c.before)) in
-    change_of c.change-made.result c.change-made.new.flows b.places ≡ turn_made b (path (begun (charted c.before)))
-made_here c =
+    made_of (table (begun (charted c.before))).marks r c.change.new.flows b.places ≡ turn_made b (path (begun (charted c.before)))
+made_here c r is =
     let b = given (begun (charted c.before)) in
     let found = (searched c.before).open_carry-found in
     open_made b _ _ _ (plays (begun (charted c.before)))
-    (found_some b.network b.flows b.marks b.places found.result (found.ensures ∙ open_carry_bare b.network b.flows b.marks (charted c.before).positive-positive.result b.places))
-    (c.change-made.ensures ∙ turn_of_bare b.network true _ b.flows b.marks b.places _)
+    (c.is_some.ensures ∙ found.ensures.some ∙ some_open_bare b.network b.flows b.marks (charted c.before).positive-positive.result b.places)
+    (ap (λ (x : Result Augmented Refusal). made_of (table (begun (charted c.before))).marks x c.change.new.flows b.places) (sym is)
+    ∙ c.change.ensures ∙ turn_of_bare b.network true _ b.flows b.marks b.places _)
 
 pub returns-then-not-playing : goal.returns-then-not-playing
 returns-then-not-playing c =
@@ -103,16 +108,17 @@ open_carry-found-requires c =
       resumes = resumes_first _ _ _ _;
     }
 
-pub change-made-requires : goal.change-made-requires
-change-made-requires c =
+pub change-requires : goal.change-requires
+change-requires c =
     let chart = charted c.before in
     let b = given (begun chart) in
     bounds_turnable b.network b.flows b.places _ _ _ _ (bounds (begun chart)) c.at_vertices-leaving.ensures c.positive-positive.ensures
 
-pub returns-then-made-ne0 : goal.returns-then-made-ne0
-returns-then-made-ne0 c =
-    let all = lent_refused (given (begun (charted c.before.before.before.before))) _ _ (made_here c.before.before.before) _ c.if-made-ne0.true in record {
-      journal_after = all.0;
+pub returns-in_err-made : goal.returns-in_err-made
+returns-in_err-made c =
+    let changed = c.before.before.before.before in
+    let all = lent_refused (given (begun (charted changed.before))) _ _ (made_here changed _ c.in_err-made.was) _ (refused c.in_err-made.field-0.0) in record {
+      journal_after = rw (passed_on _ _ c.from_residual.ensures.1) all.0;
       journal_after_2 = all.1;
     }
 
@@ -123,11 +129,13 @@ overflow_add-next c =
 
 pub returns : goal.returns
 returns c =
-    let begin = begun (charted c.before.before.before.before.before.before.before.before.before) in
+    let changed = c.before.before.before.before.before.before.before.before in
+    let begin = begun (charted changed.before) in
     let b = given begin in
     let m = b.moves in
-    let journal = ap (standing (m + 1)) c.put_entry.ensures.journal_after_2 ∙ sym (add_standing m (m + 1) (entries_of (old begin)) (entry_of c.change-made.result.entry) (omega arith)) in
-    let all = lent_stored b _ _ (made_here c.before.before.before.before.before.before.before.before) (old begin) _ _ c.if-made-ne0.false (whole_long (table begin) (old begin)) journal c.put_entry.ensures.journal_after in record {
+    let entry : Entry = entry_of c.in_ok-made.made.entry in
+    let journal = ap (standing (m + 1)) c.put_entry.ensures.journal_after_2 ∙ sym (add_standing m (m + 1) (entries_of (old begin)) entry (omega arith)) in
+    let all = lent_stored b _ _ (made_here changed _ c.in_ok-made.was) (old begin) _ _ refl (whole_long (table begin) (old begin)) journal c.put_entry.ensures.journal_after in record {
       journal_after = all.0;
       journal_after_2 = all.1;
     }

@@ -13,10 +13,10 @@ use Rattle.move_turn.specs.Turns.{meets_in}
 use Rattle.move_turn.specs.declared.StepRule.TheVariants.{OnBoard, Positive, UpSingular}
 use Rattle.move_turn.proofs.Passing.{meet, in_sets, refused_6, refused_7, refused_24, refused_25, refused_26, steps_accepted, ups_same}
 use borrow.Author.Rules.{rules}
-use Rattle.move_turn.proofs.refusal_in.Lts as lts
-use Rattle.move_turn.proofs.refusal_in.Tie as tie
-use Rattle.move_turn.proofs.refusal_in.Reads as reads
-use Rattle.move_turn.proofs.refusal_in.Goals as goal
+use Rattle.move_turn.proofs.judge_in.Lts as lts
+use Rattle.move_turn.proofs.judge_in.Tie as tie
+use Rattle.move_turn.proofs.judge_in.Reads as reads
+use Rattle.move_turn.proofs.judge_in.Goals as goal
 
 abbrev Start : Type 0
 Start = lts.Start tie.the-claims reads.Pre reads.Post tie.handed_clauses
