@@ -4,7 +4,7 @@ use mathlib.Core.Path.{◌≡◌, refl, sym, ap, ◌∙◌}
 use mathlib.Core.Bool.{Bool, true, false, true≢false}
 use mathlib.Core.List.{List}
 use mathlib.Core.Logic.{◌⊎◌, inl, inr, ◌≢◌}
-use Prim.Native.Nat.{ℕ, ◌+◌, ◌-◌, ◌<◌, ◌≤◌}
+use Prim.Native.Nat.{ℕ, ◌+◌, ◌-◌, ◌<◌, ◌≤◌, min}
 use native.Mathlib.Nat.{zero-add, sub-zero}
 use native.Mathlib.Omega.{arith}
 use lib.Dec.{ltb, eqb}
@@ -128,10 +128,10 @@ module _ (from to flows : List ℕ) (s : List Bool) (v : ℕ) where
           inside (get_or to (onward from to flows s v) 0) (both_right _ _ (both_right _ _ t)) (lt_or_ge _ _)
       go (inr h) = let long : length to ≤ onward from to flows s v = omega arith in rw (get_or-eq_default to 0 long) some
 
--- the lowest number of a bitset, where it is an edge
-module _ (low count e : ℕ) (q : e ≡ low) where
-  pub lowest_taken : e < count → e ≡ pick (ltb low count) low count
-  lowest_taken h = q ∙ sym (pick_yes _ _ _ (lt-ltb _ _ (rw q at h)))
-
-  pub lowest_over : count ≤ e → count ≡ pick (ltb low count) low count
-  lowest_over h = sym (pick_no _ _ _ (le-ltb _ _ (rw q at h)))
+-- the lesser of two numbers
+pub lesser : (a b : ℕ) → min a b ≡ pick (ltb a b) a b
+lesser a b = go (lt_or_ge a b)
+  where
+    go : (a < b) ⊎ (b ≤ a) → min a b ≡ pick (ltb a b) a b
+    go (inl h) = rw (pick_yes _ a b (lt-ltb _ _ h)) (omega arith)
+    go (inr h) = rw (pick_no _ a b (le-ltb _ _ h)) (omega arith)

@@ -11,26 +11,6 @@ ghost use Rattle.graph.specs.Bitsets.{column};
 
 use sets::{EdgeSet, VertexSet};
 
-// The bitset of v, and the empty set past the end.
-pub fn bitset_at(bitsets: &[VertexSet], v: usize) -> VertexSet
-    ensures { result ≡ get_or bitsets.now v none }
-{
-    if v < bitsets.len() {
-        bitsets[v]
-    } else {
-        sets::word::none()
-    }
-}
-
-// Stores the bitset of v, and nothing past the end.
-fn put_bitset(bitsets: &mut [VertexSet], v: usize, bitset: VertexSet)
-    ensures { bitsets.new ≡ set bitsets.old v bitset }
-{
-    if v < bitsets.len() {
-        bitsets[v] = bitset;
-    }
-}
-
 // The bitset of `end` takes in the bitset of `start`. Answers whether the bitsets changed.
 fn join(bitsets: &mut [VertexSet], start: usize, end: usize) -> bool
     ensures bitsets_after { bitsets.new ≡
@@ -38,10 +18,11 @@ fn join(bitsets: &mut [VertexSet], start: usize, end: usize) -> bool
         (get_or bitsets.old start none)) }
     ensures bitsets_unchanged { result ≡ false → bitsets.new ≡ bitsets.old }
 {
-    let old = bitset_at(&*bitsets, end);
-    let more = bitset_at(&*bitsets, start);
+    let none = sets::word::none();
+    let old = lists::at_or(&*bitsets, end, none);
+    let more = lists::at_or(&*bitsets, start, none);
     let new = sets::word::joined(old, more);
-    put_bitset(bitsets, end, new);
+    lists::put(bitsets, end, new);
     new != old
 }
 
@@ -76,11 +57,9 @@ fn pass<'a>(from: &'a [u32], to: &'a [u32], flows: &'a [u32], bitsets: &mut [Ver
     ensures bitsets_unchanged { result ≡ false → bitsets.new ≡ bitsets.old }
 {
     let mut any_changed = false;
-    let mut e: usize = 0;
-    while e < flows.len() {
+    for e in 0..flows.len() {
         let joined = cross(from, to, flows, bitsets, e);
         any_changed = lists::or(any_changed, joined);
-        e += 1;
     }
     any_changed
 }
@@ -91,11 +70,8 @@ fn clear(bitsets: &mut [VertexSet])
     ensures { (v : ℕ) → column bitsets.new v ≡
         set (replicate (length bitsets.old) false) v true }
 {
-    let none = sets::word::none();
-    let mut v: usize = 0;
-    while v < bitsets.len() {
-        bitsets[v] = sets::word::with(none, true, v);
-        v += 1;
+    for (v, bitset) in bitsets.iter_mut().enumerate() {
+        *bitset = sets::word::with(sets::word::none(), true, v);
     }
 }
 
@@ -105,12 +81,10 @@ fn spread<'a>(from: &'a [u32], to: &'a [u32], flows: &'a [u32], bitsets: &mut [V
         passes from.now to.now flows.now (length bitsets.old)
         (column bitsets.old v) }
 {
-    let mut k: usize = 0;
-    while k < bitsets.len() {
+    for _ in 0..bitsets.len() {
         if !pass(from, to, flows, bitsets) {
             return;
         }
-        k += 1;
     }
 }
 
@@ -129,45 +103,18 @@ pub fn column(bitsets: &[VertexSet], v: u32, seen: &mut [bool])
     requires { length seen.old ≡ length bitsets.now }
     ensures { seen.new ≡ column bitsets.now v }
 {
-    let mut u: usize = 0;
-    while u < bitsets.len() {
-        seen[u] = sets::word::has(bitsets[u], v as usize);
-        u += 1;
+    for (u, bitset) in bitsets.iter().enumerate() {
+        seen[u] = sets::word::has(*bitset, v as usize);
     }
 }
 
 // ---- The edges that lead on from each vertex, as sets.
 
-// The set of v, and the empty set past the end.
-pub fn edges_at(edges: &[EdgeSet], v: usize) -> EdgeSet
-    ensures { set_of result ≡ get_or (sets_of edges.now) v none }
-{
-    if v < edges.len() {
-        edges[v]
-    } else {
-        sets::none()
-    }
-}
-
-// Stores the set of v, and nothing past the end.
-fn put_edges(edges: &mut [EdgeSet], v: usize, new: EdgeSet)
-    ensures { sets_of edges.new ≡ set (sets_of edges.old) v (set_of new) }
-{
-    if v < edges.len() {
-        edges[v] = new;
-    }
-}
-
 // The empty set for each vertex.
 fn empty(edges: &mut [EdgeSet])
     ensures { (v : ℕ) → v < length edges.old → get_or (sets_of edges.new) v none ≡ none }
 {
-    let none = sets::none();
-    let mut v: usize = 0;
-    while v < edges.len() {
-        edges[v] = none;
-        v += 1;
-    }
+    edges.fill(sets::none());
 }
 
 // Where edge e is positive and leads into the set, it joins the edges of the vertex that it leaves.
@@ -192,8 +139,8 @@ fn leave<'a>(
         return;
     }
     let tail = lists::at_or(from, e, 0) as usize;
-    let joined = sets::with(edges_at(&*edges, tail), true, e);
-    put_edges(edges, tail, joined);
+    let old = lists::at_or(&*edges, tail, sets::none());
+    lists::put(edges, tail, sets::with(old, true, e));
 }
 
 // For each vertex the set of the positive edges that leave it and lead into the set.
@@ -210,10 +157,8 @@ pub fn leaving<'a>(
         (length flows.now) }
 {
     empty(edges);
-    let mut e: usize = 0;
-    while e < flows.len() {
+    for e in 0..flows.len() {
         leave(from, to, flows, seen, edges, e);
-        e += 1;
     }
 }
 
@@ -221,6 +166,5 @@ pub fn leaving<'a>(
 pub fn lowest_edge(edges: EdgeSet, count: usize) -> usize
     ensures { result ≡ pick (ltb (lowest_in (set_of edges)) count) (lowest_in (set_of edges)) count }
 {
-    let e = sets::lowest(edges) as usize;
-    if e < count { e } else { count }
+    (sets::lowest(edges) as usize).min(count)
 }

@@ -11,11 +11,8 @@ returns-then-at_or-eq0 c = record {
 
 pub returns : goal.returns
 returns c =
-    let at_join = c.join in
-    let at_word_at3 = c.at_or-end in
-    let at_word_at2 = c.at_or-start in
-    let at_if1 = c.if-at_or-eq0 in
-    let at_word_at = c.at_or in record {
-      bitsets_after = at_join.ensures.bitsets_after ∙ rw (at_word_at2.ensures, at_word_at3.ensures) (crossed _ _ _ (λ z. at_if1.false (at_word_at.ensures ∙ z)));
-      bitsets_unchanged = at_join.ensures.bitsets_unchanged;
+    let positive = c.if-at_or-eq0 in
+    let flow = c.at_or in record {
+      bitsets_after = c.join.ensures.bitsets_after ∙ rw (c.at_or-start.ensures, c.at_or-end.ensures) (crossed _ _ _ (λ z. positive.false (flow.ensures ∙ z)));
+      bitsets_unchanged = c.join.ensures.bitsets_unchanged;
     }

@@ -8,9 +8,5 @@ use Rattle.graph.proofs.leaving.Given as goal
 
 abbrev pub invariant-loop-e : goal.invariant-loop-e
 invariant-loop-e l =
-    (length l.edges ≡ length l.initial.edges)
-    × ((v : ℕ) → v < length l.initial.edges
-    → collect (leads l.from l.to l.flows l.seen v) (get_or l.edges v 0) l.e (length l.flows - l.e) ≡ collect (leads l.from l.to l.flows l.seen v) 0 0 (length l.flows))
-
-abbrev pub decreases-loop-e : goal.decreases-loop-e
-decreases-loop-e l = length l.flows - l.e
+    (v : ℕ) → v < length l.initial.edges
+    → collect (leads l.from l.to l.flows l.seen v) (get_or l.edges v 0) l.e (length l.flows - l.e) ≡ collect (leads l.from l.to l.flows l.seen v) 0 0 (length l.flows)

@@ -1,9 +1,7 @@
--- The lowest number of the bitset where it is below the count of edges, and else the count: the definition's pick.
-use Rattle.graph.proofs.Onwards.{lowest_taken, lowest_over}
+-- The lesser of the lowest number and the count is the definition's pick.
+use mathlib.Core.Path.{◌∙◌}
+use Rattle.graph.proofs.Onwards.{lesser}
 use Rattle.graph.proofs.lowest_edge.Goals as goal
 
-pub returns-then-e-count : goal.returns-then-e-count
-returns-then-e-count c = lowest_taken _ _ _ c.lowest-e.ensures c.if-e-count.true
-
-pub returns-else-e-count : goal.returns-else-e-count
-returns-else-e-count c = lowest_over _ _ _ c.lowest-e.ensures c.if-e-count.false
+pub returns : goal.returns
+returns c = c.min.ensures ∙ rw c.lowest.ensures (lesser _ _)

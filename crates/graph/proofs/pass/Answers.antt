@@ -5,31 +5,26 @@ use native.Mathlib.Nat.{sub-zero}
 use Rattle.lists.proofs.Laws.{either_left, either_right}
 use Rattle.graph.proofs.Loops.{pass_turn, pass_end}
 use Rattle.graph.proofs.Columns.{column_turn}
-use native.Mathlib.Omega.{arith}
 use Rattle.graph.proofs.pass.Goals as goal
 
 pub loop-e-init : goal.loop-e-init
-loop-e-init c = (refl, λ v. rw sub-zero, λ h. refl)
+loop-e-init c = (λ v. rw sub-zero, λ h. refl)
 
 pub loop-e-preserved : goal.loop-e-preserved
 loop-e-preserved c =
-    let at_or = c.or-any_changed in
-    let at_cross = c.cross-joined in
-    let at_loop_test = c.loop-e-test in
-    let at_loop = c.loop-e in
-    let at_args = c.args in
-    let inv = at_loop.invariant in (
-      omega arith,
-      λ v. pass_turn _ _ _ _ _ _ _ at_loop_test.true
-          (column_turn at_args.from.now at_args.to.now at_args.flows.now at_loop.bitsets _ at_loop.e v at_cross.ensures.bitsets_after) ∙ inv.1 v,
-      λ h. at_cross.ensures.bitsets_unchanged (either_right _ _ (sym at_or.ensures ∙ h)) ∙ inv.2 (either_left _ _ (sym at_or.ensures ∙ h)),
+    let cross = c.cross-joined.ensures in
+    let any = sym c.or-any_changed.ensures in
+    let loop = c.loop-e in
+    let from = c.args.from.now in
+    let to = c.args.to.now in
+    let flows = c.args.flows.now in
+    let inv = loop.invariant in (
+      λ v. pass_turn from to flows _ _ _ _ c.loop-e-test.true (column_turn from to flows loop.bitsets _ loop.e v cross.bitsets_after) ∙ inv.0 v,
+      λ h. cross.bitsets_unchanged (either_right _ _ (any ∙ h)) ∙ inv.1 (either_left _ _ (any ∙ h)),
     )
-
-pub shape_of-bitsets : goal.shape_of-bitsets
-shape_of-bitsets c = c.loop-e.invariant.0
 
 pub returns : goal.returns
 returns c = record {
-  by_index = λ v. sym (pass_end _ _ _ _ _ _ c.loop-e-test.false) ∙ c.loop-e.invariant.1 v;
-  bitsets_unchanged = c.loop-e.invariant.2;
+  by_index = λ v. sym (pass_end _ _ _ _ _ _ c.loop-e-test.false) ∙ c.loop-e.invariant.0 v;
+  bitsets_unchanged = c.loop-e.invariant.1;
 }

@@ -10,9 +10,5 @@ use Rattle.graph.proofs.pass.Given as goal
 
 abbrev pub invariant-loop-e : goal.invariant-loop-e
 invariant-loop-e l =
-    (length l.bitsets ≡ length l.initial.bitsets)
-    × ((v : ℕ) → pass l.from l.to l.flows l.e (length l.flows - l.e) (column l.bitsets v) ≡ pass l.from l.to l.flows 0 (length l.flows) (column l.initial.bitsets v))
+    ((v : ℕ) → pass l.from l.to l.flows l.e (length l.flows - l.e) (column l.bitsets v) ≡ pass l.from l.to l.flows 0 (length l.flows) (column l.initial.bitsets v))
     × (l.any_changed ≡ false → l.bitsets ≡ l.initial.bitsets)
-
-abbrev pub decreases-loop-e : goal.decreases-loop-e
-decreases-loop-e l = length l.flows - l.e
