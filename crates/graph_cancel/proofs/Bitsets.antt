@@ -5,14 +5,15 @@ use mathlib.Core.Path.{◌≡◌, refl, sym, ap, ◌∙◌}
 use mathlib.Core.Bool.{Bool, true, false, true≢false}
 use mathlib.Core.List.{List}
 use mathlib.Core.Logic.{◌⊎◌, inl, inr, ◌≢◌}
-use Prim.Native.Nat.{ℕ, ◌+◌, ◌-◌, ◌<◌, ◌≤◌}
+use Prim.Native.Nat.{ℕ, ◌+◌, ◌-◌, ◌<◌, ◌≤◌, min}
 use native.Mathlib.Nat.{sub-zero}
+use native.Mathlib.Omega.{arith}
 use lib.Dec.{ltb}
 use lib.ListN.{length, get_or}
 use borrow.Author.Tests.{eq-eqb, ne_eqb, lt-ltb, le-ltb}
 use Rattle.lists.specs.Choice.{pick, both, either}
 use Rattle.lists.specs.Lists.{lowest}
-use Rattle.lists.proofs.Laws.{Known, was_true, was_false, known, eq_or_ne, pick_yes, pick_no, lowest_hit, lowest_miss, lowest_end}
+use Rattle.lists.proofs.Laws.{Known, was_true, was_false, known, eq_or_ne, lt_or_ge, pick_yes, pick_no, lowest_hit, lowest_miss, lowest_end}
 use Rattle.sets.specs.Sets.{has_bit, with_bit}
 use Rattle.sets.specs.Inner.{word_width}
 use Rattle.sets.proofs.Bits.{has-none, has_with_same, has_with_other}
@@ -89,13 +90,13 @@ module _ (tails heads flows bitsets : List ℕ) (n m v : ℕ) (fits : n ≤ word
   unfolding on_cycle
   same u h = on u ∙ rw (rest u)
 
-  pub vertex_found : v < n → v ≡ cycle_vertex tails heads n flows
+  pub vertex_found : min v n ≡ cycle_vertex tails heads n flows
   unfolding cycle_vertex
-  vertex_found h = cut_found (on_cycle tails heads n flows) (has_bit m) n word_width v fits same low h
-
-  pub vertex_none : n ≤ v → n ≡ cycle_vertex tails heads n flows
-  unfolding cycle_vertex
-  vertex_none h = cut_none (on_cycle tails heads n flows) (has_bit m) n word_width v fits same low h
+  vertex_found = go (lt_or_ge v n)
+    where
+      go : (v < n) ⊎ (n ≤ v) → min v n ≡ lowest (on_cycle tails heads n flows) 0 n
+      go (inl h) = let e : min v n ≡ v = omega arith in e ∙ cut_found (on_cycle tails heads n flows) (has_bit m) n word_width v fits same low h
+      go (inr h) = let e : min v n ≡ n = omega arith in e ∙ cut_none (on_cycle tails heads n flows) (has_bit m) n word_width v fits same low h
 
 -- the bitsets of as many vertices as there are bitsets
 pub counted : (from to flows bitsets : List ℕ) (n k : ℕ) → n ≡ k → ((v : ℕ) → column bitsets v ≡ reached from to flows k v) → (v : ℕ)

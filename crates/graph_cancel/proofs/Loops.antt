@@ -36,10 +36,16 @@ put_front [] k e h = absurd (omega arith)
 put_front (x ∷ w) zero e h = refl
 put_front (x ∷ w) (suc k) e h = put_front w k e (omega arith)
 
-module _ (tails heads flows : List ℕ) (s : List Bool) (w r : List ℕ) (at v u b : ℕ) (total : List ℕ) (some : 0 < at) (inside : at ≤ length w)
-    (put : r ≡ set w (at - 1) (onward tails heads flows s v)) (next : u ≡ get_or heads (onward tails heads flows s v) 0)
+module _ (tails heads flows : List ℕ) (s : List Bool) (w r : List ℕ) (at v e u b : ℕ) (total : List ℕ) (some : 0 < at) (inside : at ≤ length w)
+    (edge : e ≡ onward tails heads flows s v) (stored : r ≡ set w (at - 1) e) (end : u ≡ get_or heads e 0)
     (back : b ≡ since tails u (take (length r - (at - 1)) (drop (at - 1) r)))
     (inv : follow tails heads flows s at (drop at w) v ≡ total) where
+  put : r ≡ set w (at - 1) (onward tails heads flows s v)
+  put = stored ∙ ap (set w (at - 1)) edge
+
+  next : u ≡ get_or heads (onward tails heads flows s v) 0
+  next = end ∙ ap (λ (k : ℕ). get_or heads k 0) edge
+
   one_less : at ≡ suc (at - 1)
   one_less = omega arith
 
@@ -58,11 +64,12 @@ module _ (tails heads flows : List ℕ) (s : List Bool) (w r : List ℕ) (at v u
   turn : follow tails heads flows s (suc (at - 1)) (drop at w) v ≡ total
   turn = ap (λ (k : ℕ). follow tails heads flows s k (drop at w) v) (sym one_less) ∙ inv
 
-  pub follow_hit : b < length r - (at - 1) → take (b + 1) (drop (at - 1) r) ≡ total
+  pub follow_hit : b < length r - (at - 1) → take (at - 1 + b + 1 - (at - 1)) (drop (at - 1) r) ≡ total
   unfolding follow
   follow_hit h =
       let t : ltb b (suc (length (drop at w))) ≡ true = rw size (lt-ltb b _ h) in
-      rw (add-one b, walked, since_it) (rw (← since_it, t, follow) at turn)
+      let k : at - 1 + b + 1 - (at - 1) ≡ suc b = omega arith in
+      rw (k, walked, since_it) (rw (← since_it, t, follow) at turn)
 
   pub follow_on : length r - (at - 1) ≤ b → follow tails heads flows s (at - 1) (drop (at - 1) r) u ≡ total
   unfolding follow

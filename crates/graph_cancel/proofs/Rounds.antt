@@ -6,7 +6,6 @@ use Prim.Native.Nat.{ℕ, zero, suc, ◌+◌, ◌-◌, ◌<◌, ◌≤◌}
 use native.Mathlib.Numerals.{add-one}
 use native.Mathlib.Omega.{arith}
 use lib.Dec.{ltb}
-use lib.ListN.{take, drop}
 use borrow.Author.Tests.{lt-ltb, le-ltb}
 use Rattle.graph.specs.Graph.{reached}
 use Rattle.graph_cancel.specs.Cycles.{follow, cycle_vertex, cycle_from}
@@ -20,18 +19,10 @@ none : (n i : ℕ) → n ≤ i → n - i ≡ 0
 none n i h = omega arith
 
 -- the parts of one round, one call after the other
-pub cycle_made : (tails heads flows : List ℕ) (n m v from count : ℕ) (s : List Bool) (w r : List ℕ) → n ≡ m → s ≡ reached heads tails flows n v
-    → take count (drop from w) ≡ follow tails heads flows s m [] v → r ≡ lower_cycle flows (take (from + count - from) (drop from w))
-    → r ≡ lower_cycle flows (cycle_from tails heads n flows v)
+pub cycle_made : (tails heads flows : List ℕ) (n m v : ℕ) (s : List Bool) (cycle r : List ℕ) → n ≡ m → s ≡ reached heads tails flows n v
+    → cycle ≡ follow tails heads flows s m [] v → r ≡ lower_cycle flows cycle → r ≡ lower_cycle flows (cycle_from tails heads n flows v)
 unfolding cycle_from
-cycle_made tails heads flows n m v from count s w r same p f e =
-    let part : take (from + count - from) (drop from w) ≡ follow tails heads flows (reached heads tails flows n v) n [] v =
-    let k : from + count - from ≡ count = omega arith in rw (k, ← p, same) f in
-    e ∙ rw part
-
--- a set of as many vertices
-pub sized : (from to flows : List ℕ) (k n v : ℕ) (s : List Bool) → k ≡ n → s ≡ reached from to flows n v → s ≡ reached from to flows k v
-sized from to flows k n v s e h = rw e h
+cycle_made tails heads flows n m v s cycle r same p f e = e ∙ rw (f, p, same)
 
 -- rounds of cancelling
 module _ (tails heads : List ℕ) (n m r : ℕ) (flows : List ℕ) (v : ℕ) (at : v ≡ cycle_vertex tails heads n flows) where

@@ -2,9 +2,8 @@
 // each, a bitset a bit.
 #![tactic(auto)]
 
-ghost use Rattle.std.specs.Prelude.{◌≡◌, true, [], ℕ, ◌+◌, ◌≤◌, ◌<◌, ltb, length, take, drop, get_or};
-ghost use Rattle.lists.specs.Choice.{pick};
-ghost use Rattle.sets.specs.Sets.{has_bit, with_bit};
+ghost use Rattle.std.specs.Prelude.{◌≡◌, [], ℕ, ◌≤◌, ◌<◌, ltb, length, get_or};
+ghost use Rattle.sets.specs.Sets.{has_bit};
 ghost use Rattle.sets.specs.Inner.{word_width, set_width};
 ghost use Rattle.graph.specs.Graph.{reached, onward};
 ghost use Rattle.graph.specs.Bitsets.{column};
@@ -15,25 +14,6 @@ ghost use Rattle.graph_cancel.specs.Cancelling.{acyclic_flows};
 use sets::VertexSet;
 
 // ---- The lowest vertex on a cycle of positive edges, and the walk from it.
-
-// A part of a slice: where it starts, and how long it is.
-#[derive(Clone, Copy)]
-pub struct Span {
-    pub from: usize,
-    pub count: usize,
-}
-
-// The set, with v where it is to join.
-fn with_vertex(m: VertexSet, joins: bool, v: usize) -> VertexSet
-    requires { joins ≡ true → v < word_width }
-    ensures { result ≡ pick joins (with_bit m v) m }
-{
-    if joins {
-        sets::word::with(m, true, v)
-    } else {
-        m
-    }
-}
 
 // The set of the vertices that a positive edge leaves from whose head they can be reached: the head's bitset has them.
 fn on_cycles<'a>(
@@ -46,17 +26,17 @@ fn on_cycles<'a>(
         ltb (onward tails.now heads.now flows.now (column bitsets.now v) v)
         (length flows.now) }
 {
-    let mut m = sets::word::none();
-    let mut e: usize = 0;
-    while e < flows.len() {
+    let none = sets::word::none();
+    let mut on = none;
+    for (e, flow) in flows.iter().enumerate() {
         let tail = lists::at_or(tails, e, 0) as usize;
         let head = lists::at_or(heads, e, 0) as usize;
-        let bitset = graph::bitset_at(bitsets, head);
-        let back = lists::and(0 < flows[e], sets::word::has(bitset, tail));
-        m = with_vertex(m, back, tail);
-        e += 1;
+        let bitset = lists::at_or(bitsets, head, none);
+        if lists::and(0 < *flow, sets::word::has(bitset, tail)) {
+            on = sets::word::with(on, true, tail);
+        }
     }
-    m
+    on
 }
 
 // The lowest vertex on a cycle of positive edges, or the count of vertices. The bitsets are left as the vertices that
@@ -75,8 +55,7 @@ fn cycle_vertex<'a>(
 {
     graph::reach(heads, tails, flows, bitsets);
     let on = on_cycles(tails, heads, flows, &*bitsets);
-    let v = sets::word::lowest(on);
-    if v < n { v } else { n }
+    sets::word::lowest(on).min(n)
 }
 
 // How many edges of a walk, the latest first, come before the one that left v.
@@ -84,62 +63,46 @@ fn since<'a>(tails: &'a [u32], v: u32, walk: &'a [usize]) -> usize
     ensures value { result ≡ since tails.now v walk.now }
     ensures upper_bound { result ≤ length walk.now }
 {
-    let mut i: usize = 0;
-    while i < walk.len() {
-        if lists::at_or(tails, walk[i], 0) == v {
+    for (i, e) in walk.iter().enumerate() {
+        if lists::at_or(tails, *e, 0) == v {
             return i;
         }
-        i += 1;
     }
-    i
+    walk.len()
 }
 
 // Walks from `start` until a vertex comes a second time, filling `walk` from its end; answers the part since that
 // vertex was left.
-fn follow<'a>(
+fn follow<'a, 'b>(
     tails: &'a [u32],
     heads: &'a [u32],
     flows: &'a [u32],
     seen: &'a [bool],
     start: u32,
-    walk: &mut [usize],
-) -> Span
+    walk: &'b mut [usize],
+) -> &'b [usize]
     requires heads_in_bounds { (length heads.now ≤ length flows.now) × (length flows.now ≤ set_width) }
     requires seen_len_bound { (length seen.now ≤ word_width) × (start < length seen.now) }
-    ensures count_in_bounds { result.from + result.count ≤ length walk.new }
-    ensures walk_after { take result.count (drop result.from walk.new) ≡
-        follow tails.now heads.now flows.now seen.now
-        (length walk.old) [] start }
+    ensures { result.now ≡ follow tails.now heads.now flows.now seen.now (length walk.old) [] start }
 {
     let none = sets::none();
     let mut edges = [none; sets::word::WIDTH];
     graph::leaving(tails, heads, flows, seen, &mut edges);
     let mut v = start;
-    let mut at = walk.len();
-    while 0 < at {
-        let onward = graph::edges_at(&edges, v as usize);
+    for at in (0..walk.len()).rev() {
+        let onward = lists::at_or(&edges, v as usize, none);
         let e = graph::lowest_edge(onward, flows.len());
-        at -= 1;
-        lists::put(walk, at, e);
+        walk[at] = e;
         v = lists::at_or(heads, e, 0);
         let count = since(tails, v, &walk[at..]);
         if count < walk.len() - at {
-            return Span {
-                from: at,
-                count: count + 1,
-            };
+            return &walk[at..=at + count];
         }
     }
-    Span { from: 0, count: 0 }
+    &[]
 }
 
 // ---- One cycle lowered by the smallest flow on it.
-
-fn lesser(a: u32, b: u32) -> u32
-    ensures { result ≡ pick (ltb a b) a b }
-{
-    if a < b { a } else { b }
-}
 
 // The smallest flow on a cycle.
 fn smallest<'a>(flows: &'a [u32], cycle: &'a [usize]) -> u32
@@ -148,11 +111,9 @@ fn smallest<'a>(flows: &'a [u32], cycle: &'a [usize]) -> u32
 {
     let first = lists::at_or(cycle, 0, 0);
     let mut least = lists::at_or(flows, first, 0);
-    let mut i: usize = 0;
-    while i < cycle.len() {
-        let flow = lists::at_or(flows, cycle[i], 0);
-        least = lesser(flow, least);
-        i += 1;
+    for e in cycle {
+        let flow = lists::at_or(flows, *e, 0);
+        least = flow.min(least);
     }
     least
 }
@@ -161,12 +122,9 @@ fn smallest<'a>(flows: &'a [u32], cycle: &'a [usize]) -> u32
 fn lower(flows: &mut [u32], x: u32, cycle: &[usize])
     ensures { flows.new ≡ lowered flows.old x cycle.now }
 {
-    let mut i: usize = 0;
-    while i < cycle.len() {
-        let e = cycle[i];
-        let flow = lists::at_or(&*flows, e, 0);
-        lists::put(flows, e, lists::minus(flow, x));
-        i += 1;
+    for e in cycle {
+        let flow = lists::at_or(&*flows, *e, 0);
+        lists::put(flows, *e, flow.saturating_sub(x));
     }
 }
 
@@ -200,10 +158,8 @@ fn cancel_from<'a>(
         (length seen.old) flows.old v) }
 {
     graph::column(bitsets, v, seen);
-    let span = follow(tails, heads, &*flows, &*seen, v, walk);
-    let from = span.from;
-    let to = span.from + span.count;
-    lower_cycle(flows, &walk[from..to]);
+    let cycle = follow(tails, heads, &*flows, &*seen, v, walk);
+    lower_cycle(flows, cycle);
 }
 
 // Cancels every cycle, the lowest vertex on one first. The set, the walk and the bitsets are for its use.
@@ -221,14 +177,12 @@ fn cancel_all<'a>(
     ensures { flows.new ≡ acyclic_flows tails.now heads.now n
         flows.old }
 {
-    let mut round: usize = 0;
-    while round < flows.len() {
+    for _ in 0..flows.len() {
         let v = cycle_vertex(tails, heads, &*flows, n, bitsets);
         if n <= v {
             return;
         }
         cancel_from(tails, heads, flows, v, seen, walk, &*bitsets);
-        round += 1;
     }
 }
 
