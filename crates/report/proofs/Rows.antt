@@ -16,7 +16,7 @@ use Rattle.report_routes.specs.Tables.{routes_fit}
 use Rattle.report_routes.specs.Inner.{counts_of, rows_of, AreRouteSets, set_load}
 use Rattle.report_routes.proofs.Read.{counts_route, fits_at, row_route, table-load, set-load}
 use Rattle.report.specs.Reports.{route_row, load_row_in, load_row}
-use Rattle.report.specs.Rows.{table_route_row, table_load_row}
+use Rattle.report.specs.Rows.{table_route_row, table_load_row, set_load_row}
 
 -- one edge of a row, stored behind those before it
 pub row_turned : (terminal count k : ℕ) (edges row : List ℕ) → k < length edges → k + 2 < length row → take (k + 2) row ≡ terminal ∷ count ∷ take k edges
@@ -31,10 +31,7 @@ unfolding lines_text
 lines_same x f g i zero same = refl
 lines_same x f g i (suc k) same = rw (same i (omega arith), lines_same x f g (suc i) k (λ j h. same j (omega arith)))
 
--- the line of an edge by the sets of the routes, and that those lines are the ones by the rows
-abbrev pub set_load_row : List ℕ → List ℕ → List ℕ → ℕ → ℕ → List ℕ
-set_load_row acyclic demands routes terminals = load_row_in (λ e. get_or acyclic e 0) (λ e. set_load routes demands e terminals)
-
+-- the lines by the sets of the routes are the ones by the rows
 pub set_lines : (net : Network) (acyclic counts : List ℕ) (rows : List (List ℕ)) (routes : List ℕ) → net.edges ≤ max_edges → AreRouteSets routes counts rows net.terminals
     → lines_text 76 (set_load_row acyclic net.demands routes net.terminals) 0 net.edges ≡ lines_text 76 (table_load_row net acyclic counts rows) 0 net.edges
 set_lines net acyclic counts rows routes few are =

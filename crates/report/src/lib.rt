@@ -1,7 +1,7 @@
 // The call `sheet`: the route report.
 #![tactic(auto)]
 
-ghost use Rattle.std.specs.Prelude.{◌≡◌, ◌∷◌, ℕ, ◌+◌, ◌*◌, ◌≤◌, ◌<◌, leb, length, get_or, take};
+ghost use Rattle.std.specs.Prelude.{◌≡◌, ◌∷◌, ℕ, ◌+◌, ◌*◌, ◌≤◌, ◌<◌, leb, length, get_or, take, IfOk};
 ghost use Rattle.std.proofs.lemmas.List.Edits.{sets};
 ghost use Rattle.board.specs.Limits.{max_vertices, max_edges, max_terminals};
 ghost use Rattle.journal.specs.Words.{whole_of};
@@ -10,11 +10,14 @@ ghost use Rattle.text.specs.Sizes.{line_bytes, line_numbers, routes_bytes, loads
 ghost use Rattle.text.specs.Room.{start_most, line_start_most};
 ghost use Rattle.report_routes.specs.Inner.{Moderate};
 ghost use Rattle.report.specs.Reports.{unreported_in, sheet_call, sheeted, put_call, put_in};
-ghost use Rattle.report.specs.Rows.{table_route_row, table_load_row, table_text, Printable};
+ghost use Rattle.refusals.specs.Refusals.{answer_of};
+ghost use Rattle.text.specs.Results.{as_written};
+ghost use Rattle.sets.specs.Inner.{sets_of};
+ghost use Rattle.report.specs.Rows.{set_load_row, table_route_row, table_load_row, table_text, Printable};
 
 use board::{Board, Network};
 use journal::WORDS;
-use text::Written;
+use refusals::Refusal;
 
 // How many numbers the line of a route has at most: the terminal, how many edges, and the edges.
 const ROUTE_NUMBERS: usize = Board::MAX_VERTICES + 2;
@@ -25,17 +28,21 @@ pub const REPORT_BYTES: usize = 24
     + (2 + 11 * ROUTE_NUMBERS) * Board::MAX_TERMINALS
     + 35 * Board::MAX_EDGES;
 
-// 29 or 28 of a loaded board, in this order; 0 where there is a report. `fit`: its routes have room in their rows.
-fn unreported_in(stage: u32, fit: bool) -> u32
-    ensures { result ≡ unreported_in stage fit }
+// Refuses a loaded board that has no report, with 29 or 28, in this order. `fit`: its routes have room in their rows.
+#[tactic(auto, unfolding(lists::specs::Choice::pick))]
+fn unreported_in(stage: u32, fit: bool) -> Result<(), Refusal>
+    ensures { answer_of result ≡ unreported_in stage fit }
 {
     if !fit {
-        return 29;
+        Err(Refusal::NotLoaded)
+    } else if stage != Board::FINISHED {
+        Err(Refusal::NotFinished)
+    } else {
+        Ok(())
     }
-    if stage == Board::FINISHED { 0 } else { 28 }
 }
 
-// The numbers of a route's line, and 0 behind them.
+// The numbers of a route's line, and behind them the rest of its row.
 fn route_row(terminal: u32, count: u32, edges: [u32; Board::MAX_VERTICES]) -> [u32; ROUTE_NUMBERS]
     requires { count ≤ max_vertices }
     ensures { take (count + 2) result ≡ terminal ∷ count ∷ take count edges }
@@ -43,12 +50,7 @@ fn route_row(terminal: u32, count: u32, edges: [u32; Board::MAX_VERTICES]) -> [u
     let mut row = [0u32; ROUTE_NUMBERS];
     row[0] = terminal;
     row[1] = count;
-    let mut left = count as usize;
-    while 0 < left {
-        let k = count as usize - left;
-        row[k + 2] = edges[k];
-        left -= 1;
-    }
+    row[2..].copy_from_slice(&edges);
     row
 }
 
@@ -88,12 +90,8 @@ fn put_routes(
         (lines_text 77 (table_route_row counts.now rows.now) 0 terminals) }
 {
     let mut to = at;
-    let mut i: u32 = 0;
-    while i < terminals {
-        let count = counts[i as usize];
-        let edges = rows[i as usize];
-        to = put_route(buf, to, i, count, edges);
-        i += 1;
+    for i in 0..terminals {
+        to = put_route(buf, to, i, counts[i as usize], rows[i as usize]);
     }
     to
 }
@@ -115,20 +113,18 @@ fn put_loads(
     ensures buf_after { buf.new ≡ sets buf.old at (lines_text 76
         (table_load_row net acyclic.now counts.now rows.now) 0 net.edges) }
 {
-    let edges = net.edges;
     let terminals = net.terminals;
     let demands = net.demands;
     let routes = report_routes::edge_sets(counts, rows, terminals);
-    let mut to = at;
-    let mut e: u32 = 0;
-    while e < edges {
-        let flow = acyclic[e as usize];
-        let load = report_routes::load(&routes, &demands, terminals, e);
-        let row = [e, flow, load];
-        to = text_writer::put_line(buf, to, b'L', &row);
-        e += 1;
-    }
-    to
+    let row = move |e: usize|
+        requires edge { e < max_edges }
+        requires few { (terminals ≤ max_terminals) × Moderate demands }
+        ensures { result ≡ set_load_row acyclic.entry.now demands (sets_of routes) terminals e }
+    {
+        let load = report_routes::load(&routes, &demands, terminals, e as u32);
+        [e as u32, acyclic[e], load]
+    };
+    text_writer::put_rows(buf, at, b'L', net.edges as usize, row)
 }
 
 // Writes the report by the routes at a place of the buffer, and answers the place behind it. A byte past the end of the
@@ -181,40 +177,37 @@ pub fn put_sheet(
     whole: bool,
     board: Board,
     journal: &[[u64; WORDS]; Board::JOURNAL],
-) -> Written
+) -> Result<usize, Refusal>
     requires { at ≤ start_most }
-    ensures value { result ≡ put_call (whole_of board journal.now) whole (length buf.old) }
-    ensures used_le_report_bytes { result.used ≤ report_bytes }
+    ensures value { as_written result ≡ put_call (whole_of board journal.now) whole (length buf.old) }
+    ensures used_le_report_bytes { IfOk result (λ used. used ≤ report_bytes) }
     ensures buf_after { buf.new ≡ put_in (whole_of board journal.now) whole buf.old at }
 {
     if !move_guard::loaded(board, journal) {
-        return Written::refused(29);
+        return Err(Refusal::NotLoaded);
     }
     let net = board.network;
     let acyclic = board.acyclic;
     let mut counts = [0u32; Board::MAX_TERMINALS];
     let rows = report_routes::fill(journal, board.moves, &mut counts);
     let fit = report_routes::routes_fit(&counts, net.terminals);
-    let number = unreported_in(board.stage, fit);
-    if number != 0 {
-        return Written::refused(number);
-    }
-    if lists::and(whole, buf.len() < REPORT_BYTES) {
-        if !has_room(buf.len(), net, &acyclic, &counts, &rows) {
-            return Written::refused(8);
-        }
+    unreported_in(board.stage, fit)?;
+    let room = buf.len();
+    if whole && room < REPORT_BYTES && !has_room(room, net, &acyclic, &counts, &rows) {
+        return Err(Refusal::ShortBuffer);
     }
     let end = put_tables(buf, at, net, &acyclic, &counts, &rows);
-    Written {
-        answer: 0,
-        used: end - at,
-    }
+    Ok(end - at)
 }
 
 // Writes the route report: 29 where no board was loaded, 28 before a finish, then 8 where the buffer is too short for
 // the text.
-pub fn sheet(board: Board, journal: &[[u64; WORDS]; Board::JOURNAL], buf: &mut [u8]) -> Written
-    ensures value { result ≡ sheet_call (whole_of board journal.now) (length buf.old) }
+pub fn sheet(
+    board: Board,
+    journal: &[[u64; WORDS]; Board::JOURNAL],
+    buf: &mut [u8],
+) -> Result<usize, Refusal>
+    ensures value { as_written result ≡ sheet_call (whole_of board journal.now) (length buf.old) }
     ensures buf_after { buf.new ≡ sheeted (whole_of board journal.now) buf.old }
 {
     put_sheet(buf, 0, true, board, journal)

@@ -10,9 +10,7 @@ use Rattle.report.proofs.put_routes.Given as goal
 
 abbrev pub invariant-loop-i : goal.invariant-loop-i
 invariant-loop-i l =
-    (l.i ≤ l.terminals) × (l.to ≤ l.at + line_bytes line_numbers * l.i)
+    (l.to ≤ l.at + line_bytes line_numbers * l.i)
     × TextLeft l.buf (sets l.initial.buf l.at (lines_text 77 (table_route_row l.counts l.rows) 0 l.terminals)) l.to (l.at + length (lines_text 77 (table_route_row l.counts l.rows) 0 l.terminals))
     (lines_text 77 (table_route_row l.counts l.rows) l.i (l.terminals - l.i))
 
-abbrev pub decreases-loop-i : goal.decreases-loop-i
-decreases-loop-i l = l.terminals - l.i
