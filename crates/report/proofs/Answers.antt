@@ -5,10 +5,10 @@ use mathlib.Core.List.{List, [], ◌∷◌, ◌++◌, append-nil}
 use Prim.Native.Nat.{ℕ, ◌+◌, ◌≤◌}
 use native.Mathlib.Nat.{zero-add}
 use native.Mathlib.Omega.{arith}
-use lib.Dec.{leb, ltb, eqb}
+use lib.Dec.{leb, eqb}
 use lib.ListN.{length, get_or}
 use lib.Seq.{sets, sets-eq}
-use borrow.Author.Tests.{eq-eqb, ne_eqb, eqb-true, eqb-false, le-leb, leb-true, ltb-false}
+use borrow.Author.Tests.{eq-eqb, ne_eqb, eqb-true, eqb-false, le-leb, leb-true}
 use Rattle.lists.specs.Choice.{pick, both}
 use Rattle.lists.specs.Lists.{all}
 use Rattle.lists.proofs.Laws.{Known, was_true, was_false, known, pick_yes, pick_no, pick_passed, both_left, both_right}
@@ -87,12 +87,6 @@ module _ (net : Network) (acyclic counts : List ℕ) (rows : List (List ℕ)) (b
       let behind-head = left_part head (routes ++ loads) b1 p1 whole e1 q1 in
       let behind_routes = left_part routes loads b2 p2 behind-head e2 q2 in
       left_none (left_part loads [] b3 p3 (rw append-nil behind_routes) e3 q3)
-
--- a buffer that needs no measuring
-pub long_buffer : (whole : Bool) (n : ℕ) → both whole (ltb n report_bytes) ≡ false → whole ≡ true → report_bytes ≤ n
-unfolding both
-long_buffer true n h w = ltb-false n report_bytes h
-long_buffer false n h w = let z : ◌≡◌ {A = ℕ} 0 1 = cc in absurd (omega arith)
 
 -- the answers: the number of a board without a report, 8 where a text that is to be whole has no room, and the text
 module _ (b : Board) (whole : Bool) (buf : List ℕ) (at : ℕ) where

@@ -1,29 +1,20 @@
--- The lines of the report. A row is filled edge by edge, so its first numbers are those of the row it is to be. The rows over the counts and the rows of a board's moves
+-- The lines of the report. The rows over the counts and the rows of a board's moves
 -- are those of its routes and loads, since each route has room in its row.
 use mathlib.Core.Path.{◌≡◌, refl, ap}
 use mathlib.Core.Bool.{true}
 use mathlib.Core.List.{List, [], ◌∷◌}
 use Prim.Native.Nat.{ℕ, zero, suc, ◌+◌, ◌<◌, ◌≤◌}
-use native.Mathlib.Numerals.{add-one}
 use native.Mathlib.Omega.{arith}
-use lib.ListN.{length, get_or, set, take}
-use lib.Seq.{take-suc, take-suc-set}
+use lib.ListN.{get_or, take}
 use Rattle.board.specs.Limits.{max_vertices, max_edges, max_terminals}
 use Rattle.board.specs.Whole.{Board}
 use Rattle.board.specs.declared.Network.{Network}
 use Rattle.text.specs.Text.{lines_text}
 use Rattle.report_routes.specs.Tables.{routes_fit}
-use Rattle.report_routes.specs.Inner.{counts_of, rows_of, AreRouteSets, set_load}
+use Rattle.report_routes.specs.Inner.{counts_of, rows_of, AreRouteSets}
 use Rattle.report_routes.proofs.Read.{counts_route, fits_at, row_route, table-load, set-load}
-use Rattle.report.specs.Reports.{route_row, load_row_in, load_row}
+use Rattle.report.specs.Reports.{route_row, load_row}
 use Rattle.report.specs.Rows.{table_route_row, table_load_row, set_load_row}
-
--- one edge of a row, stored behind those before it
-pub row_turned : (terminal count k : ℕ) (edges row : List ℕ) → k < length edges → k + 2 < length row → take (k + 2) row ≡ terminal ∷ count ∷ take k edges
-    → take (k + 1 + 2) (set row (k + 2) (get_or edges k 0)) ≡ terminal ∷ count ∷ take (k + 1) edges
-row_turned terminal count k edges row h room begun =
-    let more : k + 1 + 2 ≡ suc (k + 2) = omega arith in
-    rw (more, take-suc-set row (k + 2) (get_or edges k 0) room, begun, add-one k, take-suc edges k 0 h)
 
 -- lines of rows that are the same
 lines_same : (x : ℕ) (f g : ℕ → List ℕ) (i k : ℕ) → ((j : ℕ) → j < i + k → f j ≡ g j) → lines_text x f i k ≡ lines_text x g i k

@@ -18,6 +18,7 @@ ghost use Rattle.report.specs.Rows.{set_load_row, table_route_row, table_load_ro
 use board::{Board, Network};
 use journal::WORDS;
 use refusals::Refusal;
+use std::convert::AsSlice;
 
 // How many numbers the line of a route has at most: the terminal, how many edges, and the edges.
 const ROUTE_NUMBERS: usize = Board::MAX_VERTICES + 2;
@@ -42,35 +43,33 @@ fn unreported_in(stage: u32, fit: bool) -> Result<(), Refusal>
     }
 }
 
-// The numbers of a route's line, and behind them the rest of its row.
-fn route_row(terminal: u32, count: u32, edges: [u32; Board::MAX_VERTICES]) -> [u32; ROUTE_NUMBERS]
-    requires { count ≤ max_vertices }
-    ensures { take (count + 2) result ≡ terminal ∷ count ∷ take count edges }
-{
-    let mut row = [0u32; ROUTE_NUMBERS];
-    row[0] = terminal;
-    row[1] = count;
-    row[2..].copy_from_slice(&edges);
-    row
+// The line of a route: its numbers are the first of these, used of them.
+#[derive(Clone, Copy)]
+struct RouteRow {
+    numbers: [u32; ROUTE_NUMBERS],
+    used: usize,
+    ghost within: { used ≤ length numbers },
 }
 
-// Writes the line of a terminal's route.
-fn put_route(
-    buf: &mut [u8],
-    at: usize,
-    terminal: u32,
-    count: u32,
-    edges: [u32; Board::MAX_VERTICES],
-) -> usize
-    requires { (at ≤ line_start_most) × (count ≤ max_vertices) }
-    ensures value { result ≡ at + length (line_text 77 (terminal ∷ count ∷ take count edges)) }
-    ensures upper_bound { result ≤ at + line_bytes line_numbers }
-    ensures buf_after { buf.new ≡
-        sets buf.old at (line_text 77 (terminal ∷ count ∷ take count edges)) }
+impl AsSlice<u32> for RouteRow {
+    ghost items = { λ row. take row.used row.numbers };
+
+    fn as_slice(&self) -> &[u32] {
+        &self.numbers[..self.used]
+    }
+}
+
+// The line of a terminal's route, whose edges are the first of these, count of them.
+fn route_row(terminal: u32, count: u32, edges: [u32; Board::MAX_VERTICES]) -> RouteRow
+    requires { count ≤ max_vertices }
+    ensures { take result.used result.numbers ≡ terminal ∷ count ∷ take count edges }
 {
-    let row = route_row(terminal, count, edges);
-    let end = count as usize + 2;
-    text_writer::put_line(buf, at, b'M', &row[..end])
+    let mut numbers = [0u32; ROUTE_NUMBERS];
+    numbers[0] = terminal;
+    numbers[1] = count;
+    numbers[2..].copy_from_slice(&edges);
+    let used = count as usize + 2;
+    RouteRow { numbers, used }
 }
 
 // Writes the lines of the routes.
@@ -89,11 +88,12 @@ fn put_routes(
     ensures buf_after { buf.new ≡ sets buf.old at
         (lines_text 77 (table_route_row counts.now rows.now) 0 terminals) }
 {
-    let mut to = at;
-    for i in 0..terminals {
-        to = put_route(buf, to, i, counts[i as usize], rows[i as usize]);
-    }
-    to
+    let row = move |i: usize|
+        requires few { i < max_terminals }
+        requires fits { get_or counts.now i 0 ≤ max_vertices }
+        ensures { take result.used result.numbers ≡ table_route_row counts.entry.now rows.entry.now i }
+    { route_row(i as u32, counts[i], rows[i]) };
+    text_writer::put_rows(buf, at, b'M', terminals as usize, row)
 }
 
 // Writes the lines of the loads.
