@@ -12,8 +12,8 @@ use borrow.Author.Tests.{eq-eqb, ne_eqb, le-leb, lt-leb}
 use Rattle.lists.specs.Choice.{pick}
 use Rattle.lists.proofs.Laws.{pick_yes, pick_no}
 use Rattle.board.specs.Record.{finished_stage, blank}
-use Rattle.board.specs.Whole.{Move, Entry, Board, Played, Table, Done}
-use Rattle.journal.specs.Words.{packed, entries_of, standing, journal_of, whole_of, given_of, packed_on, words_after}
+use Rattle.board.specs.Whole.{Move, Entry, Board, Played, Table}
+use Rattle.journal.specs.Words.{packed, entries_of, standing, journal_of, whole_of, packed_on, words_after}
 use Rattle.journal.proofs.After.{after_none, after_fewer}
 use Rattle.journal.proofs.Behind.{whole_behind}
 use Rattle.move_guard.specs.Moved.{Change}
@@ -93,23 +93,23 @@ module _ (t : Table) (w : List (List ℕ)) where
       unfolding undo_refusal
       not_behind l = pick_yes _ _ _ h ∙ pick_yes _ _ _ finished ∙ pick_no _ _ _ (lt-leb t.finish_from t.moves l)
 
-      module _ (order : t.finish_from ≤ t.moves) (back : Done) (way : given_of back w ≡ taken_back (t.moves - t.finish_from) (whole_of t w)) where
-        pub way_number : undo_refusal (whole_of t w) ≡ back.answer
+      module _ (order : t.finish_from ≤ t.moves) where
+        pub way_number : (n : ℕ) → (taken_back (t.moves - t.finish_from) (whole_of t w)).answer ≡ n → undo_refusal (whole_of t w) ≡ n
         unfolding undo_refusal
-        way_number =
-            pick_yes _ _ _ h ∙ pick_yes _ _ _ finished ∙ pick_yes _ _ _ (le-leb t.finish_from t.moves order) ∙ sym (ap (λ (p : Played). p.answer) way)
+        way_number n is =
+            pick_yes _ _ _ h ∙ pick_yes _ _ _ finished ∙ pick_yes _ _ _ (le-leb t.finish_from t.moves order) ∙ is
 
-        pub finish_undone_lem : (v : List (List ℕ)) → back.answer ≡ 0 → v ≡ packed_on (t.moves - t.finish_from) t.finish_from [] w
-            → (record { answer = 0; board = reopened (whole_of back.board v) } ≡ undo_call (whole_of t w))
+        pub finish_undone_lem : (last : Table) → record { answer = 0; board = whole_of last w } ≡ taken_back (t.moves - t.finish_from) (whole_of t w)
+            → (v : List (List ℕ)) → v ≡ packed_on (t.moves - t.finish_from) t.finish_from [] w
+            → (record { answer = 0; board = reopened (whole_of last v) } ≡ undo_call (whole_of t w))
             × (v ≡ words_after t.moves (undo_call (whole_of t w)).board w)
-        finish_undone_lem v z ev =
-            let last = back.board in
-            let zero : (taken_back (t.moves - t.finish_from) b).answer ≡ 0 = sym (ap (λ (p : Played). p.answer) way) ∙ z in
+        finish_undone_lem last way v ev =
+            let zero : (taken_back (t.moves - t.finish_from) b).answer ≡ 0 = sym (ap (λ (p : Played). p.answer) way) in
             let same = ap (λ (p : Played). p.board.moves) way ∙ taken_moves (t.moves - t.finish_from) b zero in
             let from : last.moves ≡ t.finish_from = omega (arith, same, order) in
             let parts = blanked last v (omega (arith, from, order)) (ev ∙ ap (λ (n : ℕ). packed_on (t.moves - n) n [] w) (sym from)) in
             let call =
-            accepted (reopened (whole_of last w)) (way_number ∙ z) (ap (λ (p : Played). reopened p.board) way ∙ sym (pick_yes _ _ _ finished)) in (
+            accepted (reopened (whole_of last w)) (way_number 0 zero) (ap (λ (p : Played). reopened p.board) way ∙ sym (pick_yes _ _ _ finished)) in (
               ap (λ (x : Board). record { answer = 0; board = reopened x }) parts.0 ∙ call,
               parts.1 ∙ ap (λ (p : Played). words_after t.moves p.board w) call,
             )

@@ -4,17 +4,19 @@ use mathlib.Core.Path.{◌≡◌, refl, sym, ◌∙◌}
 use mathlib.Core.Bool.{true, false}
 use mathlib.Core.List.{List, [], ◌∷◌}
 use mathlib.Core.Logic.{◌⊎◌, inl, inr, ◌≢◌}
-use Prim.Native.Nat.{ℕ, zero, suc, ◌-◌, ◌<◌, ◌≤◌}
+use Prim.Native.Nat.{ℕ, zero, suc, ◌+◌, ◌-◌, ◌<◌, ◌≤◌}
 use native.Mathlib.Omega.{arith}
 use lib.ListN.{length, get_or, set, length-set}
 use lib.Seq.{get_or-set_other}
+use Rattle.std.specs.Prelude.{Result}
+use Rattle.refusals.specs.declared.Refusal.{Refusal}
 use Rattle.lists.proofs.Laws.{Known, was_true, was_false, known}
 use Rattle.board.specs.Record.{blank}
-use Rattle.board.specs.Whole.{Entry, Board, Played}
+use Rattle.board.specs.Whole.{Entry, Board, Played, Table}
 use Rattle.journal.specs.Words.{standing}
 use Rattle.journal.proofs.Laws.{back_standing, keep_standing}
 use Rattle.move_guard.specs.Guard.{intact}
-use Rattle.move_undo.specs.Undone.{undone, taken_back}
+use Rattle.move_undo.specs.Undone.{undone, taken_back, Taken}
 
 -- the standing moves without the last are blank at its place by themselves
 pub less_standing : (m : ℕ) (es : List Entry) → standing (m - 1) es ≡ set (standing m es) (m - 1) blank
@@ -39,17 +41,24 @@ pub taken_none : (left : ℕ) (b : Board) → left ≡ 0 → record { answer = 0
 unfolding taken_back
 taken_none left b e = rw e
 
-pub taken_one : (left : ℕ) (b : Board) → left ≢ 0 → intact b ≡ true → taken_back (left - 1) (undone b) ≡ taken_back left b
-unfolding taken_back
-taken_one zero b n t = absurd (n refl)
-taken_one (suc k) b n t =
-    let e : suc k - 1 ≡ k = omega arith in
-    rw (t, taken_back, e)
+module _ (count i : ℕ) (b : Board) (some : i < count) where
+  abbrev left : ℕ
+  left = count - (i + 1)
 
-pub taken_stuck : (left : ℕ) (b : Board) → left ≢ 0 → intact b ≡ false → record { answer = 20; board = b } ≡ taken_back left b
-unfolding taken_back
-taken_stuck zero b n t = absurd (n refl)
-taken_stuck (suc k) b n t = rw (t, taken_back)
+  is_left : count - i ≡ suc left
+  is_left = omega (arith, some)
+
+  pub taken_one : intact b ≡ true → taken_back (count - (i + 1)) (undone b) ≡ taken_back (count - i) b
+  unfolding taken_back
+  taken_one t = rw (is_left, t, taken_back)
+
+  pub taken_stuck : intact b ≡ false → record { answer = 20; board = b } ≡ taken_back (count - i) b
+  unfolding taken_back
+  taken_stuck t = rw (is_left, t, taken_back)
+
+-- what the code gives of a way back, by what it is
+pub taken_as : (x y : Result Table Refusal) → x ≡ y → (w : List (List ℕ)) (p : Played) → Taken x w p → Taken y w p
+taken_as x y e w p h = rw e at h
 
 -- a claim about so many moves that are taken back, by the test of the first of them
 taken_by_lem : (P : Played → Type 0) (k : ℕ) (b : Board) → P (record { answer = 20; board = b }) → (intact b ≡ true → P (taken_back k (undone b))) → P (taken_back (suc k) b)

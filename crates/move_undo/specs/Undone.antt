@@ -1,9 +1,12 @@
 -- The call `undo`: document 01, "Moves"; document 02, E1. A name that ends in In is said of the parts of a board, the name without it of the board.
-use Rattle.std.specs.Prelude.{Bool, true, false, List, ℕ, zero, suc, ◌+◌, ◌-◌, leb, eqb, get_or, set}
+use Rattle.std.specs.Prelude.{◌≡◌, Bool, true, false, List, ℕ, Result, Ok, Err, zero, suc, ◌+◌, ◌-◌, leb, eqb, get_or, set}
+use Rattle.refusals.specs.declared.Refusal.{Refusal}
+use Rattle.refusals.specs.Refusals.{number}
 use Rattle.lists.specs.Choice.{pick, unless, when}
 use Rattle.sets.specs.Sets.{without}
 use Rattle.board.specs.Record.{play_stage, finished_stage, blank}
-use Rattle.board.specs.Whole.{Move, Carry, Turn, Board, Played}
+use Rattle.board.specs.Whole.{Move, Carry, Turn, Board, Played, Table}
+use Rattle.journal.specs.Words.{whole_of}
 use Rattle.board.specs.declared.Network.{Network}
 use Rattle.move_guard.specs.Guard.{intact, loaded}
 use Rattle.move_guard.specs.Moved.{Change}
@@ -38,6 +41,11 @@ undone b = undone_move b (last_entry b).step
 unfoldable pub taken_back : ℕ → Board → Played
 taken_back zero b = record { answer = 0; board = b }
 taken_back (suc k) b = elim (intact b) [ true ↦ taken_back k (undone b) | false ↦ record { answer = 20; board = b } ]
+
+-- what the code gives of that: the board then, or the number alone
+abbrev pub Taken : Result Table Refusal → List (List ℕ) → Played → Type 0
+Taken (Ok b) words way = record { answer = 0; board = whole_of b words } ≡ way
+Taken (Err r) words way = way.answer ≡ number r
 
 -- play goes on, and no finish stands
 abbrev pub reopened : Board → Board

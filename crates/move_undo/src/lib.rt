@@ -1,28 +1,15 @@
 // The call `undo`.
 #![tactic(auto)]
 
-ghost use Rattle.std.specs.Prelude.{◌≡◌, true, set};
+ghost use Rattle.std.specs.Prelude.{◌≡◌, true};
 ghost use Rattle.board.specs.Record.{finished_stage};
 ghost use Rattle.move_guard.specs.Guard.{intact, loaded};
 ghost use Rattle.journal.specs.Words.{whole_of, given_of, words_after};
-ghost use Rattle.move_undo.specs.Undone.{undone, taken_back, undo_call};
+ghost use Rattle.move_undo.specs.Undone.{undone, taken_back, Taken, undo_call};
 
-use board::{Board, Entry, Move, Played};
+use board::{Board, Entry, Move};
 use journal::WORDS;
-
-// Stores a flow at e, and nothing past the end.
-fn store_flow(flows: &mut [u32; Board::MAX_EDGES], e: usize, flow: u32)
-    ensures { flows.new ≡ set flows.old e flow }
-{
-    lists::put(flows, e, flow);
-}
-
-// Stores a place at i, and nothing past the end.
-fn store_place(places: &mut [u32; Board::MAX_TERMINALS], i: usize, place: u32)
-    ensures { places.new ≡ set places.old i place }
-{
-    lists::put(places, i, place);
-}
+use refusals::Refusal;
 
 // Takes the last standing move back; its words stay where they are, behind the moves that stand then.
 fn back_one(mut board: Board, journal: &[[u64; WORDS]; Board::JOURNAL]) -> Board
@@ -37,8 +24,8 @@ fn back_one(mut board: Board, journal: &[[u64; WORDS]; Board::JOURNAL]) -> Board
             let flow = lists::at_or(&board.flows, r.edge as usize, 0);
             let demand = lists::at_or(&board.network.demands, r.terminal as usize, 0);
             let head = lists::at_or(&board.network.heads, r.edge as usize, 0);
-            store_flow(&mut board.flows, r.edge as usize, flow + demand);
-            store_place(&mut board.places, r.terminal as usize, head);
+            lists::put(&mut board.flows, r.edge as usize, flow + demand);
+            lists::put(&mut board.places, r.terminal as usize, head);
         }
         Move::Turn(a) => {
             let rose = a.rose();
@@ -54,85 +41,60 @@ fn back_one(mut board: Board, journal: &[[u64; WORDS]; Board::JOURNAL]) -> Board
 }
 
 // Takes so many moves back, one by one, each on an intact board.
-fn back_many(board: Board, journal: &[[u64; WORDS]; Board::JOURNAL], count: u32) -> Played
-    ensures { given_of result journal.now ≡ taken_back count (whole_of board journal.now) }
+fn back_many(
+    board: Board,
+    journal: &[[u64; WORDS]; Board::JOURNAL],
+    count: u32,
+) -> Result<Board, Refusal>
+    ensures { Taken result journal.now (taken_back count (whole_of board journal.now)) }
 {
     let mut b = board;
-    let mut left = count;
-    while left != 0 {
+    for _ in 0..count {
         if !move_guard::intact(b, journal) {
-            return Played {
-                answer: 20,
-                board: b,
-            };
+            return Err(Refusal::NotInPlay);
         }
         b = back_one(b, journal);
-        left -= 1;
     }
-    Played {
-        answer: 0,
-        board: b,
-    }
+    Ok(b)
 }
 
 // Takes a finish back: the way back is worked out first, and then the places of its moves are blanked.
-fn undo_finish(board: Board, journal: &mut [[u64; WORDS]; Board::JOURNAL]) -> Played
+fn undo_finish(board: Board, journal: &mut [[u64; WORDS]; Board::JOURNAL]) -> Result<Board, Refusal>
     requires journal_value { loaded (whole_of board journal.old) ≡ true }
     requires stage_value { board.stage ≡ finished_stage }
-    ensures journal_after { given_of result journal.new ≡ undo_call (whole_of board journal.old) }
+    ensures journal_after { given_of board result journal.new ≡ undo_call (whole_of board journal.old) }
     ensures journal_after_2 { journal.new ≡
         words_after board.moves (undo_call (whole_of board journal.old)).board journal.old }
 {
     let from = board.finish_from;
     if board.moves < from {
-        return Played {
-            answer: 20,
-            board: board,
-        };
+        return Err(Refusal::NotInPlay);
     }
     let count = board.moves - from;
-    let back = back_many(board, journal, count);
-    if back.answer != 0 {
-        return Played {
-            answer: back.answer,
-            board: board,
-        };
-    }
+    let mut last = back_many(board, journal, count)?;
     journal::wipe(journal, from as usize, count as usize);
-    let mut last = back.board;
     last.stage = Board::PLAY;
     last.finish_from = 0;
-    Played {
-        answer: 0,
-        board: last,
-    }
+    Ok(last)
 }
 
-// Takes the last standing move back, or a finish that stands with all its moves.
-pub fn undo(board: Board, journal: &mut [[u64; WORDS]; Board::JOURNAL]) -> Played
-    ensures journal_after { given_of result journal.new ≡ undo_call (whole_of board journal.old) }
+// Takes the last standing move back, or a finish that stands with all its moves. A refused undo leaves the journal as it
+// was.
+pub fn undo(board: Board, journal: &mut [[u64; WORDS]; Board::JOURNAL]) -> Result<Board, Refusal>
+    ensures journal_after { given_of board result journal.new ≡ undo_call (whole_of board journal.old) }
     ensures journal_after_2 { journal.new ≡
         words_after board.moves (undo_call (whole_of board journal.old)).board journal.old }
 {
     if !move_guard::loaded(board, journal) {
-        return Played {
-            answer: 20,
-            board: board,
-        };
+        return Err(Refusal::NotInPlay);
     }
     if board.stage == Board::FINISHED {
         return undo_finish(board, journal);
     }
     if board.moves == 0 {
-        return Played {
-            answer: 27,
-            board: board,
-        };
+        return Err(Refusal::NothingToUndo);
     }
     let last = back_one(board, journal);
     journal::put_entry(journal, last.moves as usize, Entry::blank());
-    Played {
-        answer: 0,
-        board: last,
-    }
+    Ok(last)
 }

@@ -68,8 +68,8 @@ returns-in-Carry c =
     let t = table (start c.before.before.before.before.before.before.before.before.before.before.before.before.before.before.before.before.before.before.before) in
     let sum = ap₂ (λ (a b : ℕ). a + b) c.at_or-flow.ensures c.at_or-demand.ensures in
     back_stored t (words (start c.before.before.before.before.before.before.before.before.before.before.before.before.before.before.before.before.before.before.before)) _ (read_last c.before.before.before.before.before.before.before.before.before.before.before.before.before.before.before.before.before.before.before ∙ ap move_of c.in-Carry.is) _ _ _ _
-    (c.store_flow.ensures ∙ ap (set t.flows c.in-Carry.r.edge) sum) refl
-    (c.store_place.ensures ∙ ap (set t.places c.in-Carry.r.terminal) c.at_or-head.ensures) c.minus.ensures
+    (c.put.ensures ∙ ap (set t.flows c.in-Carry.r.edge) sum) refl
+    (c.put-in-Carry.ensures ∙ ap (set t.places c.in-Carry.r.terminal) c.at_or-head.ensures) c.minus.ensures
 
 pub returns-in-Turn : goal.returns-in-Turn
 returns-in-Turn c =

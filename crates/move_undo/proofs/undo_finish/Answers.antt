@@ -6,6 +6,8 @@ use Rattle.board.specs.Limits.{max_moves}
 use Rattle.board.specs.Whole.{Table}
 use Rattle.journal.specs.Words.{whole_of}
 use Rattle.move_guard.proofs.Facts.{loaded_then_intact, intact_moves}
+use Rattle.refusals.proofs.Laws.{refused, passed_on}
+use Rattle.move_undo.proofs.Taken.{taken_as}
 use Rattle.move_undo.proofs.Lent.{undo_refused, not_behind, way_number, finish_undone_lem}
 use Rattle.move_undo.proofs.undo_finish.Lts as lts
 use Rattle.move_undo.proofs.undo_finish.Tie as tie
@@ -39,12 +41,13 @@ returns-then-board-from c =
       journal_after_2 = all.1;
     }
 
-pub returns-then-back-ne0 : goal.returns-then-back-ne0
-returns-then-back-ne0 c =
-    let s = start c.before.before in
-    let all = undo_refused (table s) (words s) _ c.if-back-ne0.true
-    (way_number (table s) (words s) s.requires.journal_value s.requires.stage_value c.if-board-from.false c.back_many-back.result c.back_many-back.ensures) in record {
-      journal_after = all.0;
+pub returns-in_err-last : goal.returns-in_err-last
+returns-in_err-last c =
+    let s = start c.before.before.before in
+    let way = taken_as _ _ c.in_err-last.was _ _ c.back_many.ensures in
+    let all = undo_refused (table s) (words s) _ (refused c.in_err-last.field-0.0)
+    (way_number (table s) (words s) s.requires.journal_value s.requires.stage_value c.if-board-from.false _ way) in record {
+      journal_after = rw (passed_on _ _ c.from_residual.ensures.1) all.0;
       journal_after_2 = all.1;
     }
 
@@ -56,9 +59,9 @@ wipe-requires c =
 
 pub returns : goal.returns
 returns c =
-    let s = start c.before.before.before.before.before in
-    let all = finish_undone_lem (table s) (words s) s.requires.journal_value s.requires.stage_value c.if-board-from.false c.back_many-back.result c.back_many-back.ensures _
-    (omega (arith, c.if-back-ne0.false)) c.wipe.ensures in record {
+    let s = start c.before.before.before.before in
+    let way = taken_as _ _ c.in_ok-last.was _ _ c.back_many.ensures in
+    let all = finish_undone_lem (table s) (words s) s.requires.journal_value s.requires.stage_value c.if-board-from.false _ way _ c.wipe.ensures in record {
       journal_after = all.0;
       journal_after_2 = all.1;
     }
