@@ -7,10 +7,9 @@ use Prim.Native.Nat.{ℕ, zero, suc, ◌+◌, ◌-◌, ◌≤◌, ◌<◌}
 use native.Mathlib.Numerals.{add-one}
 use native.Mathlib.Omega.{arith}
 use lib.ListN.{length, get_or, set, take, drop, replicate, length-drop}
-use lib.Seq.{sets, length-take-le, get_or-take, get_or-drop, take-suc-set, take-add, drop_at}
+use lib.Seq.{sets, sets-eq, length-take-le, get_or-take, take-suc-set, take-add, drop_at}
 use Rattle.board.specs.Limits.{max_vertices, max_edges}
 use Rattle.lists.specs.Lists.{index_of}
-use Rattle.lists.proofs.Stored.{stored_turn, stored_end}
 use Rattle.lists.proofs.Laws.{index_hit, index_miss, index_end}
 use Rattle.graph_flows.specs.Trails.{Step, start_of}
 use Rattle.move_cycle.specs.Steps.{code_up, code_step, code_steps, step_code, codes_of, stride}
@@ -83,7 +82,7 @@ module _ (tails heads codes : List ℕ) (n v i total : ℕ) (fits : n ≤ length
 abbrev pub last_of : List ℕ → ℕ → ℕ → List ℕ
 last_of codes k m = take m (drop k codes)
 
--- the copy of them, i of which have been copied
+-- the copy of them to the start of a buffer
 module _ (codes : List ℕ) (k m : ℕ) (fits : k + m ≤ length codes) where
   abbrev last : List ℕ
   last = last_of codes k m
@@ -91,14 +90,11 @@ module _ (codes : List ℕ) (k m : ℕ) (fits : k + m ≤ length codes) where
   last_length : length last ≡ m
   last_length = length-take-le m (drop k codes) (omega (arith, length-drop k codes, fits))
 
-  pub copy_turn : (buf : List ℕ) (i : ℕ) → i < m → sets (set buf i (get_or codes (k + i) 0)) (i + 1) (drop (i + 1) last) ≡ sets buf i (drop i last)
-  copy_turn buf i h =
-      let inside : i < length last = omega (arith, last_length, h) in
-      let code : get_or last i 0 ≡ get_or codes (k + i) 0 = get_or-take m (drop k codes) i 0 h ∙ get_or-drop k codes i 0 in
-      stored_turn buf last i i 0 (set buf i (get_or codes (k + i) 0)) inside (rw code)
-
-  pub copy_end : (buf : List ℕ) (i : ℕ) → m ≤ i → sets buf i (drop i last) ≡ buf
-  copy_end buf i h = sym (stored_end buf last i i (omega (arith, last_length, h)))
+  pub copied : (buf new : List ℕ) → m ≤ length buf → new ≡ last → new ++ drop m buf ≡ sets buf 0 last
+  copied buf new inside made =
+      let room : 0 + length last ≤ length buf = omega (arith, last_length, inside) in
+      let after : m ≡ 0 + length last = omega (arith, last_length) in
+      rw (made, sets-eq last buf 0 room) (ap (λ (n : ℕ). last ++ drop n buf) after)
 
   -- the last of the first k + m codes
   pub last_codes : drop k (take (k + m) codes) ≡ last

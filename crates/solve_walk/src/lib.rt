@@ -21,19 +21,15 @@ pub struct Walk {
     pub steps: [StepCode; Board::MAX_EDGES],
 }
 
-// The steps of a walk so far, from the first on: no more than there are vertices.
+// A walk so far: its steps, from the first on, no more than there are vertices; the vertices where they start; the edge
+// of the last one; and the vertex that it has come to.
 #[derive(Clone, Copy)]
 pub struct Way {
     pub count: u32,
     pub steps: [StepCode; Board::MAX_VERTICES],
-}
-
-// Where a walk stopped: its steps, and how many of them came before the vertex that it met again.
-#[derive(Clone, Copy)]
-pub struct Stop {
-    pub count: u32,
-    pub from: u32,
-    pub steps: [StepCode; Board::MAX_VERTICES],
+    pub seen: VertexSet,
+    pub edge: u32,
+    pub vertex: u32,
 }
 
 // The lowest positive edge with this end at v other than x, or a number that no edge has.
@@ -43,20 +39,6 @@ fn another(edges: &[EdgeSet], positive: EdgeSet, v: u32, x: u32) -> u32
     let at = move_edges::touching(edges, positive, v);
     let others = sets::drop(at, x);
     sets::lowest(others)
-}
-
-// The edge to go down by from v, where the walk came over x.
-fn fall(leaving: &[EdgeSet], positive: EdgeSet, v: u32, x: u32) -> u32
-    ensures { result ≡ another_by (sets_of leaving.now) (set_of positive) v x }
-{
-    another(leaving, positive, v, x)
-}
-
-// The edge to go up by from v, where the walk came over x.
-fn climb(entering: &[EdgeSet], positive: EdgeSet, v: u32, x: u32) -> u32
-    ensures { result ≡ another_by (sets_of entering.now) (set_of positive) v x }
-{
-    another(entering, positive, v, x)
 }
 
 // Whether two or more positive edges leave v.
@@ -69,85 +51,58 @@ fn parts(leaving: &[EdgeSet], positive: EdgeSet, v: u32) -> bool
     !sets::is_empty(others)
 }
 
-// The vertices seen, with the one where a step over e starts.
-fn meet(starts: &[u32], seen: VertexSet, e: u32) -> VertexSet
-    requires { get_or starts.now e 0 < word_width }
-    ensures { result ≡ with_bit seen (get_or starts.now e 0) }
-{
-    let v = lists::at_or(starts, e as usize, 0);
-    sets::word::with(seen, true, v as usize)
-}
-
-// The walk with one step more.
-fn with_step(walk: Way, ups: bool, e: u32) -> Way
-    requires count_lt_max_vertices { walk.count < max_vertices }
+// The way with one step more, over edge e from the one end to the other.
+fn onward<'a>(starts: &'a [u32], ends: &'a [u32], way: Way, ups: bool, e: u32) -> Way
+    requires count_lt_max_vertices { way.count < max_vertices }
     requires e_lt_code_up { e < code_up }
-    ensures result_value { gone result ≡ gone walk ++ (stride ups e ∷ []) }
-    ensures count_value { result.count ≡ walk.count + 1 }
+    requires start_lt_word_width { get_or starts.now e 0 < word_width }
+    ensures steps { gone result ≡ gone way ++ (stride ups e ∷ []) }
+    ensures count { result.count ≡ way.count + 1 }
+    ensures seen { result.seen ≡ with_bit way.seen (get_or starts.now e 0) }
+    ensures edge { result.edge ≡ e }
+    ensures vertex { result.vertex ≡ get_or ends.now e 0 }
 {
-    let step = move_cycle::stride(ups, e);
-    let mut steps = walk.steps;
-    let i = walk.count as usize;
-    steps[i] = step;
+    let start = lists::at_or(starts, e as usize, 0);
+    let mut steps = way.steps;
+    steps[way.count as usize] = move_cycle::stride(ups, e);
     Way {
-        count: walk.count + 1,
+        count: way.count + 1,
         steps: steps,
+        seen: sets::word::with(way.seen, true, start as usize),
+        edge: e,
+        vertex: lists::at_or(ends, e as usize, 0),
     }
 }
 
 // How many steps came before v was first met.
-fn first_met<'a>(tails: &'a [u32], heads: &'a [u32], walk: Way, v: u32) -> u32
-    requires { walk.count ≤ max_vertices }
-    ensures { result ≡ first_met tails.now heads.now (gone walk) v }
+fn first_met<'a>(tails: &'a [u32], heads: &'a [u32], way: Way, v: u32) -> u32
+    requires { way.count ≤ max_vertices }
+    ensures { result ≡ first_met tails.now heads.now (gone way) v }
 {
-    let count = walk.count;
-    let codes = walk.steps;
-    let mut i: u32 = 0;
-    while i < count {
-        if move_cycle::start_of(tails, heads, codes[i as usize]) == v {
+    for i in 0..way.count {
+        if move_cycle::start_of(tails, heads, way.steps[i as usize]) == v {
             return i;
         }
-        i += 1;
     }
-    i
+    way.count
 }
 
 // The steps from k on, from the first place on.
-fn walk_from(walk: Way, k: u32) -> Walk
-    requires k_le_count { k ≤ walk.count }
-    requires count_le_max_vertices { walk.count ≤ max_vertices }
-    ensures { result ≡ packed (drop k (gone walk)) }
+fn walk_from(way: Way, k: u32) -> Walk
+    requires k_le_count { k ≤ way.count }
+    requires count_le_max_vertices { way.count ≤ max_vertices }
+    ensures { result ≡ packed (drop k (gone way)) }
 {
-    let codes = walk.steps;
-    let rest = walk.count - k;
+    let rest = way.count - k;
     let mut steps: [StepCode; Board::MAX_EDGES] = [0; Board::MAX_EDGES];
-    let mut i: u32 = 0;
-    while i < rest {
-        steps[i as usize] = codes[(k + i) as usize];
-        i += 1;
-    }
+    steps[..rest as usize].copy_from_slice(&way.steps[k as usize..way.count as usize]);
     Walk {
         count: rest,
         steps: steps,
     }
 }
 
-// The walk that stops at v.
-fn stopped<'a>(tails: &'a [u32], heads: &'a [u32], walk: Way, v: u32) -> Stop
-    requires { walk.count ≤ max_vertices }
-    ensures { StopsWith (drop (first_met tails.now heads.now (gone walk) v)
-        (gone walk)) result }
-{
-    let k = first_met(tails, heads, walk, v);
-    let steps = walk.steps;
-    Stop {
-        count: walk.count,
-        from: k,
-        steps: steps,
-    }
-}
-
-// The walk came over edge x to v: down by the lowest edge; up where none leaves.
+// The walk came over its last edge down, or has no steps: down by the lowest edge; up where none leaves.
 #[cycle(down_walk_up_walk)]
 fn down_walk<'a>(
     tails: &'a [u32],
@@ -156,29 +111,24 @@ fn down_walk<'a>(
     leaving: &'a [EdgeSet],
     entering: &'a [EdgeSet],
     positive: EdgeSet,
-    seen: VertexSet,
     left: u32,
-    walk: Way,
-    x: u32,
-    v: u32,
-) -> Stop
-    requires left_bound { walk.count + left ≤ max_vertices }
+    way: Way,
+) -> Way
+    requires left_bound { way.count + left ≤ max_vertices }
     requires charted { Charted tails.now heads.now flows.now (sets_of leaving.now) (sets_of entering.now)
         (set_of positive) }
-    requires seen { Seen tails.now heads.now (gone walk) seen }
-    requires v_lt_max_vertices { v < max_vertices }
-    ensures { StopsWith (down_walk tails.now heads.now flows.now
+    requires seen { Seen tails.now heads.now (gone way) way.seen }
+    requires vertex_lt_max_vertices { way.vertex < max_vertices }
+    ensures { StopsWith tails.now heads.now (down_walk tails.now heads.now flows.now
         (another tails.now flows.now) (another heads.now flows.now) left
-        (gone walk) x v) result }
+        (gone way) way.edge way.vertex) result }
 {
-    if lists::or(left == 0, sets::word::has(seen, v as usize)) {
-        return stopped(tails, heads, walk, v);
+    if lists::or(left == 0, sets::word::has(way.seen, way.vertex as usize)) {
+        return way;
     }
-    let e = fall(leaving, positive, v, x);
+    let e = another(leaving, positive, way.vertex, way.edge);
     if (e as usize) < flows.len() {
-        let longer = with_step(walk, false, e);
-        let met = meet(tails, seen, e);
-        let next = lists::at_or(heads, e as usize, 0);
+        let fallen = onward(tails, heads, way, false, e);
         return down_walk(
             tails,
             heads,
@@ -186,17 +136,12 @@ fn down_walk<'a>(
             leaving,
             entering,
             positive,
-            met,
             left - 1,
-            longer,
-            e,
-            next,
+            fallen,
         );
     }
-    let c = climb(entering, positive, v, x);
-    let longer = with_step(walk, true, c);
-    let met = meet(heads, seen, c);
-    let next = lists::at_or(tails, c as usize, 0);
+    let c = another(entering, positive, way.vertex, way.edge);
+    let climbed = onward(heads, tails, way, true, c);
     up_walk(
         tails,
         heads,
@@ -204,15 +149,12 @@ fn down_walk<'a>(
         leaving,
         entering,
         positive,
-        met,
         left - 1,
-        longer,
-        c,
-        next,
+        climbed,
     )
 }
 
-// The walk came up over edge x to v: up while one edge leaves; down where two or more do.
+// The walk came over its last edge up: up while one edge leaves; down where two or more do.
 #[cycle(down_walk_up_walk)]
 fn up_walk<'a>(
     tails: &'a [u32],
@@ -221,29 +163,24 @@ fn up_walk<'a>(
     leaving: &'a [EdgeSet],
     entering: &'a [EdgeSet],
     positive: EdgeSet,
-    seen: VertexSet,
     left: u32,
-    walk: Way,
-    x: u32,
-    v: u32,
-) -> Stop
-    requires left_bound { walk.count + left ≤ max_vertices }
+    way: Way,
+) -> Way
+    requires left_bound { way.count + left ≤ max_vertices }
     requires charted { Charted tails.now heads.now flows.now (sets_of leaving.now) (sets_of entering.now)
         (set_of positive) }
-    requires seen { Seen tails.now heads.now (gone walk) seen }
-    requires v_lt_max_vertices { v < max_vertices }
-    ensures { StopsWith (up_walk tails.now heads.now flows.now
+    requires seen { Seen tails.now heads.now (gone way) way.seen }
+    requires vertex_lt_max_vertices { way.vertex < max_vertices }
+    ensures { StopsWith tails.now heads.now (up_walk tails.now heads.now flows.now
         (another tails.now flows.now) (another heads.now flows.now) left
-        (gone walk) x v) result }
+        (gone way) way.edge way.vertex) result }
 {
-    if lists::or(left == 0, sets::word::has(seen, v as usize)) {
-        return stopped(tails, heads, walk, v);
+    if lists::or(left == 0, sets::word::has(way.seen, way.vertex as usize)) {
+        return way;
     }
-    if parts(leaving, positive, v) {
-        let e = fall(leaving, positive, v, x);
-        let longer = with_step(walk, false, e);
-        let met = meet(tails, seen, e);
-        let next = lists::at_or(heads, e as usize, 0);
+    if parts(leaving, positive, way.vertex) {
+        let e = another(leaving, positive, way.vertex, way.edge);
+        let fallen = onward(tails, heads, way, false, e);
         return down_walk(
             tails,
             heads,
@@ -251,17 +188,12 @@ fn up_walk<'a>(
             leaving,
             entering,
             positive,
-            met,
             left - 1,
-            longer,
-            e,
-            next,
+            fallen,
         );
     }
-    let c = climb(entering, positive, v, x);
-    let longer = with_step(walk, true, c);
-    let met = meet(heads, seen, c);
-    let next = lists::at_or(tails, c as usize, 0);
+    let c = another(entering, positive, way.vertex, way.edge);
+    let climbed = onward(heads, tails, way, true, c);
     up_walk(
         tails,
         heads,
@@ -269,11 +201,8 @@ fn up_walk<'a>(
         leaving,
         entering,
         positive,
-        met,
         left - 1,
-        longer,
-        c,
-        next,
+        climbed,
     )
 }
 
@@ -295,19 +224,16 @@ pub fn cycle<'a>(
     ensures { result ≡ packed (cycle_of tails.now heads.now
         flows.now vertices source) }
 {
-    let walk = Way {
+    let start = Way {
         count: 0,
         steps: [0; Board::MAX_VERTICES],
+        seen: sets::word::none(),
+        edge: flows.len() as u32,
+        vertex: source,
     };
-    let none = flows.len() as u32;
-    let unseen = sets::word::none();
-    let stop = down_walk(
-        tails, heads, flows, leaving, entering, positive, unseen, vertices, walk, none, source,
+    let way = down_walk(
+        tails, heads, flows, leaving, entering, positive, vertices, start,
     );
-    let steps = stop.steps;
-    let way = Way {
-        count: stop.count,
-        steps: steps,
-    };
-    walk_from(way, stop.from)
+    let from = first_met(tails, heads, way, way.vertex);
+    walk_from(way, from)
 }
