@@ -11,7 +11,7 @@ use Rattle.text.specs.Sizes.{longest_text, longest_report}
 use Rattle.move_guard.specs.Guard.{loaded}
 use Rattle.move_cycle.specs.Steps.{code_step, step_byte, up_from}
 use Rattle.solve_next.specs.Choosing.{no_kind, carry_kind, turn_kind}
-use Rattle.solve_next.specs.declared.Advice.{Advice}
+use Rattle.solve_next.specs.Advices.{Advice}
 use Rattle.boundary_parts.specs.Memory.{version}
 
 -- ---- The numbers that the header has as macros and in enums: the version; the limits; the most steps; the places of the journal; the

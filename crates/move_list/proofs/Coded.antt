@@ -14,8 +14,8 @@ use Rattle.lists.specs.Choice.{both}
 use Rattle.lists.proofs.Laws.{pick_yes, pick_no, both_left, both_right}
 use Rattle.lists.proofs.Stored.{stored_turn, stored_past}
 use Rattle.board.specs.Whole.{Board}
-use Rattle.solve_next.specs.declared.Advice.{Advice}
-use Rattle.solve_next.specs.declared.Suggestion.{Suggestion}
+use Rattle.solve_next.specs.Advices.{Advice}
+use Rattle.solve_next.specs.Advices.{Suggestion}
 use Rattle.solve_next.specs.Hints.{hint_call}
 use Rattle.move_list.specs.Calls.{Call, hint, Game, Reply, made, played, answers, hint_given, hints_of, advice_code, advice_width, behind, noted}
 use Rattle.move_list.specs.Codes.{part, call_of, calls_of}

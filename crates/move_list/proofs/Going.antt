@@ -17,7 +17,7 @@ use Rattle.board.specs.Whole.{Played}
 use Rattle.journal.specs.Words.{words_after}
 use Rattle.journal.proofs.After.{after_none}
 use Rattle.move_cycle.specs.Steps.{steps_of}
-use Rattle.solve_next.specs.declared.Suggestion.{Suggestion}
+use Rattle.solve_next.specs.Advices.{Suggestion}
 use Rattle.solve_next.specs.Hints.{hint_call}
 use Rattle.solve_finish.specs.Finishes.{Finished}
 use Rattle.solve_finish.specs.Finishes.{finish_call}

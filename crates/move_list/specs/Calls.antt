@@ -9,8 +9,8 @@ use Rattle.graph_flows.specs.Trails.{Step}
 use Rattle.move_carry.specs.Carries.{carry_call}
 use Rattle.move_turn.specs.Turns.{turn_call}
 use Rattle.move_undo.specs.Undone.{undo_call}
-use Rattle.solve_next.specs.declared.Advice.{Advice}
-use Rattle.solve_next.specs.declared.Suggestion.{Suggestion}
+use Rattle.solve_next.specs.Advices.{Advice}
+use Rattle.solve_next.specs.Advices.{Suggestion}
 use Rattle.solve_next.specs.Choosing.{Act, relocate, augment}
 use Rattle.solve_next.specs.Hints.{hint_refusal, hint_call}
 use Rattle.solve_finish.specs.Finishes.{Finished}

@@ -17,7 +17,7 @@ use Rattle.text.specs.Text.{numbers_text, line_text}
 use Rattle.text_writer.proofs.Writing.{TextLeft, left_part, left_none}
 use Rattle.graph_flows.specs.Trails.{Step, down, up, edge_of}
 use Rattle.move_cycle.specs.Steps.{code_step, code_steps, is_up}
-use Rattle.solve_next.specs.declared.Advice.{Advice}
+use Rattle.solve_next.specs.Advices.{Advice}
 use Rattle.solve_next.specs.Choosing.{relocate, augment, no_kind, carry_kind}
 use Rattle.solve_next.proofs.Advised.{act_carry, act_turn}
 use Rattle.play_lines.specs.MoveLines.{way_letter, step_text, steps_text, move_line, hint_line}

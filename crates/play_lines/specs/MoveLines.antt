@@ -5,7 +5,7 @@ use Rattle.decimal.specs.Decimal.{decimal}
 use Rattle.board.specs.Limits.{max_vertices}
 use Rattle.text.specs.Sizes.{edge_digits}
 use Rattle.graph_flows.specs.Trails.{Step, down, up, edge_of}
-use Rattle.solve_next.specs.declared.Advice.{Advice}
+use Rattle.solve_next.specs.Advices.{Advice}
 use Rattle.solve_next.specs.Choosing.{Act, relocate, augment, no_kind, act_of}
 
 -- "a pair of channel and way (D or U)", behind its comma

@@ -17,7 +17,7 @@ use Rattle.board.specs.Whole.{Played}
 use Rattle.move_cycle.specs.Steps.{code_steps}
 use Rattle.move_turn.specs.Turns.{turn_call, turn_unkept}
 use Rattle.play_lines.specs.declared.Form.{Form}
-use Rattle.solve_next.specs.declared.Suggestion.{Suggestion}
+use Rattle.solve_next.specs.Advices.{Suggestion}
 use Rattle.play_lines.specs.MoveLines.{hint_line}
 use Rattle.play_lines.specs.Scans.{finish_form}
 use Rattle.text_writer.proofs.Writing.{sets_append}

@@ -11,7 +11,7 @@ use Rattle.move_carry.specs.Carries.{carry_call}
 use Rattle.move_cycle.specs.Steps.{code_steps}
 use Rattle.move_turn.specs.Turns.{turn_call, turn_unkept}
 use Rattle.move_undo.specs.Undone.{undo_call}
-use Rattle.solve_next.specs.declared.Suggestion.{Suggestion}
+use Rattle.solve_next.specs.Advices.{Suggestion}
 use Rattle.solve_next.specs.Hints.{hint_refusal, hint_call}
 use Rattle.solve_finish.specs.Finishes.{finish_call}
 use Rattle.load.specs.Load.{Loaded}

@@ -7,7 +7,7 @@ use native.Mathlib.Omega.{arith}
 use lib.Seq.{sets}
 use Rattle.board.specs.Whole.{Board}
 use Rattle.load.specs.Load.{load_text}
-use Rattle.solve_next.specs.declared.Suggestion.{Suggestion}
+use Rattle.solve_next.specs.Advices.{Suggestion}
 use Rattle.move_list.specs.Calls.{Call, game_of, played, answers, hints_of, noted}
 use Rattle.theorem_list.specs.Faithful.{Faithful}
 use Rattle.solve_finish.proofs.Stepping.{finish_closed}

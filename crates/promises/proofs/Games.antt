@@ -25,7 +25,7 @@ use Rattle.move_cycle.specs.Steps.{steps_of, code_steps, codes_of}
 use Rattle.move_list.proofs.Refused.{call_same}
 use Rattle.move_list.specs.Calls.{Call, carry, turn, undo, hint, finish, Game, game_of, made, played, answers}
 use Rattle.solve_walk.proofs.Packed.{cycle_short}
-use Rattle.solve_next.specs.declared.Advice.{Advice}
+use Rattle.solve_next.specs.Advices.{Advice}
 use Rattle.solve_next.specs.Choosing.{Act, augment, all_home, judge, next_cycle, next_act, advice_of}
 use Rattle.solve_next.specs.Hints.{hint_call}
 use Rattle.solve_next.proofs.Advised.{next_carry, next_turn, cycle_held}

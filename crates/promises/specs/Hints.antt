@@ -3,7 +3,7 @@ use Rattle.std.specs.Prelude.{◌≡◌, Bool, true, false, List, [], ◌∷◌,
 use Rattle.lists.specs.Choice.{pick}
 use Rattle.board.specs.Whole.{Board}
 use Rattle.move_guard.specs.Parts.{place}
-use Rattle.solve_next.specs.declared.Advice.{Advice}
+use Rattle.solve_next.specs.Advices.{Advice}
 use Rattle.solve_next.specs.Choosing.{Act, no_kind, all_home, judge, acted, no_advice, act_of}
 use Rattle.solve_next.specs.Hints.{hint_call}
 use Rattle.solve_finish.specs.Finishes.{finish_call}

@@ -13,7 +13,7 @@ use Rattle.move_guard.specs.Moved.{unchanged}
 use Rattle.move_guard.specs.Moved.{Change}
 use Rattle.move_cycle.specs.Steps.{code_steps}
 use Rattle.move_turn.specs.Turns.{turn_change}
-use Rattle.solve_next.specs.declared.Advice.{Advice}
+use Rattle.solve_next.specs.Advices.{Advice}
 use Rattle.solve_next.specs.Choosing.{Act, relocate, augment, no_kind, carry_kind, all_home_in, next_act_in, advice_of, act_of}
 use Rattle.solve_next.specs.Hints.{next_advice_in}
 use Rattle.solve_next.proofs.Advised.{act_carry, act_turn, advice_act}

@@ -3,11 +3,10 @@
 use mathlib.Core.Path.{◌≡◌, refl, sym, ap, ap₂, ◌∙◌}
 use mathlib.Core.Bool.{Bool, true, false}
 use mathlib.Core.List.{List, []}
-use mathlib.Core.Logic.{◌≢◌}
-use Prim.Native.Nat.{ℕ, ◌<◌, ◌≤◌}
+use Prim.Native.Nat.{ℕ, ◌≤◌}
 use native.Mathlib.Omega.{arith}
 use lib.ListN.{length, take}
-use borrow.Author.Tests.{lt-ltb, le-ltb, eq-eqb, ne_eqb}
+use borrow.Author.Tests.{eq-eqb, ne_eqb}
 use Rattle.lists.specs.Choice.{pick}
 use Rattle.lists.proofs.Laws.{Known, was_true, was_false, known, pick_yes, pick_no}
 use Rattle.board.specs.Limits.{max_edges}
@@ -23,20 +22,22 @@ use Rattle.move_carry.specs.Carries.{on_board_in, carry_refusal_in}
 use Rattle.move_carry.proofs.Lent.{carry_refusal_bare}
 use Rattle.move_cycle.specs.Steps.{code_steps}
 use Rattle.move_turn.specs.Turns.{turn_refusal_in}
-use Rattle.solve_carry.specs.Search.{marked_open_in, marked_edge_in, chosen_edge_in, open_carry_in, chosen_edge}
+use Rattle.solve_carry.specs.Search.{marked_open_in, marked_edge_in, chosen_edge_in, chosen_edge}
 use Rattle.solve_carry.specs.Inner.{Searched, Resumes}
-use Rattle.solve_carry.specs.declared.Found.{Found}
-use Rattle.solve_carry.proofs.Finds.{found_terminal, found_some, found_edge, bounds_searched}
+use Rattle.solve_carry.proofs.Finds.{bounds_searched}
 use Rattle.solve_carry.proofs.Resumed.{resumes_first, resumes_bare}
 use Rattle.solve_walk.specs.Walk.{packed}
 use Rattle.solve_walk.specs.declared.Walk.{Walk}
 use Rattle.solve_walk.specs.Inner.{walked}
 use Rattle.solve_walk.specs.Chart.{Charted}
 use Rattle.solve_walk.proofs.Packed.{cycle_walked, cycle_short}
-use Rattle.solve_next.specs.declared.Advice.{Advice}
+use Rattle.solve_next.specs.Advices.{Advice}
 use Rattle.solve_next.specs.Parts.{Movable, advice_number_in}
-use Rattle.solve_next.specs.Choosing.{relocate, augment, no_kind, carry_kind, turn_kind, all_home_in, judge_in, next_cycle_in, next_cycle, next_act_in, next_act, no_advice, advice_of, act_of}
+use Rattle.solve_next.specs.Choosing.{relocate, augment, carry_kind, all_home_in, judge_in, next_cycle_in, next_cycle, next_act_in, next_act, no_advice, advice_of, act_of}
 use Rattle.solve_next.specs.Hints.{next_advice_in}
+use Rattle.solve_next.specs.Views.{advice_told}
+use Rattle.solve_next.specs.declared.Advice.TheVariants.{Carry, Turn}
+use Rattle.board.specs.declared.Relocation.{Relocation}
 
 -- the move of a record, by its kind
 pub act_carry : (a : Advice) → a.kind ≡ carry_kind → act_of a ≡ relocate a.terminal a.edge
@@ -62,26 +63,18 @@ module _ (net : Network) (flows : List ℕ) (marks : ℕ) (places : List ℕ) wh
   unfolding next_advice_in
   advice_none h = sym (pick_yes _ _ _ h)
 
-  module _ (away : all_home_in net.terminals net.source places ≡ false) (found : Found) (ef : found ≡ open_carry_in net flows marks places) where
-    next_found : found.terminal < net.terminals → next_act_in net flows marks places ≡ relocate found.terminal found.edge
-    unfolding next_act_in
-    next_found below =
-        pick_yes _ _ _ (sym (found_some net flows marks places found ef) ∙ lt-ltb found.terminal net.terminals below)
-        ∙ sym (ap₂ relocate (found_terminal net flows marks places found ef)
-        (found_edge net flows marks places found ef below ∙ ap (chosen_edge_in net flows marks places) (found_terminal net flows marks places found ef)))
+  module _ (away : all_home_in net.terminals net.source places ≡ false) where
+    pub advice_carry : (c : Relocation)
+        → (some_open_in net flows marks places ≡ true) × (c.terminal ≡ open_terminal_in net flows marks places)
+        × (c.edge ≡ chosen_edge_in net flows marks places (open_terminal_in net flows marks places))
+        → advice_told (Carry c) ≡ next_advice_in net flows marks places
+    unfolding next_advice_in next_act_in
+    advice_carry c f = sym (pick_no _ _ _ away ∙ ap advice_of (pick_yes _ _ _ f.0 ∙ sym (ap₂ relocate f.1 f.2)))
 
-    next_walked : net.terminals ≤ found.terminal → next_act_in net flows marks places ≡ augment (next_cycle_in net flows)
-    unfolding next_act_in
-    next_walked above = pick_no _ _ _ (sym (found_some net flows marks places found ef) ∙ le-ltb found.terminal net.terminals above)
-
-    pub advice_carry : found.terminal < net.terminals → advice_of (relocate found.terminal found.edge) ≡ next_advice_in net flows marks places
-    unfolding next_advice_in
-    advice_carry below = sym (pick_no _ _ _ away ∙ ap advice_of (next_found below))
-
-    pub advice_turn : (w : Walk) → net.terminals ≤ found.terminal → w ≡ packed (next_cycle_in net flows)
-        → record { kind = turn_kind; terminal = 0; edge = 0; count = w.count; steps = w.steps } ≡ next_advice_in net flows marks places
-    unfolding next_advice_in
-    advice_turn w above ew = rw ew (sym (pick_no _ _ _ away ∙ ap advice_of (next_walked above)))
+    pub advice_turn : (w : Walk) → some_open_in net flows marks places ≡ false → w ≡ packed (next_cycle_in net flows)
+        → advice_told (Turn w) ≡ next_advice_in net flows marks places
+    unfolding next_advice_in next_act_in
+    advice_turn w none ew = rw ew (sym (pick_no _ _ _ away ∙ ap advice_of (pick_no _ _ _ none)))
 
   -- the record of the next move says the move back
   module _ (few : net.vertices ≤ max_edges) (all : length flows ≡ max_edges) where
@@ -180,25 +173,16 @@ module _ (net : Network) (flows : List ℕ) (marks : ℕ) (places : List ℕ) wh
   unfolding advice_number_in carry_refusal_in on_board_in enters_in turn_refusal_in
   number_bare a = refl
 
--- the number of a record by its kind, in the code's shape
-module _ (frame : Frame) (tails heads demands flows places : List ℕ) (a : Advice) where
-  abbrev lent : Network
-  lent = net_of frame tails heads demands
+-- the number of the code's move
+module _ (frame : Frame) (tails heads demands flows places : List ℕ) where
+  pub number_carry : (r : Relocation)
+      → carry_refusal_in true (net_of frame [] heads demands) flows frame.marks places r.terminal r.edge
+      ≡ advice_number_in (net_of frame tails heads demands) flows frame.marks places (advice_told (Carry r))
+  unfolding advice_number_in pick
+  number_carry r = carry_refusal_bare true (net_of frame tails heads demands) flows frame.marks frame.positive places r.terminal r.edge
 
-  abbrev number : ℕ
-  number = advice_number_in lent flows frame.marks places a
-
-  pub number_none : a.kind ≡ no_kind → 0 ≡ number
-  unfolding advice_number_in
-  number_none h = sym (pick_yes _ _ _ (eq-eqb _ _ h))
-
-  module _ (some : a.kind ≢ no_kind) where
-    pub number_carry : a.kind ≡ carry_kind → carry_refusal_in true (net_of frame [] heads demands) flows frame.marks places a.terminal a.edge ≡ number
-    unfolding advice_number_in
-    number_carry h =
-        carry_refusal_bare true lent flows frame.marks frame.positive places a.terminal a.edge
-        ∙ sym (pick_no _ _ _ (ne_eqb _ _ some) ∙ pick_yes _ _ _ (eq-eqb _ _ h))
-
-    pub number_turn : a.kind ≢ carry_kind → turn_refusal_in true false (net_of frame tails heads []) flows (code_steps (take a.count a.steps)) ≡ number
-    unfolding advice_number_in turn_refusal_in
-    number_turn h = sym (pick_no _ _ _ (ne_eqb _ _ some) ∙ pick_no _ _ _ (ne_eqb _ _ h))
+  pub number_turn : (w : Walk)
+      → turn_refusal_in true false (net_of frame tails heads []) flows (walked w)
+      ≡ advice_number_in (net_of frame tails heads demands) flows frame.marks places (advice_told (Turn w))
+  unfolding advice_number_in turn_refusal_in pick
+  number_turn w = refl

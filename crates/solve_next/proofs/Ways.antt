@@ -11,7 +11,7 @@ use Rattle.lists.proofs.Laws.{Known, was_true, was_false, known, pick_yes, pick_
 use Rattle.board.specs.Whole.{Board}
 use Rattle.move_guard.specs.Guard.{playing}
 use Rattle.move_guard.specs.Bounds.{InBounds}
-use Rattle.solve_next.specs.declared.Advice.{Advice}
+use Rattle.solve_next.specs.Advices.{Advice}
 use Rattle.solve_next.specs.Choosing.{all_home, judge_in, judge, next_act, no_advice}
 use Rattle.solve_next.proofs.Advised.{advice_none, advice_number}
 use Rattle.solve_next.specs.Parts.{advice_number_in}
@@ -32,10 +32,9 @@ module _ (b : Board) where
     unfolding hint_refusal either
     number_judged t h j = pick_yes (playing b) _ 20 p ∙ rw (h, j)
 
-module _ (b : Board) (n : Advice) (none : n ≡ no_advice) where
-  pub hint_closed : playing b ≡ false → record { answer = 20; advice = n } ≡ hint_call b
-  unfolding hint_call pick
-  hint_closed p = rw (number_closed b p, none)
+pub hint_closed : (b : Board) → playing b ≡ false → record { answer = 20; advice = no_advice } ≡ hint_call b
+unfolding hint_call pick
+hint_closed b p = rw (number_closed b p)
 
 -- the solver's move, by the number that its record is judged with
 module _ (b : Board) (play : playing b ≡ true) (bounds : InBounds b.network b.flows b.places) (a : Advice) (next : a ≡ next_advice b) (number : ℕ)
@@ -49,13 +48,13 @@ module _ (b : Board) (play : playing b ≡ true) (bounds : InBounds b.network b.
       en ∙ ap (advice_number_in b.network b.flows b.marks b.places) next ∙ advice_number b.network b.flows b.marks b.places bounds h
       ∙ ap (λ (p : Bool). judge_in p b.network b.flows b.marks b.places (next_act b)) (sym play)
 
-  pub hint_stuck : (n : Advice) → n ≡ no_advice → number ≢ 0 → record { answer = 20; advice = n } ≡ hint_call b
+  pub hint_stuck : number ≢ 0 → record { answer = 20; advice = no_advice } ≡ hint_call b
   unfolding hint_call pick
-  hint_stuck n none j = go (known (all_home b))
+  hint_stuck j = go (known (all_home b))
     where
-      go : Known (all_home b) → record { answer = 20; advice = n } ≡ hint_call b
+      go : Known (all_home b) → record { answer = 20; advice = no_advice } ≡ hint_call b
       go (was_true h) = absurd (j (home_number h))
-      go (was_false h) = rw (number_judged b play false h (ne_eqb _ 0 (λ q. j (away_number h ∙ q))), none)
+      go (was_false h) = rw (number_judged b play false h (ne_eqb _ 0 (λ q. j (away_number h ∙ q))))
 
   pub hint_move : number ≡ 0 → record { answer = 0; advice = a } ≡ hint_call b
   unfolding hint_call pick
@@ -64,3 +63,8 @@ module _ (b : Board) (play : playing b ≡ true) (bounds : InBounds b.network b.
       go : Known (all_home b) → record { answer = 0; advice = a } ≡ hint_call b
       go (was_true h) = rw (number_home b play h, next)
       go (was_false h) = rw (number_judged b play true h (eq-eqb _ 0 (sym (away_number h) ∙ j)), next)
+
+-- no move: every terminal is at the source
+pub hint_none : (b : Board) → playing b ≡ true → InBounds b.network b.flows b.places → no_advice ≡ next_advice b → record { answer = 0; advice = no_advice } ≡ hint_call b
+unfolding advice_number_in pick
+hint_none b play bounds next = hint_move b play bounds no_advice next 0 refl refl

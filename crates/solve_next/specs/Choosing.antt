@@ -15,7 +15,7 @@ use Rattle.move_cycle.specs.Steps.{code_steps}
 use Rattle.move_turn.specs.Turns.{turn_refusal_in, turned_in}
 use Rattle.solve_carry.specs.Search.{chosen_edge_in}
 use Rattle.solve_walk.specs.Walk.{cycle_of, packed}
-use Rattle.solve_next.specs.declared.Advice.{Advice}
+use Rattle.solve_next.specs.Advices.{Advice}
 
 -- every mill is at the spring: by how many mills there are, the spring, and where the mills are
 unfoldable pub all_home_in : ℕ → ℕ → List ℕ → Bool

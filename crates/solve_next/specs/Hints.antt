@@ -4,9 +4,8 @@ use Rattle.lists.specs.Choice.{pick, either, unless}
 use Rattle.board.specs.Whole.{Board}
 use Rattle.board.specs.declared.Network.{Network}
 use Rattle.move_guard.specs.Guard.{playing}
-use Rattle.solve_next.specs.declared.Advice.{Advice}
+use Rattle.solve_next.specs.Advices.{Advice, Suggestion}
 use Rattle.solve_next.specs.Choosing.{all_home_in, all_home, judge, next_act_in, next_act, no_advice, advice_of}
-use Rattle.solve_next.specs.declared.Suggestion.{Suggestion}
 
 -- "Hint: 20". A board on which terminals are away and the solver's move is refused was never loaded: see the theorem about every list of calls
 unfoldable pub hint_refusal : Board → ℕ

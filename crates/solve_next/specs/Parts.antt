@@ -11,7 +11,7 @@ use Rattle.move_carry.specs.declared.Frame.{Frame}
 use Rattle.move_cycle.specs.Steps.{code_steps}
 use Rattle.move_turn.specs.Turns.{turn_refusal_in}
 use Rattle.solve_carry.specs.Inner.{Resumes}
-use Rattle.solve_next.specs.declared.Advice.{Advice}
+use Rattle.solve_next.specs.Advices.{Advice}
 use Rattle.solve_next.specs.Choosing.{no_kind, carry_kind}
 
 -- the lists are those of a board in play, the sets are those of the lists, and the search for an open carry goes on where it may

@@ -20,7 +20,7 @@ use Rattle.load.specs.Load.{load_text}
 use Rattle.move_guard.specs.Guard.{loaded, playing}
 use Rattle.move_guard.proofs.Answers.{answered_no}
 use Rattle.move_undo.specs.Undone.{is_finished, undo_refusal, undo_call}
-use Rattle.solve_next.specs.declared.Suggestion.{Suggestion}
+use Rattle.solve_next.specs.Advices.{Suggestion}
 use Rattle.solve_next.specs.Choosing.{Act, relocate, augment, judge, acted}
 use Rattle.solve_next.specs.Hints.{hint_refusal}
 use Rattle.solve_finish.specs.Finishes.{Finished}

@@ -4,7 +4,7 @@ use Rattle.lists.specs.Choice.{pick}
 use Rattle.board.specs.Limits.{max_moves}
 use Rattle.board.specs.Whole.{Board}
 use Rattle.load.specs.Load.{load_text}
-use Rattle.solve_next.specs.declared.Suggestion.{Suggestion}
+use Rattle.solve_next.specs.Advices.{Suggestion}
 use Rattle.solve_next.specs.Choosing.{Act, relocate, augment, judge, acted, next_act}
 use Rattle.solve_finish.specs.Finishes.{stepped, finish_call}
 use Rattle.move_list.specs.Calls.{Call, carry, turn, undo, hint, finish, call_for, hint_given}

@@ -1,6 +1,6 @@
 -- What the hint gives on the board that is read, in numbers and bytes.
 use mathlib.Core.Path.{ap, ◌∙◌}
-use Rattle.solve_next.specs.declared.Suggestion.{Suggestion}
+use Rattle.solve_next.specs.Advices.{Suggestion}
 use Rattle.solve_next.specs.Hints.{hint_call}
 use Rattle.boundary_parts.specs.Shown.{advice_numbers, advice_bytes}
 use Rattle.boundary.proofs.vulprow_parts_hint.Goals as goal

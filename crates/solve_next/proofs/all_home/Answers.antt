@@ -11,9 +11,6 @@ pub loop-i-init : goal.loop-i-init
 unfolding all_home_in
 loop-i-init c = rw sub-zero
 
-pub at_or-requires : goal.at_or-requires
-at_or-requires c = tt
-
 pub returns-then-at_or-source : goal.returns-then-at_or-source
 unfolding is_home_in
 returns-then-at_or-source c =

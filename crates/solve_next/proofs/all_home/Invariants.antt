@@ -8,6 +8,3 @@ use Rattle.solve_next.proofs.all_home.Given as goal
 
 abbrev pub invariant-loop-i : goal.invariant-loop-i
 invariant-loop-i l = all (is_home_in l.source l.places) l.i (l.terminals - l.i) ≡ all_home_in l.terminals l.source l.places
-
-abbrev pub decreases-loop-i : goal.decreases-loop-i
-decreases-loop-i l = l.terminals - l.i
