@@ -2,29 +2,31 @@
 use mathlib.Core.Path.{◌≡◌, refl}
 use mathlib.Core.Logic.{◌⊎◌, inl, inr}
 use mathlib.Core.List.{List, [], ◌++◌, append-nil}
-use Prim.Native.Nat.{ℕ, suc, ◌+◌, ◌-◌, ◌*◌, ◌≤◌, ◌<◌}
+use Prim.Native.Nat.{ℕ, suc, ◌+◌, ◌-◌, ◌*◌, ◌≤◌, ◌<◌, min}
 use native.Mathlib.Nat.{zero-add, mul-suc, mul-le-mul_left}
 use native.Mathlib.Omega.{arith}
-use lib.ListN.{length, get_or, take, drop, length-take, drop_of_length-le}
+use lib.ListN.{length, get_or, take, drop, drop_of_length-le}
 use lib.Seq.{sets, sets-eq, drop-drop, drop-length}
 use borrow.Author.Tests.{le-leb, lt-leb}
 use Rattle.lists.specs.Choice.{pick}
 use Rattle.text.specs.Text.{line_text, lines_text}
-use Rattle.lists.proofs.Laws.{rest_part}
+use Rattle.lists.proofs.Laws.{lt_or_ge, rest_part}
 use Rattle.text_writer.proofs.Writing.{TextLeft, left_part, left_none}
 use Rattle.catalog.specs.Catalog.{boards, span, boards_from, table_row, board_text, catalog_text, catalog_call, catalogued}
 
 -- one turn of the walk to a board's start, which stops at the end of the list
-module _ (t : List ℕ) (k i at next to : ℕ) (l : i < k) (p : next ≡ at + span (take (length t - at) (drop at t))) (whole : List ℕ)
+module _ (t : List ℕ) (k i at next : ℕ) (l : i < k) (p : next ≡ at + span (take (length t - at) (drop at t))) (whole : List ℕ)
     (h : boards_from (k - i) (drop at t) ≡ whole) where
   passed : boards_from (k - (i + 1)) (drop next t) ≡ whole
   unfolding boards_from
   passed = let e : k - i ≡ suc (k - (i + 1)) = omega arith in rw (p, rest_part t at, ← drop-drop (span (drop at t)) at t) (rw e at h)
 
-  pub boards_turned : ((next < length t) × (to ≡ next)) ⊎ ((length t ≤ next) × (to ≡ length t))
-      → (to ≤ length t) × (boards_from (k - (i + 1)) (drop to t) ≡ whole)
-  boards_turned (inl (less, q)) = (omega arith, rw q passed)
-  boards_turned (inr (most, q)) = (omega arith, rw (q, drop-length t) (rw (drop_of_length-le t most) at passed))
+  pub boards_turned : (to : ℕ) → to ≡ min (length t) next → boards_from (k - (i + 1)) (drop to t) ≡ whole
+  boards_turned to e = go (lt_or_ge next (length t))
+    where
+      go : (next < length t) ⊎ (length t ≤ next) → boards_from (k - (i + 1)) (drop to t) ≡ whole
+      go (inl less) = let q : to ≡ next = omega arith in rw q passed
+      go (inr most) = let q : to ≡ length t = omega arith in rw (q, drop-length t) (rw (drop_of_length-le t most) at passed)
 
 pub boards_reached : (rest : List ℕ) (k i : ℕ) → k ≤ i → (whole : List ℕ) → boards_from (k - i) rest ≡ whole → rest ≡ whole
 unfolding boards_from
@@ -33,12 +35,6 @@ boards_reached rest k i l whole h = let e : k - i ≡ 0 = omega arith in rw e at
 -- row i of n rows: it ends where they end or before, and is what the code lends
 pub row_fits : (w i n : ℕ) → i < n → w * i + w ≤ w * n
 row_fits w i n l = let m : w * suc i ≤ w * n = mul-le-mul_left w (omega arith) in omega (arith, mul-suc w i)
-
-pub row_part : (w i : ℕ) (t : List ℕ) → take (w * i + w - w * i) (drop (w * i) t) ≡ table_row w t i
-row_part w i t = let e : w * i + w - w * i ≡ w = omega arith in rw e
-
-pub row_length : (w i : ℕ) (t : List ℕ) → length (take (w * i + w - w * i) (drop (w * i) t)) ≤ w
-row_length w i t = omega (arith, length-take (w * i + w - w * i) (drop (w * i) t))
 
 -- the three parts of a board's text, one behind the other
 module _ (t buf b1 b2 b3 : List ℕ) (p1 p2 p3 e n : ℕ) where

@@ -8,10 +8,11 @@ ghost use Rattle.std.proofs.lemmas.List.Edits.{sets};
 ghost use Rattle.text.specs.Sizes.{line_bytes};
 ghost use Rattle.text.specs.Room.{line_start_most};
 ghost use Rattle.text.specs.Text.{lines_text};
+ghost use Rattle.text.specs.Results.{as_written};
 ghost use Rattle.catalog.specs.Catalog.{span, boards_from, table_row, board_text, catalog_call, catalogued};
 
+use refusals::Refusal;
 use table::TABLE;
-use text::Written;
 
 // How many boards there are.
 const BOARDS: u32 = 40;
@@ -32,11 +33,8 @@ fn start(t: &[u32], k: u32) -> usize
     ensures t_value { drop result t.now ≡ boards_from k t.now }
 {
     let mut at: usize = 0;
-    let mut i: u32 = 0;
-    while i < k {
-        let next = at + span(&t[at..]);
-        at = if next < t.len() { next } else { t.len() };
-        i += 1;
+    for _ in 0..k {
+        at = t.len().min(at + span(&t[at..]));
     }
     at
 }
@@ -49,14 +47,11 @@ fn put_rows(buf: &mut [u8], at: usize, letter: u8, t: &[u32], width: usize, coun
     ensures buf_after { buf.new ≡
         sets buf.old at (lines_text letter (table_row width t.now) 0 count) }
 {
-    let mut to = at;
-    let mut i: usize = 0;
-    while i < count {
-        let from = width * i;
-        to = text_writer::put_line(buf, to, letter, &t[from..from + width]);
-        i += 1;
-    }
-    to
+    let row = move |i: usize|
+        requires { width * i + width ≤ length t.now }
+        ensures { result.now ≡ table_row width t.entry.now i }
+    { &t[width * i..width * i + width] };
+    text_writer::put_rows(buf, at, letter, count, row)
 }
 
 // Writes the text of the first board of a list, and answers its length.
@@ -74,23 +69,19 @@ fn put_board(buf: &mut [u8], t: &[u32]) -> usize
 
 // Writes the text of a board of the catalog: 2 where there is no board of that number, then 8 where the buffer is too
 // short for the text.
-pub fn write(number: u32, buf: &mut [u8]) -> Written
-    ensures value { result ≡ catalog_call number (length buf.old) }
+pub fn write(number: u32, buf: &mut [u8]) -> Result<usize, Refusal>
+    ensures value { as_written result ≡ catalog_call number (length buf.old) }
     ensures buf_after { buf.new ≡ catalogued number buf.old }
 {
     if BOARDS <= number {
-        return Written { answer: 2, used: 0 };
+        return Err(Refusal::OutOfRange);
     }
     let table = TABLE;
     let from = start(&table, number);
     let mut none = [0u8; 1];
     let length = put_board(&mut none, &table[from..]);
     if buf.len() < length {
-        return Written { answer: 8, used: 0 };
+        return Err(Refusal::ShortBuffer);
     }
-    let used = put_board(buf, &table[from..]);
-    Written {
-        answer: 0,
-        used: used,
-    }
+    Ok(put_board(buf, &table[from..]))
 }

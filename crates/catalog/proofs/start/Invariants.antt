@@ -5,8 +5,5 @@ use lib.ListN.{length, drop}
 use Rattle.catalog.specs.Catalog.{boards_from}
 use Rattle.catalog.proofs.start.Given as goal
 
-abbrev pub invariant-loop-i : goal.invariant-loop-i
-invariant-loop-i l = (l.i ≤ l.k) × (l.at ≤ length l.t) × (boards_from (l.k - l.i) (drop l.at l.t) ≡ boards_from l.k l.t)
-
-abbrev pub decreases-loop-i : goal.decreases-loop-i
-decreases-loop-i l = l.k - l.i
+abbrev pub invariant-loop : goal.invariant-loop
+invariant-loop l = (l.at ≤ length l.t) × (boards_from (l.k - l.counter) (drop l.at l.t) ≡ boards_from l.k l.t)

@@ -33,9 +33,9 @@ returns-then-buf-length c =
       buf_after = all.1;
     }
 
-pub put_board-used-requires : goal.put_board-used-requires
+pub put_board-requires : goal.put_board-requires
 unfolding table
-put_board-used-requires c =
+put_board-requires c =
     board_fits _ c.start-from.result c.if-number-ge-BOARDS.false c.start-from.ensures.t_value
 
 pub returns : goal.returns
@@ -45,8 +45,8 @@ returns c =
     let buf = at_args.buf.now in
     let text = board_text_lem _ c.start-from.result c.if-number-ge-BOARDS.false c.start-from.ensures.t_value in
     let fits : length (catalog_text at_args.number) ≤ length buf = omega (arith, c.if-buf-length.false, c.put_board-length.ensures.value, ap length text) in
-    let all = call_done _ _ c.if-number-ge-BOARDS.false fits _ _ (c.put_board-used.ensures.value ∙ ap length text)
-    (c.put_board-used.ensures.buf_after ∙ ap (λ s. sets buf 0 s) text ∙ sets_front (catalog_text at_args.number) buf fits) in record {
+    let all = call_done _ _ c.if-number-ge-BOARDS.false fits _ _ (c.put_board.ensures.value ∙ ap length text)
+    (c.put_board.ensures.buf_after ∙ ap (λ s. sets buf 0 s) text ∙ sets_front (catalog_text at_args.number) buf fits) in record {
       value = all.0;
       buf_after = all.1;
     }
