@@ -31,7 +31,7 @@ use Rattle.move_cycle.specs.Shifts.{shifted}
 use Rattle.move_cycle.specs.Inner.{InSets}
 use Rattle.move_carry.specs.declared.Frame.{Frame}
 use Rattle.move_carry.specs.Frames.{frame_of, net_of, bare_of}
-use Rattle.move_turn.specs.declared.StepRule.TheVariants.{OnBoard}
+use Rattle.move_turn.specs.Turns.{OnBoard}
 use Rattle.move_turn.specs.Turns.{meets_in, turn_refusal_in, turned_in, turn_change, turn_call}
 use Rattle.move_guard.specs.Bounds.{InBounds}
 use Rattle.move_edges.specs.Marking.{singular_in}

@@ -1,14 +1,24 @@
 -- Why the tests of a turn's steps can be run step by step: the steps from i on are the step at i and those after it, so one turn of the loop leaves the same test.
 -- And why the sets have room: where every step is on the board, each edge is one of the board's, of which there are no more than a set has bits.
-use mathlib.Core.Path.{◌≡◌, refl, ap}
-use mathlib.Core.Bool.{Bool, true, false}
+use mathlib.Core.Path.{◌≡◌, refl, ap, ◌∙◌}
+use mathlib.Core.Bool.{Bool, true, false, ◌&&◌}
 use mathlib.Core.Logic.{inl, inr}
 use mathlib.Core.List.{List, [], ◌∷◌}
-use Prim.Native.Nat.{ℕ, zero, suc, ◌+◌, ◌<◌, ◌≤◌, ◌^◌}
-use native.Mathlib.Numerals.{add-one}
+use denote.Param.Members.{Mut}
+use Rattle.std.specs.Borrow.{Bor}
+use Rattle.std.specs.Prelude.{Option}
+use Rattle.std.specs.Iterator.{YieldsThen}
+use Rattle.std.specs.List.{FoldsTo, list_all}
+use Rattle.std.specs.Fn.{Called}
+use Rattle.std.proofs.lemmas.Fn.{fronts}
+use Rattle.std.specs.Option.{MatchOption}
+use Rattle.std.specs.declared.slice.Iter.{Iter}
+use Rattle.std.specs.Slice.Iter.{iter_rest}
+use Rattle.std.proofs.lemmas.Iterator.{YieldsList-from_slice}
+use Rattle.std.proofs.lemmas.Iterator.Search.{all_from_yields_List}
+use Prim.Native.Nat.{ℕ, zero, suc, ◌<◌, ◌≤◌, ◌^◌}
 use native.Mathlib.Omega.{arith}
-use lib.ListN.{length, get_or, drop, drop_of_length-le}
-use lib.Seq.{drop-cons}
+use lib.ListN.{length, get_or}
 use borrow.Author.Tests.{ltb-true}
 use Rattle.lists.specs.Choice.{pick}
 use Rattle.sets.specs.Inner.{set_width}
@@ -21,23 +31,23 @@ use Rattle.board.specs.declared.Network.{Network}
 use Rattle.move_edges.specs.Marking.{singular_in, singular_by}
 use Rattle.move_edges.specs.Inner.{ChartedOut}
 use Rattle.move_edges.proofs.Following.{singular_same}
-use Rattle.move_turn.specs.declared.StepRule.{StepRule}
-use Rattle.move_turn.specs.declared.StepRule.TheVariants.{OnBoard, Positive, UpSingular}
-use Rattle.move_turn.specs.Turns.{meets_in, turn_refusal_in}
+use Rattle.move_turn.specs.Turns.{StepRule, OnBoard, Positive, UpSingular, meets_in, turn_refusal_in}
 
--- a test of every step that has passed i of them
-module _ (p : Step → Bool) (s : List ℕ) (i : ℕ) where
-  pub every_hit : i < length s → p (code_step (get_or s i 0)) ≡ true → every p (code_steps (drop (i + 1) s)) ≡ every p (code_steps (drop i s))
-  unfolding every code_steps
-  every_hit h t = rw (drop-cons s i 0 h, add-one i, t, every)
+-- what the library's test of every code of a slice answers: the test of every step
+every_code : (p : Step → Bool) (s : List ℕ) → list_all (λ (k : ℕ). p (code_step k)) s ≡ every p (code_steps s)
+unfolding every code_steps
+every_code p [] = refl
+every_code p (k ∷ s) = rw (every_code p s) (first (p (code_step k)) (every p (code_steps s)))
+  where
+    first : (a b : Bool) → (a && b) ≡ elim a [ true ↦ b | false ↦ false ]
+    first true b = refl
+    first false b = refl
 
-  pub every_miss : i < length s → p (code_step (get_or s i 0)) ≡ false → false ≡ every p (code_steps (drop i s))
-  unfolding every code_steps
-  every_miss h t = rw (drop-cons s i 0 h, t, every)
-
-  pub every_end : length s ≤ i → true ≡ every p (code_steps (drop i s))
-  unfolding every code_steps
-  every_end h = rw (drop_of_length-le s h)
+pub all_steps : {F : Type 0} {g : Mut F (Bor ℕ × Unit {0}) Bool} (p : Step → Bool) (s : Iter ℕ) (u : Iter ℕ) (f : F) (r : Bool) (codes : List ℕ) → iter_rest s ≡ codes
+    → (xs : List (Bor ℕ)) × (o : Option (Bor ℕ)) × (j : F) × YieldsThen fronts s xs o u
+    × FoldsTo (λ p x q. Called g p (x, tt) true q) f xs j × MatchOption o (r ≡ true) (λ x. (r ≡ false) × ((h : F) × Called g j (x, tt) false h))
+    → ((x : Bor ℕ) (b : Bool) (q : F) → Called g f (x, tt) b q → (q ≡ f) × (b ≡ p (code_step x.now))) → r ≡ every p (code_steps codes)
+all_steps p s u f r codes at ran each = all_from_yields_List (λ (k : ℕ). p (code_step k)) u f r ran (YieldsList-from_slice codes at) each ∙ every_code p codes
 
 in_steps : (s : List ℕ) (i : ℕ) → i < length s → In (code_step (get_or s i 0)) (code_steps s)
 unfolding code_steps

@@ -25,7 +25,7 @@ use Rattle.graph_flows.specs.Trails.{Step, edge_of, edges_of}
 use Rattle.move_cycle.specs.Steps.{every, is_cycle}
 use Rattle.move_cycle.specs.Inner.{greatest_edge}
 use Rattle.move_cycle.proofs.Cycled.{cycle_closed}
-use Rattle.move_turn.specs.declared.StepRule.TheVariants.{OnBoard}
+use Rattle.move_turn.specs.Turns.{OnBoard}
 use Rattle.move_turn.specs.Turns.{meets, turn_refusal, turned, turn_call, turn_unkept, turn_refusal_in}
 
 -- the greatest edge is that of a step

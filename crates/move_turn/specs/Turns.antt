@@ -10,11 +10,15 @@ use Rattle.move_guard.specs.Moved.{Change}
 use Rattle.move_guard.specs.Moved.{after_change, answered, unchanged}
 use Rattle.move_carry.specs.Opens.{some_open}
 use Rattle.move_cycle.specs.Steps.{is_up, every, is_cycle, gather}
-use Rattle.move_turn.specs.declared.StepRule.{StepRule}
-use Rattle.move_turn.specs.declared.StepRule.TheVariants.{OnBoard, Positive, UpSingular}
 use Rattle.move_edges.specs.Marking.{singular_in, singular, fresh_in}
 use Rattle.move_cycle.specs.Amounts.{amount_in}
 use Rattle.move_cycle.specs.Shifts.{shifted}
+
+-- the rules that each step of a turn keeps
+pub data StepRule : Type 0 where
+  OnBoard : StepRule
+  Positive : StepRule
+  UpSingular : StepRule
 
 -- 6, 25 and 26, of one step: a channel that the board has; a wet one; "up-steps use single channels". By the count of edges, the
 -- flows and the test for a single channel; and on a board

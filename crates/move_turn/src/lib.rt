@@ -8,11 +8,11 @@ ghost use Rattle.sets.specs.Inner.{sets_of};
 ghost use Rattle.lists.specs.Choice.{pick};
 ghost use Rattle.graph_flows.specs.Trails.{edge_of};
 ghost use Rattle.board.specs.Limits.{max_edges};
-ghost use Rattle.move_cycle.specs.Steps.{steps_of, code_step, code_steps, is_up, every};
+ghost use Rattle.move_cycle.specs.Steps.{steps_of, code_step, code_steps, is_up};
 ghost use Rattle.move_cycle.specs.Inner.{InSets, AtMost, greatest_edge};
 ghost use Rattle.move_edges.specs.Marking.{singular_by};
 ghost use Rattle.move_edges.specs.Inner.{ChartedOut};
-ghost use Rattle.move_turn.specs.Turns.{meets_in, turn_refusal_in, turn_change, turn_call, turn_unkept};
+ghost use Rattle.move_turn.specs.Turns.{turn_refusal_in, turn_change, turn_call, turn_unkept};
 ghost use Rattle.move_carry.specs.Frames.{net_of};
 ghost use Rattle.move_turn.specs.Lent.{change_of, made_of, augmented_by, Turnable};
 ghost use Rattle.journal.specs.Words.{whole_of, given_of, words_after};
@@ -24,14 +24,6 @@ use move_carry::Frame;
 use move_cycle::StepCode;
 use refusals::Refusal;
 use sets::EdgeSet;
-
-// The rules that each step of a turn keeps.
-#[derive(Clone, Copy)]
-pub enum StepRule {
-    OnBoard,
-    Positive,
-    UpSingular,
-}
 
 // What an accepted turn gives beside the flows that it changes.
 #[derive(Clone, Copy)]
@@ -74,47 +66,6 @@ fn up_singular<'a>(
     move_edges::singular_by(heads, leaving, positive, vertices, e)
 }
 
-// Whether a step keeps a rule.
-fn meets<'a>(
-    rule: StepRule,
-    frame: Frame,
-    heads: &'a [u32],
-    leaving: &'a [EdgeSet],
-    flows: &'a [u32],
-    s: StepCode,
-) -> bool
-    ensures { result ≡ meets_in rule frame.edges flows.now
-        (singular_by heads.now (sets_of leaving.now) (set_of frame.positive) frame.vertices)
-        (code_step s) }
-{
-    match rule {
-        StepRule::OnBoard => on_board(frame.edges, s),
-        StepRule::Positive => has_flow(flows, s),
-        StepRule::UpSingular => up_singular(heads, leaving, frame.positive, frame.vertices, s),
-    }
-}
-
-// Whether every step keeps a rule.
-fn all_meet<'a>(
-    rule: StepRule,
-    frame: Frame,
-    heads: &'a [u32],
-    leaving: &'a [EdgeSet],
-    flows: &'a [u32],
-    steps: &'a [StepCode],
-) -> bool
-    ensures { result ≡ every (meets_in rule frame.edges flows.now
-        (singular_by heads.now (sets_of leaving.now) (set_of frame.positive) frame.vertices))
-        (code_steps steps.now) }
-{
-    for s in steps {
-        if !meets(rule, frame, heads, leaving, flows, *s) {
-            return false;
-        }
-    }
-    true
-}
-
 // Whether the steps are accepted on a board in play; else they are refused with 6, 7, 24, 25 or 26, in this order.
 pub fn judge_in<'a>(
     any_open: bool,
@@ -130,7 +81,7 @@ pub fn judge_in<'a>(
     ensures { answer_of result ≡ turn_refusal_in true any_open (net_of frame tails.now heads.now [])
         flows.now (code_steps steps.now) }
 {
-    if !all_meet(StepRule::OnBoard, frame, heads, leaving, flows, steps) {
+    if !steps.iter().all(|s| on_board(frame.edges, *s)) {
         return Err(Refusal::NotOnBoard);
     }
     if !move_cycle::is_cycle(tails, heads, steps) {
@@ -139,10 +90,10 @@ pub fn judge_in<'a>(
     if any_open {
         return Err(Refusal::CarryOpen);
     }
-    if !all_meet(StepRule::Positive, frame, heads, leaving, flows, steps) {
+    if !steps.iter().all(|s| has_flow(flows, *s)) {
         return Err(Refusal::NoFlow);
     }
-    if !all_meet(StepRule::UpSingular, frame, heads, leaving, flows, steps) {
+    if !steps.iter().all(|s| up_singular(heads, leaving, frame.positive, frame.vertices, *s)) {
         return Err(Refusal::NotSingular);
     }
     Ok(())

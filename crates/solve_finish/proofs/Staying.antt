@@ -29,7 +29,7 @@ use Rattle.move_cycle.specs.Amounts.{amount}
 use Rattle.move_cycle.specs.Shifts.{shifted}
 use Rattle.move_cycle.proofs.Shifting.{shifted_at_lem, shifted_past, shifted_other}
 use Rattle.move_carry.specs.Opens.{some_open, is_home_in}
-use Rattle.move_turn.specs.declared.StepRule.TheVariants.{OnBoard, Positive}
+use Rattle.move_turn.specs.Turns.{OnBoard, Positive}
 use Rattle.move_turn.specs.Turns.{meets, turn_refusal, turned, turn_refusal_in, turned_in}
 use Rattle.move_cycle.proofs.Raising.{amount_small}
 use Rattle.solve_finish.specs.Run.{all_small}

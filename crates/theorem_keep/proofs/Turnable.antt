@@ -9,7 +9,7 @@ use Rattle.graph_flows.specs.Trails.{Step, down, up, In}
 use Rattle.move_guard.specs.Guard.{playing}
 use Rattle.move_cycle.specs.Steps.{is_up}
 use Rattle.move_cycle.proofs.Cycled.{every_in, every_of, cycle_closed, closed_cycle}
-use Rattle.move_turn.specs.declared.StepRule.TheVariants.{OnBoard, Positive, UpSingular}
+use Rattle.move_turn.specs.Turns.{OnBoard, Positive, UpSingular}
 use Rattle.move_turn.specs.Turns.{meets, turn_refusal, turn_refusal_in}
 use Rattle.theorem_cycles.specs.Allowed.{Turnable}
 
