@@ -12,7 +12,7 @@ use Rattle.board.specs.Record.{closed_board}
 use Rattle.board.specs.Whole.{Board}
 use Rattle.board.specs.declared.Network.{Network}
 use Rattle.text_rules.specs.Rules.{Lawful}
-use Rattle.text.specs.declared.Reading.{Reading}
+use Rattle.text.specs.Results.{Reading}
 use Rattle.text.specs.Text.{text_of}
 use Rattle.text.specs.Results.{read_text}
 use Rattle.text.proofs.Accepted.{accepted_as, accepted_text, accepts}

@@ -8,7 +8,7 @@ use Rattle.board.specs.Record.{play_stage, finished_stage}
 use Rattle.board.specs.Whole.{Board}
 use Rattle.text.specs.Text.{text_of}
 use Rattle.text.specs.Results.{read_text}
-use Rattle.text.specs.declared.Reading.{Reading}
+use Rattle.text.specs.Results.{Reading}
 use Rattle.text.proofs.Accepted.{accepted_as, accepted_text, accepts}
 use Rattle.text_writer.proofs.WritesBack.{writes_loaded, short_refused}
 use Rattle.load.specs.Load.{load_text}

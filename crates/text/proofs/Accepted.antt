@@ -12,7 +12,7 @@ use lib.ListN.{get_or}
 use borrow.Author.Tests.{eq-eqb, eqb-true, eqb-false}
 use Rattle.lists.proofs.Laws.{Known, was_true, was_false, known, pick_yes, pick_no}
 use Rattle.board.specs.declared.Network.{Network}
-use Rattle.text.specs.declared.Reading.{Reading}
+use Rattle.text.specs.Results.{Reading}
 use Rattle.board.specs.Limits.{max_edges, max_terminals}
 use Rattle.text.specs.Text.{Read, refused, got, header, headed, head_ranges, edge_ranges, terminal_ranges, lines, with_edges}
 use Rattle.text.specs.Text.{with_terminals, nothing_follows, layout, line_text, lines_text, head_row, edge_row, terminal_row, text_of}

@@ -5,14 +5,23 @@ use Rattle.board.specs.Record.{empty_network, staged}
 use Rattle.text.specs.Text.{Read, refused, got, layout, text_of}
 use Rattle.text_rules.specs.Rules.{judged, lawful}
 use Rattle.board.specs.declared.Network.{Network}
-use Rattle.text.specs.declared.Reading.{Reading}
 use Rattle.board.specs.Whole.{Board}
 use Rattle.refusals.specs.declared.Refusal.{Refusal}
 use Rattle.refusals.specs.Refusals.{number}
 
+-- what reading a text gives: 0 and its network, or the number it is refused with and the empty network
+pub record Reading : Type 0 where
+  pub answer : ℕ
+  pub network : Network
+
 -- a refusal, with no network
 abbrev pub refusal : ℕ → Reading
 refusal n = record { answer = n; network = empty_network }
+
+-- what the code gives: the network, or why it is refused
+abbrev pub as_reading : Result Network Refusal → Reading
+as_reading (Ok net) = record { answer = 0; network = net }
+as_reading (Err r) = refusal (number r)
 
 -- 0 with the network, or the refusal
 unfoldable pub judgement : ℕ → Network → Reading

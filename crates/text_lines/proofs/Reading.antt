@@ -2,25 +2,25 @@
 use mathlib.Core.Path.{◌≡◌, refl, sym, ap, ◌∙◌}
 use mathlib.Core.Bool.{true, false}
 use mathlib.Core.List.{List, [], ◌∷◌, ◌++◌, append_assoc, append-nil}
-use mathlib.Core.Logic.{◌≢◌}
 use Prim.Native.Nat.{ℕ, suc, ◌+◌, ◌-◌, ◌<◌, ◌≤◌}
 use native.Mathlib.Numerals.{add-one}
 use native.Mathlib.Omega.{arith}
 use lib.Dec.{leb, ltb}
 use lib.ListN.{length, get_or, take, drop, set, length-drop, drop_of_length-le}
-use lib.Seq.{drop-cons, take-suc-set, drop-drop, length-take-le, get_or-take}
+use lib.Seq.{drop-cons, take-suc-set, drop-drop}
 use borrow.Author.Tests.{lt-ltb, le-ltb, eq-eqb, ne_eqb}
 use Rattle.lists.specs.Choice.{pick, both}
 use Rattle.lists.specs.Lists.{index_of}
 use Rattle.text.proofs.Ends.{end_after}
-use Rattle.lists.proofs.Laws.{pick_yes, pick_no, rest_part, zeros_at}
+use Rattle.lists.proofs.Laws.{pick_yes, pick_no, rest_part}
 use Rattle.std.specs.Prelude.{Option, Some, None}
 use Rattle.decimal.specs.Decimal.{number_of}
 use Rattle.text.specs.declared.Range.{Range}
-use Rattle.text.specs.declared.Field.{Field}
-use Rattle.text.specs.declared.Line.{Line}
-use Rattle.text.specs.declared.Part.{Part}
-use Rattle.text.specs.Views.{answer_read, field_read, refused_line, refused_part, LineRest}
+use Rattle.std.specs.Prelude.{Result, Ok, Err}
+use Rattle.refusals.specs.declared.Refusal.{Refusal}
+use Rattle.refusals.specs.Refusals.{number}
+use Rattle.text.specs.declared.Taken.{Taken}
+use Rattle.text.specs.Views.{as_read}
 use Rattle.text.specs.Text.{Read, refused, got, then, letter, ranged, field, end_byte, between, numbers, line, lines}
 
 -- a field whose first end stands behind n bytes, or nowhere
@@ -95,15 +95,13 @@ module _ (rs : List Range) (s values : List ℕ) (at i : ℕ) where
           simp (add-one i, take-suc-set values i v h, append_assoc, ← drop-drop used at s)
           (sym (numbers_turn r (drop (suc i) rs) (drop at s) _ v (drop used (drop at s)) (sym e)) ∙ rw cut at inv)
 
--- the reader's structs, where the answer is known
-module _ {A : Type 0} (n : ℕ) (a : A) (u : ℕ) (s : List ℕ) where
-  pub answer_read_got : n ≡ 0 → answer_read n a u s ≡ got a (drop u s)
-  unfolding answer_read pick
-  answer_read_got e = rw e
+-- what a call gives, where it is known
+module _ {A : Type 0} {x : Result (Taken A) Refusal} (s : List ℕ) where
+  pub read_ok : {t : Taken A} → x ≡ Ok t → as_read x s ≡ got t.value (drop t.used s)
+  read_ok e = rw e
 
-  pub answer_read_refused : (m : ℕ) → n ≡ m → (m ≡ 0 → ⊥) → answer_read n a u s ≡ refused m
-  unfolding answer_read
-  answer_read_refused m e z = rw e (pick_no _ _ _ (ne_eqb m 0 z))
+  pub read_err : {r : Refusal} → x ≡ Err r → as_read x s ≡ refused (number r)
+  read_err e = rw e
 
 -- the letter of a line and its comma
 module _ (x : ℕ) (rs : List Range) (s : List ℕ) where
@@ -128,36 +126,17 @@ pub rest_used : (s : List ℕ) (at used : ℕ) → at ≤ length s → used ≤ 
 rest_used s at used h u = let e = ap length (rest_part s at) in let d = length-drop at s in omega arith
 
 -- one round of the line's loop, from what the code knows
-module _ (ranges : List Range) (count : ℕ) (s values : List ℕ) (at i : ℕ) (total : Read (List ℕ))
-    (inv : line_rest (take count ranges) s values at i ≡ total) (hi : i < count) (hc : count ≤ length ranges) (f : Field) (e : ℕ)
-    (end : e ≡ pick (ltb 0 (count - i - 1)) 44 10)
-    (was_read : field_read f (take (length s - at) (drop at s)) ≡ field (get_or ranges i (between 0 0)) e (take (length s - at) (drop at s))) where
-  size : length (take count ranges) ≡ count
-  size = length-take-le count ranges hc
+module _ (ranges : List Range) (s values : List ℕ) (at i : ℕ) (total : Read (List ℕ)) (inv : line_rest ranges s values at i ≡ total) (hi : i < length ranges)
+    (f : Result (Taken ℕ) Refusal) (e : ℕ) (end : e ≡ pick (ltb 0 (length ranges - i - 1)) 44 10)
+    (was_read : as_read f (take (length s - at) (drop at s)) ≡ field (get_or ranges i (between 0 0)) e (take (length s - at) (drop at s))) where
+  cut : drop i ranges ≡ get_or ranges i (between 0 0) ∷ drop (suc i) ranges
+  cut = drop-cons ranges i (between 0 0) hi
 
-  cut : drop i (take count ranges) ≡ get_or ranges i (between 0 0) ∷ drop (suc i) (take count ranges)
-  cut = drop-cons (take count ranges) i (between 0 0) (let z = size in omega arith) ∙ rw (get_or-take count ranges i (between 0 0) hi)
+  next : as_read f (drop at s) ≡ field (get_or ranges i (between 0 0)) (end_byte (drop (suc i) ranges)) (drop at s)
+  next = rw (rest_part s at, end ∙ end_after ranges (length ranges) i refl hi) at was_read
 
-  next : field_read f (drop at s) ≡ field (get_or ranges i (between 0 0)) (end_byte (drop (suc i) (take count ranges))) (drop at s)
-  next = rw (rest_part s at, end ∙ end_after (take count ranges) count i size hi) at was_read
+  pub line_step_stop : {r : Refusal} → f ≡ Err r → refused (number r) ≡ total
+  line_step_stop {r} z = line_stop ranges s values at i total inv _ cut (number r) (sym (read_err _ z) ∙ next)
 
-  pub line_step_stop : (f.answer ≡ 0 → ⊥) → refused f.answer ≡ total
-  line_step_stop z = line_stop (take count ranges) s values at i total inv _ cut f.answer (sym (answer_read_refused _ _ _ _ _ refl z) ∙ next)
-
-  pub line_step : f.answer ≡ 0 → i < length values → line_rest (take count ranges) s (set values i f.value) (at + f.used) (i + 1) ≡ total
-  line_step z h = line_turn (take count ranges) s values at i total inv _ cut f.value f.used h (sym (answer_read_got _ _ _ _ z) ∙ next)
-
--- nothing in a refused line
-module _ {l : Line} {n : ℕ} (e : l ≡ refused_line n) where
-  pub refused_used : {m : ℕ} → l.used ≤ m
-  refused_used = rw e (omega arith)
-
-  pub refused_rest : {k : ℕ} → LineRest k l
-  refused_rest = rw e (record { refused = λ some. refl; past = λ i h. zeros_at 4 i })
-
--- a refused part that was handed on
-pub part_used : {p : Part} {n m : ℕ} → p ≡ refused_part n → p.used ≤ m
-part_used e = rw e (omega arith)
-
-pub part_refused : {p : Part} {n : ℕ} → p ≡ refused_part n → p.answer ≢ 0 → p ≡ refused_part p.answer
-part_refused e some = rw e
+  pub line_step : {t : Taken ℕ} → f ≡ Ok t → i < length values → line_rest ranges s (set values i t.value) (at + t.used) (i + 1) ≡ total
+  line_step {t} z h = line_turn ranges s values at i total inv _ cut t.value t.used h (sym (read_ok _ z) ∙ next)

@@ -1,185 +1,140 @@
 // Reading the lines of a board text: one field, one line, then the edge lines and the terminal lines.
 #![tactic(auto)]
 
-ghost use Rattle.std.specs.Prelude.{◌≡◌, ◌≢◌, ◌≤◌, ◌<◌, length, take, drop, [], ◌∷◌, ◌++◌};
-ghost use Rattle.text.specs.Text.{field, line, between, edge_ranges, terminal_ranges, edge_lines, terminal_lines};
-ghost use Rattle.text.specs.Views.{field_read, line_read, part_read, refused_field, refused_line, refused_part, LineRest};
+ghost use Rattle.std.specs.Prelude.{◌≡◌, ◌≤◌, ◌<◌, length, drop, IfOk};
+ghost use Rattle.text.specs.Text.{field, line, edge_ranges, terminal_ranges, edge_lines, terminal_lines};
+ghost use Rattle.text.specs.Views.{as_read};
 ghost use Rattle.board.specs.Limits.{max_edges, max_terminals};
 
 use board::{Board, Network};
-use text::{Field, Line, Part, Range};
+use refusals::Refusal;
+use text::{Range, Taken};
 
 // ---- A field and a line: their parts of the slice.
 
 // A number field at the start of s, and the byte that must end it.
-fn field(s: &[u8], range: Range, end: u8) -> Field
-    ensures s_value { field_read result s.now ≡ field range end s.now }
-    ensures used_in_bounds { result.used ≤ length s.now }
-    ensures value { result.answer ≢ 0 → result ≡ refused_field result.answer }
+fn field(s: &[u8], range: Range, end: u8) -> Result<Taken<u32>, Refusal>
+    ensures s_value { as_read result s.now ≡ field range end s.now }
+    ensures used_in_bounds { IfOk result (λ t. t.used ≤ length s.now) }
 {
     let n = lists::index_of(s, end);
     if s.len() <= n {
-        return Field {
-            answer: 1,
-            value: 0,
-            used: 0,
-        };
+        return Err(Refusal::Malformed);
     }
-    let found = decimal::read_number(&s[..n]);
-    match found {
+    match decimal::read_number(&s[..n]) {
         Some(value) => {
             if range.holds(value) {
-                Field {
-                    answer: 0,
+                Ok(Taken {
                     value: value,
                     used: n + 1,
-                }
+                })
             } else {
-                Field {
-                    answer: 2,
-                    value: 0,
-                    used: 0,
-                }
+                Err(Refusal::OutOfRange)
             }
         }
-        None => Field {
-            answer: 1,
-            value: 0,
-            used: 0,
-        },
+        None => Err(Refusal::Malformed),
     }
 }
 
-fn refused_line(answer: u32) -> Line
-    ensures { result ≡ refused_line answer }
-{
-    Line {
-        answer: answer,
-        values: [0; 4],
-        used: 0,
-    }
-}
-
-// A line at the start of s: its letter, then a number for each of the first `count` ranges.
-pub fn line(s: &[u8], letter: u8, ranges: [Range; 4], count: usize) -> Line
-    requires { (count ≤ 4) × (0 < letter) }
-    ensures s_value { line_read count result s.now ≡ line letter (take count ranges) s.now }
-    ensures used_in_bounds { result.used ≤ length s.now }
-    ensures line_rest { LineRest count result }
+// A line at the start of s: its letter, then a number for each of the ranges.
+pub fn line<const N: usize>(
+    s: &[u8],
+    letter: u8,
+    ranges: &[Range; N],
+) -> Result<Taken<[u32; N]>, Refusal>
+    requires { 0 < letter }
+    ensures s_value { as_read result s.now ≡ line letter ranges.now s.now }
+    ensures used_in_bounds { IfOk result (λ t. t.used ≤ length s.now) }
 {
     if lists::at_or(s, 0, 0) != letter {
-        return refused_line(1);
+        return Err(Refusal::Malformed);
     }
     if lists::at_or(s, 1, 0) != b',' {
-        return refused_line(1);
+        return Err(Refusal::Malformed);
     }
-    let mut values = [0u32; 4];
+    let mut values = [0u32; N];
     let mut at: usize = 2;
-    let mut i: usize = 0;
-    while i < count {
-        let f = field(&s[at..], ranges[i], text::end_byte(count - i - 1));
-        if f.answer != 0 {
-            return refused_line(f.answer);
-        }
+    for i in 0..N {
+        let f = field(&s[at..], ranges[i], text::end_byte(N - i - 1))?;
         values[i] = f.value;
         at += f.used;
-        i += 1;
     }
-    Line {
-        answer: 0,
-        values: values,
+    Ok(Taken {
+        value: values,
         used: at,
-    }
+    })
 }
 
 // ---- The edge lines and the terminal lines, read into a network.
 
 // The ranges of `C,tail,head,flow`.
-fn edge_ranges(vertices: u32) -> [Range; 4]
+fn edge_ranges(vertices: u32) -> [Range; 3]
     requires { 0 < vertices }
-    ensures { result ≡ edge_ranges vertices ++ (between 0 0 ∷ []) }
+    ensures { result ≡ edge_ranges vertices }
 {
     let vertex = Range::below(vertices);
     let flow = Range {
         low: 0,
         high: Board::MAX_FLOW,
     };
-    let none = Range { low: 0, high: 0 };
-    [vertex, vertex, flow, none]
+    [vertex, vertex, flow]
 }
 
 // The edge lines, from `start` on.
-pub fn edge_lines(s: &[u8], start: usize, net: Network) -> Part
+pub fn edge_lines(s: &[u8], start: usize, net: Network) -> Result<Taken<Network>, Refusal>
     requires { (start ≤ length s.now) × (0 < net.vertices) × (net.edges ≤ max_edges) }
-    ensures s_value { part_read result s.now ≡ edge_lines net 0 net.edges (drop start s.now) }
-    ensures used_in_bounds { result.used ≤ length s.now }
-    ensures value { result.answer ≢ 0 → result ≡ refused_part result.answer }
+    ensures s_value { as_read result s.now ≡ edge_lines net 0 net.edges (drop start s.now) }
+    ensures used_in_bounds { IfOk result (λ t. t.used ≤ length s.now) }
 {
     let ranges = edge_ranges(net.vertices);
-    let edges = net.edges as usize;
     let mut out = net;
     let mut at = start;
-    let mut i: usize = 0;
-    while i < edges {
-        let l = line(&s[at..], b'C', ranges, 3);
-        if l.answer != 0 {
-            return Part::refused(l.answer);
-        }
-        let values = l.values;
+    for i in 0..net.edges as usize {
+        let l = line(&s[at..], b'C', &ranges)?;
+        let values = l.value;
         out.tails[i] = values[0];
         out.heads[i] = values[1];
         out.flows[i] = values[2];
         at += l.used;
-        i += 1;
     }
-    Part {
-        answer: 0,
-        network: out,
+    Ok(Taken {
+        value: out,
         used: at,
-    }
+    })
 }
 
 // The ranges of `W,home,demand`.
-fn terminal_ranges(vertices: u32) -> [Range; 4]
+fn terminal_ranges(vertices: u32) -> [Range; 2]
     requires { 0 < vertices }
-    ensures { result ≡ terminal_ranges vertices ++ (between 0 0 ∷ between 0 0 ∷ []) }
+    ensures { result ≡ terminal_ranges vertices }
 {
     let vertex = Range::below(vertices);
     let demand = Range {
         low: 1,
         high: Board::MAX_FLOW,
     };
-    let none = Range { low: 0, high: 0 };
-    [vertex, demand, none, none]
+    [vertex, demand]
 }
 
 // The terminal lines, from `start` on.
-pub fn terminal_lines(s: &[u8], start: usize, net: Network) -> Part
+pub fn terminal_lines(s: &[u8], start: usize, net: Network) -> Result<Taken<Network>, Refusal>
     requires { (start ≤ length s.now) × (0 < net.vertices) × (net.terminals ≤ max_terminals) }
-    ensures s_value { part_read result s.now ≡
+    ensures s_value { as_read result s.now ≡
         terminal_lines net 0 net.terminals (drop start s.now) }
-    ensures used_in_bounds { result.used ≤ length s.now }
-    ensures value { result.answer ≢ 0 → result ≡ refused_part result.answer }
+    ensures used_in_bounds { IfOk result (λ t. t.used ≤ length s.now) }
 {
     let ranges = terminal_ranges(net.vertices);
-    let terminals = net.terminals as usize;
     let mut out = net;
     let mut at = start;
-    let mut j: usize = 0;
-    while j < terminals {
-        let l = line(&s[at..], b'W', ranges, 2);
-        if l.answer != 0 {
-            return Part::refused(l.answer);
-        }
-        let values = l.values;
+    for j in 0..net.terminals as usize {
+        let l = line(&s[at..], b'W', &ranges)?;
+        let values = l.value;
         out.homes[j] = values[0];
         out.demands[j] = values[1];
         at += l.used;
-        j += 1;
     }
-    Part {
-        answer: 0,
-        network: out,
+    Ok(Taken {
+        value: out,
         used: at,
-    }
+    })
 }

@@ -6,16 +6,20 @@ use Prim.Native.Nat.{ℕ, ◌<◌, ◌≤◌}
 use native.Mathlib.Omega.{arith}
 use lib.ListN.{length, drop, drop_of_length-le}
 use lib.Seq.{drop-cons}
-use borrow.Author.Tests.{eq-eqb, ne_eqb}
+use borrow.Author.Tests.{ne_eqb}
 use Rattle.lists.proofs.Laws.{pick_yes, pick_no}
 use Rattle.text_rules.specs.Rules.{judged, counts_fit}
-use Rattle.text.specs.Results.{refusal, judgement, reading_of, read_text}
+use Rattle.text.specs.Results.{as_reading, judgement, reading_of, read_text}
+use Rattle.std.specs.Prelude.{Result, Ok, Err}
+use Rattle.refusals.specs.declared.Refusal.{Refusal}
+use Rattle.refusals.specs.Refusals.{number, answer_of}
+use Rattle.refusals.proofs.Laws as refusals
 use Rattle.board.specs.Limits.{max_edges, max_terminals}
 use Rattle.board.specs.declared.Network.{Network}
-use Rattle.text.specs.declared.Part.{Part}
-use Rattle.text.specs.Views.{part_read, header_part}
+use Rattle.text.specs.declared.Taken.{Taken}
+use Rattle.text.specs.Views.{as_read, header_part}
 use Rattle.text.specs.Text.{Read, refused, got, then, lines, header, headed, head_ranges, edge_ranges, edge_lines, terminal_lines, nothing_follows, layout}
-use Rattle.text_lines.proofs.Reading.{then-then, answer_read_got, answer_read_refused}
+use Rattle.text_lines.proofs.Reading.{then-then, read_ok, read_err}
 use Rattle.text.proofs.Fields.{parts, after, header_only}
 use Rattle.text.proofs.FieldColumns.{spelled_within}
 use Rattle.text.proofs.Accepted.{laid_counts}
@@ -57,80 +61,76 @@ stopped : {A B : Type 0} {x : Read A} (n : ℕ) (f : A → List ℕ → Read B) 
 unfolding then
 stopped n f e = rw e
 
-module _ (s : List ℕ) (h : Part) (hr : part_read h s ≡ header_part s) where
-  pub whole_head_stop : (h.answer ≡ 0 → ⊥) → part_read h s ≡ layout s
-  whole_head_stop z =
-      let a = answer_read_refused _ h.network h.used s _ refl z in
-      a ∙ sym (layout-parts s ∙ stopped _ _ (sym hr ∙ a))
+-- the parts one after the other: x, y and z are what the calls for the first line, the edges and the terminals gave
+module _ (s : List ℕ) (x : Result (Taken Network) Refusal) (xr : as_read x s ≡ header_part s) where
+  pub whole_head_stop : {r : Refusal} → x ≡ Err r → refused (number r) ≡ layout s
+  whole_head_stop e = sym (layout-parts s ∙ stopped _ _ (sym xr ∙ read_err s e))
 
-  module _ (hz : h.answer ≡ 0) where
-    head-part : header_part s ≡ got h.network (drop h.used s)
-    head-part = sym hr ∙ answer_read_got _ _ _ _ hz
+  module _ (h : Taken Network) (xh : x ≡ Ok h) where
+    head-part : header_part s ≡ got h.value (drop h.used s)
+    head-part = sym xr ∙ read_ok s xh
 
-    pub first_counts : Counted h.network
+    pub first_counts : Counted h.value
     first_counts = head_counts s _ _ head-part
 
-    from_head : layout s ≡ after_head h.network (drop h.used s)
+    from_head : layout s ≡ after_head h.value (drop h.used s)
     from_head = layout-parts s ∙ after _ head-part
 
-    module _ (e : Part) (er : part_read e s ≡ edge_lines h.network 0 h.network.edges (drop h.used s)) where
-      pub whole_edge_stop : (e.answer ≡ 0 → ⊥) → part_read e s ≡ layout s
+    module _ (y : Result (Taken Network) Refusal) (yr : as_read y s ≡ edge_lines h.value 0 h.value.edges (drop h.used s)) where
+      pub whole_edge_stop : {r : Refusal} → y ≡ Err r → refused (number r) ≡ layout s
       unfolding after_head
-      whole_edge_stop z =
-          let a = answer_read_refused _ e.network e.used s _ refl z in
-          a ∙ sym (from_head ∙ stopped _ _ (sym er ∙ a))
+      whole_edge_stop e = sym (from_head ∙ stopped _ _ (sym yr ∙ read_err s e))
 
-      module _ (ez : e.answer ≡ 0) where
-        edge_part : edge_lines h.network 0 h.network.edges (drop h.used s) ≡ got e.network (drop e.used s)
-        edge_part = sym er ∙ answer_read_got _ _ _ _ ez
+      module _ (e : Taken Network) (ye : y ≡ Ok e) where
+        edge_part : edge_lines h.value 0 h.value.edges (drop h.used s) ≡ got e.value (drop e.used s)
+        edge_part = sym yr ∙ read_ok s ye
 
-        pub second_counts : Counted e.network
+        pub second_counts : Counted e.value
         second_counts = edge_counts _ _ _ _ _ _ edge_part first_counts
 
-        from_edges : layout s ≡ after_edges e.network (drop e.used s)
+        from_edges : layout s ≡ after_edges e.value (drop e.used s)
         unfolding after_head
         from_edges = from_head ∙ after _ edge_part
 
-        module _ (t : Part) (tr : part_read t s ≡ terminal_lines e.network 0 e.network.terminals (drop e.used s)) where
-          pub whole_terminal_stop : (t.answer ≡ 0 → ⊥) → part_read t s ≡ layout s
+        module _ (z : Result (Taken Network) Refusal) (zr : as_read z s ≡ terminal_lines e.value 0 e.value.terminals (drop e.used s)) where
+          pub whole_terminal_stop : {r : Refusal} → z ≡ Err r → refused (number r) ≡ layout s
           unfolding after_edges
-          whole_terminal_stop z =
-              let a = answer_read_refused _ t.network t.used s _ refl z in
-              a ∙ sym (from_edges ∙ stopped _ _ (sym tr ∙ a))
+          whole_terminal_stop f = sym (from_edges ∙ stopped _ _ (sym zr ∙ read_err s f))
 
-          module _ (tz : t.answer ≡ 0) where
-            from_terminals : layout s ≡ nothing_follows t.network (drop t.used s)
+          module _ (t : Taken Network) (zt : z ≡ Ok t) where
+            from_terminals : layout s ≡ nothing_follows t.value (drop t.used s)
             unfolding after_edges
-            from_terminals = from_edges ∙ after _ (sym tr ∙ answer_read_got _ _ _ _ tz)
+            from_terminals = from_edges ∙ after _ (sym zr ∙ read_ok s zt)
 
             pub whole_surplus : t.used < length s → refused 1 ≡ layout s
             unfolding nothing_follows
             whole_surplus less = sym (from_terminals ∙ rw (drop-cons s t.used 0 less))
 
-            pub whole_end : length s ≤ t.used → part_read t s ≡ layout s
+            pub whole_end : length s ≤ t.used → got t.value (drop t.used s) ≡ layout s
             unfolding nothing_follows
             whole_end end =
                 let none = drop_of_length-le s end in
-                answer_read_got _ _ _ _ tz ∙ rw none (sym (rw none at from_terminals))
+                rw none (sym (rw none at from_terminals))
 
 -- the judgement of a text that was read
-module _ (s : List ℕ) (p : Part) (pr : part_read p s ≡ layout s) where
-  pub read_stop : (p.answer ≡ 0 → ⊥) → refusal p.answer ≡ read_text s
+module _ (s : List ℕ) (x : Result (Taken Network) Refusal) (xr : as_read x s ≡ layout s) where
+  pub read_stop : {r : Refusal} → x ≡ Err r → as_reading (Err r) ≡ read_text s
   unfolding read_text reading_of
-  read_stop z = rw (sym pr ∙ answer_read_refused _ _ _ _ _ refl z)
+  read_stop e = rw (sym xr ∙ read_err s e)
 
-  pub read_counts : p.answer ≡ 0 → counts_fit p.network ≡ true
-  read_counts z = laid_counts s p.network _ (sym pr ∙ answer_read_got _ _ _ _ z)
+  module _ {p : Taken Network} (xp : x ≡ Ok p) where
+    pub read_counts : counts_fit p.value ≡ true
+    read_counts = laid_counts s p.value _ (sym xr ∙ read_ok s xp)
 
-  module _ (pz : p.answer ≡ 0) (n : ℕ) (j : n ≡ judged p.network) where
-    through : read_text s ≡ judgement n p.network
-    unfolding read_text reading_of
-    through = rw (sym pr ∙ answer_read_got _ _ _ _ pz, j)
+    module _ (j : Result (Unit {0}) Refusal) (judge : answer_of j ≡ judged p.value) where
+      through : read_text s ≡ judgement (answer_of j) p.value
+      unfolding read_text reading_of
+      through = rw (sym xr ∙ read_ok s xp, judge)
 
-    pub read_refused : (n ≡ 0 → ⊥) → refusal n ≡ read_text s
-    unfolding judgement
-    read_refused z = sym (through ∙ pick_no _ _ _ (ne_eqb n 0 z))
+      pub read_refused : {r : Refusal} → j ≡ Err r → as_reading (Err r) ≡ read_text s
+      unfolding judgement
+      read_refused {r} e = sym (through ∙ rw e (pick_no _ _ _ (ne_eqb (number r) 0 (refusals.refused r))))
 
-    pub read_accepted : n ≡ 0 → record { answer = 0; network = p.network } ≡ read_text s
-    unfolding judgement
-    read_accepted z = sym (through ∙ pick_yes _ _ _ (eq-eqb n 0 z))
+      pub read_accepted : {u : Unit {0}} → j ≡ Ok u → as_reading (Ok p.value) ≡ read_text s
+      unfolding judgement
+      read_accepted e = sym (through ∙ rw e (pick_yes _ _ _ refl))

@@ -1,13 +1,14 @@
 // The board text, read: every line and every field is a part of the slice.
 #![tactic(auto)]
 
-ghost use Rattle.std.specs.Prelude.{◌≡◌, ◌≢◌, ◌≤◌, length};
+ghost use Rattle.std.specs.Prelude.{◌≡◌, ◌≤◌, length, IfOk};
 ghost use Rattle.text.specs.Text.{head_ranges, headed, layout};
-ghost use Rattle.text.specs.Views.{part_read, refused_part, header_part};
-ghost use Rattle.text.specs.Results.{read_text};
+ghost use Rattle.text.specs.Views.{as_read, header_part};
+ghost use Rattle.text.specs.Results.{as_reading, read_text};
 
 use board::{Board, Network};
-use text::{Part, Range, Reading};
+use refusals::Refusal;
+use text::{Range, Taken};
 
 // The ranges of `B,vertices,edges,terminals,source`.
 fn head_ranges() -> [Range; 4]
@@ -51,72 +52,42 @@ fn headed(values: [u32; 4]) -> Network
 }
 
 // The first line, at the start of s.
-pub fn header(s: &[u8]) -> Part
-    ensures s_value { part_read result s.now ≡ header_part s.now }
-    ensures used_in_bounds { result.used ≤ length s.now }
-    ensures value { result.answer ≢ 0 → result ≡ refused_part result.answer }
+pub fn header(s: &[u8]) -> Result<Taken<Network>, Refusal>
+    ensures s_value { as_read result s.now ≡ header_part s.now }
+    ensures used_in_bounds { IfOk result (λ t. t.used ≤ length s.now) }
 {
-    let l = text_lines::line(s, b'B', head_ranges(), 4);
-    if l.answer != 0 {
-        return Part::refused(l.answer);
-    }
-    let values = l.values;
+    let ranges = head_ranges();
+    let l = text_lines::line(s, b'B', &ranges)?;
+    let values = l.value;
     let vertices = values[0];
     let source = values[3];
     if vertices <= source {
-        return Part::refused(2);
+        return Err(Refusal::OutOfRange);
     }
-    let network = headed(values);
-    Part {
-        answer: 0,
-        network: network,
+    Ok(Taken {
+        value: headed(values),
         used: l.used,
-    }
+    })
 }
 
 // The whole text, and nothing behind it.
-fn layout(s: &[u8]) -> Part
-    ensures s_value { part_read result s.now ≡ layout s.now }
-    ensures used_in_bounds { result.used ≤ length s.now }
-    ensures value { result.answer ≢ 0 → result ≡ refused_part result.answer }
+fn layout(s: &[u8]) -> Result<Taken<Network>, Refusal>
+    ensures { as_read result s.now ≡ layout s.now }
 {
-    let h = header(s);
-    if h.answer != 0 {
-        return h;
-    }
-    let first = h.network;
-    let start = h.used;
-    let e = text_lines::edge_lines(s, start, first);
-    if e.answer != 0 {
-        return e;
-    }
-    let second = e.network;
-    let next = e.used;
-    let t = text_lines::terminal_lines(s, next, second);
-    if t.answer != 0 {
-        return t;
-    }
+    let h = header(s)?;
+    let e = text_lines::edge_lines(s, h.used, h.value)?;
+    let t = text_lines::terminal_lines(s, e.used, e.value)?;
     if t.used < s.len() {
-        return Part::refused(1);
+        return Err(Refusal::Malformed);
     }
-    t
+    Ok(t)
 }
 
-// Reads a board text: 0 and its network, or 1 to 5 and the empty network.
-pub fn read(s: &[u8]) -> Reading
-    ensures { result ≡ read_text s.now }
+// Reads a board text: its network, or the first of the five rules of a text that it breaks.
+pub fn read(s: &[u8]) -> Result<Network, Refusal>
+    ensures { as_reading result ≡ read_text s.now }
 {
-    let whole = layout(s);
-    if whole.answer != 0 {
-        return Reading::refused(whole.answer);
-    }
-    let network = whole.network;
-    let answer = text_judge::judged(network);
-    if answer != 0 {
-        return Reading::refused(answer);
-    }
-    Reading {
-        answer: 0,
-        network: network,
-    }
+    let network = layout(s)?.value;
+    text_judge::judged(network)?;
+    Ok(network)
 }

@@ -1,30 +1,20 @@
--- The number of the layout decides first, then that of the network judged; where both are 0 the network is given.
-use mathlib.Core.Path.{◌∙◌}
+-- The refusal of the layout decides first, then that of the network judged; where both pass the network is given.
+use mathlib.Core.Path.{ap, ◌∙◌}
+use Rattle.refusals.proofs.Laws.{passed_on}
+use Rattle.text.specs.Results.{as_reading}
 use Rattle.text_reader.proofs.Whole.{read_stop, read_counts, read_refused, read_accepted}
 use Rattle.text_reader.proofs.read.Goals as goal
 
-pub returns-then-whole-ne0 : goal.returns-then-whole-ne0
-returns-then-whole-ne0 c =
-    let at_if1 = c.if-whole-ne0 in
-    let at_layout = c.layout-whole in
-    c.refused.ensures ∙ read_stop _ at_layout.result at_layout.ensures.s_value at_if1.true
+pub returns-in_err-network : goal.returns-in_err-network
+returns-in_err-network c = ap as_reading (passed_on _ _ c.from_residual.ensures.1) ∙ read_stop _ c.layout.result c.layout.ensures c.in_err-network.was
 
-pub judged-answer-requires : goal.judged-answer-requires
-judged-answer-requires c =
-    let at_layout = c.layout-whole in
-    read_counts _ at_layout.result at_layout.ensures.s_value c.if-whole-ne0.false
+pub judged-requires : goal.judged-requires
+judged-requires c = read_counts _ c.layout.result c.layout.ensures c.in_ok-network.was
 
-pub returns-then-answer-ne0 : goal.returns-then-answer-ne0
-returns-then-answer-ne0 c =
-    let at_if2 = c.if-answer-ne0 in
-    let at_judged = c.judged-answer in
-    let at_if1 = c.if-whole-ne0 in
-    let at_layout = c.layout-whole in
-    c.refused-then-answer-ne0.ensures ∙ read_refused _ at_layout.result at_layout.ensures.s_value at_if1.false _ at_judged.ensures at_if2.true
+pub returns-in_err-judged : goal.returns-in_err-judged
+returns-in_err-judged c =
+    ap as_reading (passed_on _ _ c.from_residual-in_err-judged.ensures.1)
+    ∙ read_refused _ c.layout.result c.layout.ensures c.in_ok-network.was c.judged.result c.judged.ensures c.in_err-judged.was
 
 pub returns : goal.returns
-returns c =
-    let at_judged = c.judged-answer in
-    let at_if1 = c.if-whole-ne0 in
-    let at_layout = c.layout-whole in
-    read_accepted _ at_layout.result at_layout.ensures.s_value at_if1.false _ at_judged.ensures c.if-answer-ne0.false
+returns c = read_accepted _ c.layout.result c.layout.ensures c.in_ok-network.was c.judged.result c.judged.ensures c.in_ok-judged.was
