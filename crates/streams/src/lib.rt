@@ -15,10 +15,7 @@ pub fn read_some<R: Read>(input: &mut R, space: &mut [u8]) -> usize
     ensures bytes { Consumes (R.remaining input.old) (R.remaining input.new)
         (take result space.new) }
 {
-    match input.read(space) {
-        Ok(came) => came,
-        Err(_) => 0,
-    }
+    input.read(space).unwrap_or(0)
 }
 
 // Reads until the space is full or the input ends, and answers how many bytes came.
@@ -27,6 +24,7 @@ pub fn read_full<R: Read>(input: &mut R, space: &mut [u8]) -> usize
     ensures bytes { Consumes (R.remaining input.old) (R.remaining input.new)
         (take result space.new) }
 {
+    // No `for`: a turn goes on by as many bytes as came, and not by one.
     let mut done = 0;
     while done < space.len() {
         let n = read_some(input, &mut space[done..]);
@@ -44,16 +42,14 @@ fn write_some<W: Write>(output: &mut W, bytes: &[u8]) -> usize
     ensures written { Appends (W.contents output.old) (W.contents output.new)
         (take result bytes.now) }
 {
-    match output.write(bytes) {
-        Ok(taken) => taken,
-        Err(_) => 0,
-    }
+    output.write(bytes).unwrap_or(0)
 }
 
 // Writes all of the bytes, or stops at the first write that fails or takes nothing.
 pub fn write_all<W: Write>(output: &mut W, bytes: &[u8]) -> bool
     ensures { result ≡ true → Appends (W.contents output.old) (W.contents output.new) bytes.now }
 {
+    // No `for`: a turn goes on by as many bytes as were taken, and not by one.
     let mut done = 0;
     while done < bytes.len() {
         let n = write_some(output, &bytes[done..]);
