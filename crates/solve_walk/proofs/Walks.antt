@@ -6,25 +6,16 @@ use mathlib.Core.List.{List, [], ◌∷◌, ◌++◌}
 use Prim.Native.Nat.{ℕ, zero, suc, ◌+◌, ◌-◌, ◌<◌, ◌≤◌}
 use native.Mathlib.Omega.{arith}
 use lib.Dec.{ltb, eqb}
-use lib.ListN.{length, get_or, take, drop}
+use lib.ListN.{length, get_or, drop}
 use borrow.Author.Tests.{lt-ltb, le-ltb, ne_eqb, eqb-false}
 use Rattle.board.specs.Limits.{max_vertices, max_edges}
 use Rattle.lists.specs.Choice.{either}
-use Rattle.lists.proofs.Laws.{index_le, either_left, either_right}
+use Rattle.lists.proofs.Laws.{either_left, either_right}
 use Rattle.sets.specs.Sets.{has_bit}
-use Rattle.sets.specs.Inner.{set_width}
 use Rattle.graph_flows.specs.Trails.{Step, down, up}
-use Rattle.move_cycle.specs.Steps.{code_up, code_steps}
-use Rattle.solve_walk.specs.Walk.{another, parts, starts_of, first_met, down_walk, up_walk}
+use Rattle.move_cycle.specs.Steps.{code_up}
+use Rattle.solve_walk.specs.Walk.{another, parts, first_met, down_walk, up_walk}
 use Rattle.solve_walk.proofs.Packed.{another-most}
-use Rattle.solve_walk.proofs.Loops.{steps_held, starts_length}
-
--- v is first met among the steps of the first n codes, or after them
-pub met_most : (tails heads codes : List ℕ) (n v : ℕ) → n ≤ length codes → first_met tails heads (code_steps (take n codes)) v ≤ n
-unfolding first_met
-met_most tails heads codes n v fits =
-    let w = code_steps (take n codes) in
-    omega (arith, index_le v (starts_of tails heads w), starts_length tails heads w, steps_held codes n fits)
 
 -- what the calls ask for: n steps, and the vertices left, have room together
 module _ (n left : ℕ) (room : n + left ≤ max_vertices) where
@@ -37,10 +28,6 @@ module _ (n left : ℕ) (room : n + left ≤ max_vertices) where
 
   pub room_on : (m : ℕ) → (left ≡ 0 → ⊥) → m ≡ n + 1 → m + (left - 1) ≤ max_vertices
   room_on m some i = omega (arith, room, some, i)
-
--- a vertex has its place in a set
-pub vertex_bit : (v : ℕ) → v < max_vertices → v < set_width
-vertex_bit v h = omega arith
 
 -- where the walk goes on, a vertex is left
 pub left_some : (left : ℕ) (seen stop : Bool) → stop ≡ either (eqb left 0) seen → stop ≡ false → left ≡ 0 → ⊥

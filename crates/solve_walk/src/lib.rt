@@ -51,33 +51,30 @@ fn parts(leaving: &[EdgeSet], positive: EdgeSet, v: u32) -> bool
     !sets::is_empty(others)
 }
 
-// The way with one step more, over edge e from the one end to the other.
-fn onward<'a>(starts: &'a [u32], ends: &'a [u32], way: Way, ups: bool, e: u32) -> Way
-    requires count_lt_max_vertices { way.count < max_vertices }
+// Takes one step more, over edge e from the one end to the other.
+fn step_on<'a>(starts: &'a [u32], ends: &'a [u32], ups: bool, e: u32, way: &mut Way)
+    requires count_lt_max_vertices { way.old.count < max_vertices }
     requires e_lt_code_up { e < code_up }
     requires start_lt_word_width { get_or starts.now e 0 < word_width }
-    ensures steps { gone result ≡ gone way ++ (stride ups e ∷ []) }
-    ensures count { result.count ≡ way.count + 1 }
-    ensures seen { result.seen ≡ with_bit way.seen (get_or starts.now e 0) }
-    ensures edge { result.edge ≡ e }
-    ensures vertex { result.vertex ≡ get_or ends.now e 0 }
+    ensures steps { gone way.new ≡ gone way.old ++ (stride ups e ∷ []) }
+    ensures count { way.new.count ≡ way.old.count + 1 }
+    ensures seen { way.new.seen ≡ with_bit way.old.seen (get_or starts.now e 0) }
+    ensures edge { way.new.edge ≡ e }
+    ensures vertex { way.new.vertex ≡ get_or ends.now e 0 }
 {
     let start = lists::at_or(starts, e as usize, 0);
-    let mut steps = way.steps;
-    steps[way.count as usize] = move_cycle::stride(ups, e);
-    Way {
-        count: way.count + 1,
-        steps: steps,
-        seen: sets::word::with(way.seen, true, start as usize),
-        edge: e,
-        vertex: lists::at_or(ends, e as usize, 0),
-    }
+    way.steps[way.count as usize] = move_cycle::stride(ups, e);
+    way.count += 1;
+    way.seen = sets::word::with(way.seen, true, start as usize);
+    way.edge = e;
+    way.vertex = lists::at_or(ends, e as usize, 0);
 }
 
 // How many steps came before v was first met.
 fn first_met<'a>(tails: &'a [u32], heads: &'a [u32], way: Way, v: u32) -> u32
     requires { way.count ≤ max_vertices }
-    ensures { result ≡ first_met tails.now heads.now (gone way) v }
+    ensures value { result ≡ first_met tails.now heads.now (gone way) v }
+    ensures within { result ≤ way.count }
 {
     for i in 0..way.count {
         if move_cycle::start_of(tails, heads, way.steps[i as usize]) == v {
@@ -102,7 +99,8 @@ fn walk_from(way: Way, k: u32) -> Walk
     }
 }
 
-// The walk came over its last edge down, or has no steps: down by the lowest edge; up where none leaves.
+// Goes on from where the walk has come to over an edge down, or without a step: down by the lowest edge; up where none
+// leaves.
 #[cycle(down_walk_up_walk)]
 fn down_walk<'a>(
     tails: &'a [u32],
@@ -112,23 +110,23 @@ fn down_walk<'a>(
     entering: &'a [EdgeSet],
     positive: EdgeSet,
     left: u32,
-    way: Way,
-) -> Way
-    requires left_bound { way.count + left ≤ max_vertices }
+    way: &mut Way,
+)
+    requires left_bound { way.old.count + left ≤ max_vertices }
     requires charted { Charted tails.now heads.now flows.now (sets_of leaving.now) (sets_of entering.now)
         (set_of positive) }
-    requires seen { Seen tails.now heads.now (gone way) way.seen }
-    requires vertex_lt_max_vertices { way.vertex < max_vertices }
+    requires seen { Seen tails.now heads.now (gone way.old) way.old.seen }
+    requires vertex_lt_max_vertices { way.old.vertex < max_vertices }
     ensures { StopsWith tails.now heads.now (down_walk tails.now heads.now flows.now
         (another tails.now flows.now) (another heads.now flows.now) left
-        (gone way) way.edge way.vertex) result }
+        (gone way.old) way.old.edge way.old.vertex) way.new }
 {
     if lists::or(left == 0, sets::word::has(way.seen, way.vertex as usize)) {
-        return way;
+        return;
     }
     let e = another(leaving, positive, way.vertex, way.edge);
     if (e as usize) < flows.len() {
-        let fallen = onward(tails, heads, way, false, e);
+        step_on(tails, heads, false, e, way);
         return down_walk(
             tails,
             heads,
@@ -137,11 +135,11 @@ fn down_walk<'a>(
             entering,
             positive,
             left - 1,
-            fallen,
+            way,
         );
     }
     let c = another(entering, positive, way.vertex, way.edge);
-    let climbed = onward(heads, tails, way, true, c);
+    step_on(heads, tails, true, c, way);
     up_walk(
         tails,
         heads,
@@ -150,11 +148,11 @@ fn down_walk<'a>(
         entering,
         positive,
         left - 1,
-        climbed,
+        way,
     )
 }
 
-// The walk came over its last edge up: up while one edge leaves; down where two or more do.
+// Goes on from where the walk has come to over an edge up: up while one edge leaves; down where two or more do.
 #[cycle(down_walk_up_walk)]
 fn up_walk<'a>(
     tails: &'a [u32],
@@ -164,23 +162,23 @@ fn up_walk<'a>(
     entering: &'a [EdgeSet],
     positive: EdgeSet,
     left: u32,
-    way: Way,
-) -> Way
-    requires left_bound { way.count + left ≤ max_vertices }
+    way: &mut Way,
+)
+    requires left_bound { way.old.count + left ≤ max_vertices }
     requires charted { Charted tails.now heads.now flows.now (sets_of leaving.now) (sets_of entering.now)
         (set_of positive) }
-    requires seen { Seen tails.now heads.now (gone way) way.seen }
-    requires vertex_lt_max_vertices { way.vertex < max_vertices }
+    requires seen { Seen tails.now heads.now (gone way.old) way.old.seen }
+    requires vertex_lt_max_vertices { way.old.vertex < max_vertices }
     ensures { StopsWith tails.now heads.now (up_walk tails.now heads.now flows.now
         (another tails.now flows.now) (another heads.now flows.now) left
-        (gone way) way.edge way.vertex) result }
+        (gone way.old) way.old.edge way.old.vertex) way.new }
 {
     if lists::or(left == 0, sets::word::has(way.seen, way.vertex as usize)) {
-        return way;
+        return;
     }
     if parts(leaving, positive, way.vertex) {
         let e = another(leaving, positive, way.vertex, way.edge);
-        let fallen = onward(tails, heads, way, false, e);
+        step_on(tails, heads, false, e, way);
         return down_walk(
             tails,
             heads,
@@ -189,11 +187,11 @@ fn up_walk<'a>(
             entering,
             positive,
             left - 1,
-            fallen,
+            way,
         );
     }
     let c = another(entering, positive, way.vertex, way.edge);
-    let climbed = onward(heads, tails, way, true, c);
+    step_on(heads, tails, true, c, way);
     up_walk(
         tails,
         heads,
@@ -202,7 +200,7 @@ fn up_walk<'a>(
         entering,
         positive,
         left - 1,
-        climbed,
+        way,
     )
 }
 
@@ -224,15 +222,15 @@ pub fn cycle<'a>(
     ensures { result ≡ packed (cycle_of tails.now heads.now
         flows.now vertices source) }
 {
-    let start = Way {
+    let mut way = Way {
         count: 0,
         steps: [0; Board::MAX_VERTICES],
         seen: sets::word::none(),
         edge: flows.len() as u32,
         vertex: source,
     };
-    let way = down_walk(
-        tails, heads, flows, leaving, entering, positive, vertices, start,
+    down_walk(
+        tails, heads, flows, leaving, entering, positive, vertices, &mut way,
     );
     let from = first_met(tails, heads, way, way.vertex);
     walk_from(way, from)

@@ -29,20 +29,20 @@ down_some : (t : ℕ) (c : down_walk-Else-or t) → c.args.left ≡ 0 → ⊥
 down_some t c = left_some _ _ _ c.or.ensures c.if-or.false
 
 -- the edge that it goes on by
-down_fell : (t : ℕ) (c : down_walk-After-another-e t) → c.another-e.result ≡ another c.args.tails.now c.args.flows.now c.args.way.vertex c.args.way.edge
+down_fell : (t : ℕ) (c : down_walk-After-another-e t) → c.another-e.result ≡ another c.args.tails.now c.args.flows.now c.args.way.now.vertex c.args.way.now.edge
 down_fell t c = c.another-e.ensures ∙ falls_in _ _ _ _ _ _ _ c.requires.charted (search rules) c.requires.vertex_lt_max_vertices _
 
-down_climbed : (t : ℕ) (c : down_walk-After-another-c t) → c.another-c.result ≡ another c.args.heads.now c.args.flows.now c.args.way.vertex c.args.way.edge
+down_climbed : (t : ℕ) (c : down_walk-After-another-c t) → c.another-c.result ≡ another c.args.heads.now c.args.flows.now c.args.way.now.vertex c.args.way.now.edge
 down_climbed t c = c.another-c.ensures ∙ climbs_in _ _ _ _ _ _ _ c.requires.charted (search rules) c.requires.vertex_lt_max_vertices _
 
 pub down_walk-returns-then-or : goal.down_walk-returns-then-or
 down_walk-returns-then-or t c =
-    down_stops _ _ _ _ _ _ _ _ _ (λ w. StopsWith c.args.tails.now c.args.heads.now w c.args.way) (c.requires.seen _ c.requires.vertex_lt_max_vertices) (stop_is _ _ _ _ _ c.has.ensures c.or.ensures) c.if-or.true
+    down_stops _ _ _ _ _ _ _ _ _ (λ w. StopsWith c.args.tails.now c.args.heads.now w c.args.way.now) (c.requires.seen _ c.requires.vertex_lt_max_vertices) (stop_is _ _ _ _ _ c.has.ensures c.or.ensures) c.if-or.true
     (record { cycle = refl; short = room_now _ _ c.requires.left_bound })
 
-pub down_walk-onward-fallen-requires-clause-count_lt_max_vertices : goal.down_walk-onward-fallen-requires-clause-count_lt_max_vertices
-down_walk-onward-fallen-requires-clause-count_lt_max_vertices t c =
-    omega (arith, down_some t (goal.at.down_walk-onward-fallen-requires-clause-count_lt_max_vertices t c).Else-or)
+pub down_walk-step_on-requires-clause-count_lt_max_vertices : goal.down_walk-step_on-requires-clause-count_lt_max_vertices
+down_walk-step_on-requires-clause-count_lt_max_vertices t c =
+    omega (arith, down_some t (goal.at.down_walk-step_on-requires-clause-count_lt_max_vertices t c).Else-or)
 
 pub down_walk-overflow_sub-left : goal.down_walk-overflow_sub-left
 down_walk-overflow_sub-left t c = omega (arith, down_some t (goal.at.down_walk-overflow_sub-left t c).Else-or)
@@ -50,25 +50,25 @@ down_walk-overflow_sub-left t c = omega (arith, down_some t (goal.at.down_walk-o
 pub down_walk-down_walk-requires : goal.down_walk-down_walk-requires
 down_walk-down_walk-requires t c =
     let some = down_some t (goal.at.down_walk-down_walk-requires t c).Else-or in
-    let longer = c.onward-fallen.ensures in
+    let longer = c.step_on.ensures in
     let room = room_on _ _ c.requires.left_bound _ some longer.count in
     let met = seen_more _ _ _ _ _ _ (down c.another-e.result) longer.steps longer.seen c.requires.seen in
-    let small : c.onward-fallen.result.vertex < max_vertices = rw longer.vertex (c.requires.charted.headed _) in
+    let small : c.step_on.new.way.vertex < max_vertices = rw longer.vertex (c.requires.charted.headed _) in
     (omega (arith, some, c.decreases), (room, (c.requires.charted, (met, small))))
 
 pub down_walk-returns-then-e-flows : goal.down_walk-returns-then-e-flows
 down_walk-returns-then-e-flows t c =
-    down_falls _ _ _ _ _ _ _ _ _ (λ w. StopsWith c.args.tails.now c.args.heads.now w c.down_walk.result) (c.requires.seen _ c.requires.vertex_lt_max_vertices) (stop_is _ _ _ _ _ c.has.ensures c.or.ensures) c.if-or.false _ _ _
+    down_falls _ _ _ _ _ _ _ _ _ (λ w. StopsWith c.args.tails.now c.args.heads.now w c.down_walk.new.way) (c.requires.seen _ c.requires.vertex_lt_max_vertices) (stop_is _ _ _ _ _ c.has.ensures c.or.ensures) c.if-or.false _ _ _
     (down_fell t (goal.at.down_walk-returns-then-e-flows t c).After-another-e) c.if-e-flows.true
-    c.onward-fallen.ensures.steps c.onward-fallen.ensures.vertex (rw c.onward-fallen.ensures.edge at c.down_walk.ensures)
+    c.step_on.ensures.steps c.step_on.ensures.vertex (rw c.step_on.ensures.edge at c.down_walk.ensures)
 
-pub down_walk-onward-climbed-requires-clause-count_lt_max_vertices : goal.down_walk-onward-climbed-requires-clause-count_lt_max_vertices
-down_walk-onward-climbed-requires-clause-count_lt_max_vertices t c =
-    omega (arith, down_some t (goal.at.down_walk-onward-climbed-requires-clause-count_lt_max_vertices t c).Else-or)
+pub down_walk-step_on-requires-2-clause-count_lt_max_vertices : goal.down_walk-step_on-requires-2-clause-count_lt_max_vertices
+down_walk-step_on-requires-2-clause-count_lt_max_vertices t c =
+    omega (arith, down_some t (goal.at.down_walk-step_on-requires-2-clause-count_lt_max_vertices t c).Else-or)
 
-pub down_walk-onward-climbed-requires-clause-e_lt_code_up : goal.down_walk-onward-climbed-requires-clause-e_lt_code_up
-down_walk-onward-climbed-requires-clause-e_lt_code_up t c =
-    let at = goal.at.down_walk-onward-climbed-requires-clause-e_lt_code_up t c in
+pub down_walk-step_on-requires-2-clause-e_lt_code_up : goal.down_walk-step_on-requires-2-clause-e_lt_code_up
+down_walk-step_on-requires-2-clause-e_lt_code_up t c =
+    let at = goal.at.down_walk-step_on-requires-2-clause-e_lt_code_up t c in
     (room_step _ _ c.requires.left_bound _ _ _ _ _ (down_some t at.Else-or) c.requires.charted.all (down_climbed t at.After-another-c)).1
 
 pub down_walk-overflow_sub-left-2 : goal.down_walk-overflow_sub-left-2
@@ -77,18 +77,18 @@ down_walk-overflow_sub-left-2 t c = omega (arith, down_some t (goal.at.down_walk
 pub down_walk-up_walk-requires : goal.down_walk-up_walk-requires
 down_walk-up_walk-requires t c =
     let some = down_some t (goal.at.down_walk-up_walk-requires t c).Else-or in
-    let longer = c.onward-climbed.ensures in
+    let longer = c.step_on-2.ensures in
     let room = room_on _ _ c.requires.left_bound _ some longer.count in
     let met = seen_more _ _ _ _ _ _ (up c.another-c.result) longer.steps longer.seen c.requires.seen in
-    let small : c.onward-climbed.result.vertex < max_vertices = rw longer.vertex (c.requires.charted.tailed _) in
+    let small : c.step_on-2.new.way.vertex < max_vertices = rw longer.vertex (c.requires.charted.tailed _) in
     (omega (arith, some, c.decreases), (room, (c.requires.charted, (met, small))))
 
 pub down_walk-returns : goal.down_walk-returns
 down_walk-returns t c =
     let at = goal.at.down_walk-returns t c in
-    down_climbs _ _ _ _ _ _ _ _ _ (λ w. StopsWith c.args.tails.now c.args.heads.now w c.up_walk.result) (c.requires.seen _ c.requires.vertex_lt_max_vertices) (stop_is _ _ _ _ _ c.has.ensures c.or.ensures) c.if-or.false _ _ _ _
+    down_climbs _ _ _ _ _ _ _ _ _ (λ w. StopsWith c.args.tails.now c.args.heads.now w c.up_walk.new.way) (c.requires.seen _ c.requires.vertex_lt_max_vertices) (stop_is _ _ _ _ _ c.has.ensures c.or.ensures) c.if-or.false _ _ _ _
     (down_fell t at.After-another-e) c.if-e-flows.false (down_climbed t at.After-another-c)
-    c.onward-climbed.ensures.steps c.onward-climbed.ensures.vertex (rw c.onward-climbed.ensures.edge at c.up_walk.ensures)
+    c.step_on-2.ensures.steps c.step_on-2.ensures.vertex (rw c.step_on-2.ensures.edge at c.up_walk.ensures)
 
 -- ---- the walk came up
 
@@ -97,28 +97,28 @@ up_some : (t : ℕ) (c : up_walk-Else-or t) → c.args.left ≡ 0 → ⊥
 up_some t c = left_some _ _ _ c.or.ensures c.if-or.false
 
 -- whether it parts there
-up_parted : (t : ℕ) (c : up_walk-After-parts t) → c.parts.result ≡ parts c.args.tails.now c.args.flows.now c.args.way.vertex
+up_parted : (t : ℕ) (c : up_walk-After-parts t) → c.parts.result ≡ parts c.args.tails.now c.args.flows.now c.args.way.now.vertex
 up_parted t c = c.parts.ensures ∙ parting_in _ _ _ _ _ _ _ c.requires.charted (search rules) c.requires.vertex_lt_max_vertices
 
 -- the edge that it goes on by
-up_fell : (t : ℕ) (c : up_walk-After-another-e t) → c.another-e.result ≡ another c.args.tails.now c.args.flows.now c.args.way.vertex c.args.way.edge
+up_fell : (t : ℕ) (c : up_walk-After-another-e t) → c.another-e.result ≡ another c.args.tails.now c.args.flows.now c.args.way.now.vertex c.args.way.now.edge
 up_fell t c = c.another-e.ensures ∙ falls_in _ _ _ _ _ _ _ c.requires.charted (search rules) c.requires.vertex_lt_max_vertices _
 
-up_climbed : (t : ℕ) (c : up_walk-After-another-c t) → c.another-c.result ≡ another c.args.heads.now c.args.flows.now c.args.way.vertex c.args.way.edge
+up_climbed : (t : ℕ) (c : up_walk-After-another-c t) → c.another-c.result ≡ another c.args.heads.now c.args.flows.now c.args.way.now.vertex c.args.way.now.edge
 up_climbed t c = c.another-c.ensures ∙ climbs_in _ _ _ _ _ _ _ c.requires.charted (search rules) c.requires.vertex_lt_max_vertices _
 
 pub up_walk-returns-then-or : goal.up_walk-returns-then-or
 up_walk-returns-then-or t c =
-    up_stops _ _ _ _ _ _ _ _ _ (λ w. StopsWith c.args.tails.now c.args.heads.now w c.args.way) (c.requires.seen _ c.requires.vertex_lt_max_vertices) (stop_is _ _ _ _ _ c.has.ensures c.or.ensures) c.if-or.true
+    up_stops _ _ _ _ _ _ _ _ _ (λ w. StopsWith c.args.tails.now c.args.heads.now w c.args.way.now) (c.requires.seen _ c.requires.vertex_lt_max_vertices) (stop_is _ _ _ _ _ c.has.ensures c.or.ensures) c.if-or.true
     (record { cycle = refl; short = room_now _ _ c.requires.left_bound })
 
-pub up_walk-onward-fallen-requires-clause-count_lt_max_vertices : goal.up_walk-onward-fallen-requires-clause-count_lt_max_vertices
-up_walk-onward-fallen-requires-clause-count_lt_max_vertices t c =
-    omega (arith, up_some t (goal.at.up_walk-onward-fallen-requires-clause-count_lt_max_vertices t c).Else-or)
+pub up_walk-step_on-requires-clause-count_lt_max_vertices : goal.up_walk-step_on-requires-clause-count_lt_max_vertices
+up_walk-step_on-requires-clause-count_lt_max_vertices t c =
+    omega (arith, up_some t (goal.at.up_walk-step_on-requires-clause-count_lt_max_vertices t c).Else-or)
 
-pub up_walk-onward-fallen-requires-clause-e_lt_code_up : goal.up_walk-onward-fallen-requires-clause-e_lt_code_up
-up_walk-onward-fallen-requires-clause-e_lt_code_up t c =
-    let at = goal.at.up_walk-onward-fallen-requires-clause-e_lt_code_up t c in
+pub up_walk-step_on-requires-clause-e_lt_code_up : goal.up_walk-step_on-requires-clause-e_lt_code_up
+up_walk-step_on-requires-clause-e_lt_code_up t c =
+    let at = goal.at.up_walk-step_on-requires-clause-e_lt_code_up t c in
     (room_step _ _ c.requires.left_bound _ _ _ _ _ (up_some t at.Else-or) c.requires.charted.all (up_fell t at.After-another-e)).1
 
 pub up_walk-overflow_sub-left : goal.up_walk-overflow_sub-left
@@ -127,26 +127,26 @@ up_walk-overflow_sub-left t c = omega (arith, up_some t (goal.at.up_walk-overflo
 pub up_walk-down_walk-requires : goal.up_walk-down_walk-requires
 up_walk-down_walk-requires t c =
     let some = up_some t (goal.at.up_walk-down_walk-requires t c).Else-or in
-    let longer = c.onward-fallen.ensures in
+    let longer = c.step_on.ensures in
     let room = room_on _ _ c.requires.left_bound _ some longer.count in
     let met = seen_more _ _ _ _ _ _ (down c.another-e.result) longer.steps longer.seen c.requires.seen in
-    let small : c.onward-fallen.result.vertex < max_vertices = rw longer.vertex (c.requires.charted.headed _) in
+    let small : c.step_on.new.way.vertex < max_vertices = rw longer.vertex (c.requires.charted.headed _) in
     (omega (arith, some, c.decreases), (room, (c.requires.charted, (met, small))))
 
 pub up_walk-returns-then-parts : goal.up_walk-returns-then-parts
 up_walk-returns-then-parts t c =
     let at = goal.at.up_walk-returns-then-parts t c in
-    up_falls _ _ _ _ _ _ _ _ _ (λ w. StopsWith c.args.tails.now c.args.heads.now w c.down_walk.result) (c.requires.seen _ c.requires.vertex_lt_max_vertices) (stop_is _ _ _ _ _ c.has.ensures c.or.ensures) c.if-or.false _ _ _
+    up_falls _ _ _ _ _ _ _ _ _ (λ w. StopsWith c.args.tails.now c.args.heads.now w c.down_walk.new.way) (c.requires.seen _ c.requires.vertex_lt_max_vertices) (stop_is _ _ _ _ _ c.has.ensures c.or.ensures) c.if-or.false _ _ _
     (sym (up_parted t at.After-parts) ∙ c.if-parts.true) (up_fell t at.After-another-e)
-    c.onward-fallen.ensures.steps c.onward-fallen.ensures.vertex (rw c.onward-fallen.ensures.edge at c.down_walk.ensures)
+    c.step_on.ensures.steps c.step_on.ensures.vertex (rw c.step_on.ensures.edge at c.down_walk.ensures)
 
-pub up_walk-onward-climbed-requires-clause-count_lt_max_vertices : goal.up_walk-onward-climbed-requires-clause-count_lt_max_vertices
-up_walk-onward-climbed-requires-clause-count_lt_max_vertices t c =
-    omega (arith, up_some t (goal.at.up_walk-onward-climbed-requires-clause-count_lt_max_vertices t c).Else-or)
+pub up_walk-step_on-requires-2-clause-count_lt_max_vertices : goal.up_walk-step_on-requires-2-clause-count_lt_max_vertices
+up_walk-step_on-requires-2-clause-count_lt_max_vertices t c =
+    omega (arith, up_some t (goal.at.up_walk-step_on-requires-2-clause-count_lt_max_vertices t c).Else-or)
 
-pub up_walk-onward-climbed-requires-clause-e_lt_code_up : goal.up_walk-onward-climbed-requires-clause-e_lt_code_up
-up_walk-onward-climbed-requires-clause-e_lt_code_up t c =
-    let at = goal.at.up_walk-onward-climbed-requires-clause-e_lt_code_up t c in
+pub up_walk-step_on-requires-2-clause-e_lt_code_up : goal.up_walk-step_on-requires-2-clause-e_lt_code_up
+up_walk-step_on-requires-2-clause-e_lt_code_up t c =
+    let at = goal.at.up_walk-step_on-requires-2-clause-e_lt_code_up t c in
     (room_step _ _ c.requires.left_bound _ _ _ _ _ (up_some t at.Else-or) c.requires.charted.all (up_climbed t at.After-another-c)).1
 
 pub up_walk-overflow_sub-left-2 : goal.up_walk-overflow_sub-left-2
@@ -155,15 +155,15 @@ up_walk-overflow_sub-left-2 t c = omega (arith, up_some t (goal.at.up_walk-overf
 pub up_walk-up_walk-requires : goal.up_walk-up_walk-requires
 up_walk-up_walk-requires t c =
     let some = up_some t (goal.at.up_walk-up_walk-requires t c).Else-or in
-    let longer = c.onward-climbed.ensures in
+    let longer = c.step_on-2.ensures in
     let room = room_on _ _ c.requires.left_bound _ some longer.count in
     let met = seen_more _ _ _ _ _ _ (up c.another-c.result) longer.steps longer.seen c.requires.seen in
-    let small : c.onward-climbed.result.vertex < max_vertices = rw longer.vertex (c.requires.charted.tailed _) in
+    let small : c.step_on-2.new.way.vertex < max_vertices = rw longer.vertex (c.requires.charted.tailed _) in
     (omega (arith, some, c.decreases), (room, (c.requires.charted, (met, small))))
 
 pub up_walk-returns : goal.up_walk-returns
 up_walk-returns t c =
     let at = goal.at.up_walk-returns t c in
-    up_climbs _ _ _ _ _ _ _ _ _ (λ w. StopsWith c.args.tails.now c.args.heads.now w c.up_walk.result) (c.requires.seen _ c.requires.vertex_lt_max_vertices) (stop_is _ _ _ _ _ c.has.ensures c.or.ensures) c.if-or.false _ _ _
+    up_climbs _ _ _ _ _ _ _ _ _ (λ w. StopsWith c.args.tails.now c.args.heads.now w c.up_walk.new.way) (c.requires.seen _ c.requires.vertex_lt_max_vertices) (stop_is _ _ _ _ _ c.has.ensures c.or.ensures) c.if-or.false _ _ _
     (sym (up_parted t at.After-parts) ∙ c.if-parts.false) (up_climbed t at.After-another-c)
-    c.onward-climbed.ensures.steps c.onward-climbed.ensures.vertex (rw c.onward-climbed.ensures.edge at c.up_walk.ensures)
+    c.step_on-2.ensures.steps c.step_on-2.ensures.vertex (rw c.step_on-2.ensures.edge at c.up_walk.ensures)
