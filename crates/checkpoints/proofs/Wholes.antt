@@ -3,6 +3,9 @@
 use mathlib.Core.Path.{◌≡◌, refl, sym, ap, ◌∙◌}
 use mathlib.Core.List.{List, [], ◌∷◌, map}
 use mathlib.Core.Logic.{◌≢◌}
+use Rattle.std.specs.Prelude.{Result, Ok, Err}
+use Rattle.refusals.specs.declared.Refusal.{Refusal}
+use Rattle.refusals.specs.Refusals.{number}
 use Prim.Native.Nat.{ℕ, zero, suc, ◌<◌}
 use native.Mathlib.Omega.{arith}
 use lib.ListN.{length, get_or, set, replicate}
@@ -13,9 +16,10 @@ use Rattle.board.specs.Record.{blank, closed_board, closed_table}
 use Rattle.board.specs.Whole.{Entry, Board, Table}
 use Rattle.journal.specs.Words.{unpacked, standing, whole_of}
 use Rattle.load.specs.Load.{Loaded, load_text}
+use Rattle.load.specs.Lent.{loaded_of}
 use Rattle.checkpoints.specs.Letters.{letters, letter_of}
 use Rattle.checkpoints.specs.Games.{game_of, checkpoint_at, with_checkpoint, back_at, keep_refusal, keep_call, back_refusal, back_call, restart_call}
-use Rattle.checkpoints.specs.Lent.{Lent, lent_of, FourJournals, wholes_of, game_in, lent_kept, lent_back}
+use Rattle.checkpoints.specs.Lent.{Lent, lent_of, FourJournals, wholes_of, game_in, lent_kept, lent_back, begun_of}
 use Rattle.checkpoints.proofs.Laws.{settled_yes, settled_no}
 
 abbrev Words : Type 0
@@ -120,10 +124,15 @@ module _ (t : Table) (ts : List Table) (v : Lent) (letter number : ℕ) where
         )
 
 -- what `restart` gives
-pub restarted : (text : List ℕ) (answer : ℕ) (t : Table) (w : Words) (shut : Table) (ws : List Words) → FourJournals ws
+restarted_at : (text : List ℕ) (answer : ℕ) (t : Table) (w : Words) (shut : Table) (ws : List Words) → FourJournals ws
     → record { answer = answer; board = whole_of t w } ≡ load_text text → shut ≡ closed_table
     → record { answer = answer; game = game_in t (shut ∷ shut ∷ shut ∷ shut ∷ []) (lent_of w ws) } ≡ restart_call text
-restarted text answer t w shut ws four gave is =
+restarted_at text answer t w shut ws four gave is =
     ap (λ (u : Table). record { answer = answer; game = game_in t (u ∷ u ∷ u ∷ u ∷ []) (lent_of w ws) }) is
     ∙ (λ i. record { answer = answer; game = record { board = whole_of t w; checkpoints = none_kept ws four i } })
     ∙ ap (λ (l : Loaded). record { answer = l.answer; game = game_of l.board }) gave
+
+pub restarted : (text : List ℕ) (r : Result Table Refusal) (w : Words) (shut : Table) (ws : List Words) → FourJournals ws → loaded_of r w ≡ load_text text → shut ≡ closed_table
+    → begun_of r (shut ∷ shut ∷ shut ∷ shut ∷ []) (lent_of w ws) ≡ restart_call text
+restarted text (Ok t) w shut ws four gave is = restarted_at text 0 t w shut ws four gave is
+restarted text (Err r) w shut ws four gave is = restarted_at text (number r) closed_table w shut ws four gave is

@@ -9,6 +9,7 @@ use Rattle.checkpoints.specs.Letters.{letters}
 use Rattle.checkpoints.specs.Lent.{wholes_of}
 use Rattle.checkpoints.proofs.Laws.{placed, unplaced, back_outside, back_shut, back_empty, back_free}
 use Rattle.checkpoints.proofs.Wholes.{wholes_here}
+use borrow.Author.Rules.{rules}
 use Rattle.checkpoints.proofs.judge_back.Goals as goal
 
 pub returns-in_default-clause-answer : goal.returns-in_default-clause-answer
@@ -24,10 +25,16 @@ bounds-kept-k c =
     let place = placed _ _ (sym c.letter_of.ensures ∙ c.in-Some.is) in
     omega (arith, place.0, place.1)
 
+pub offset_bounds-kept-k : goal.offset_bounds-kept-k
+offset_bounds-kept-k c = search (rules, bounds-kept-k c)
+
 pub bounds-rows-k : goal.bounds-rows-k
 bounds-rows-k c =
     let place = placed _ _ (sym c.letter_of.ensures ∙ c.in-Some.is) in
-    omega (arith, place.0, place.1, c.rows-1.given)
+    omega (arith, place.0, place.1)
+
+pub offset_bounds-rows-k : goal.offset_bounds-rows-k
+offset_bounds-rows-k c = search (rules, bounds-rows-k c)
 
 pub returns-then-loaded : goal.returns-then-loaded
 returns-then-loaded c =
@@ -36,7 +43,7 @@ returns-then-loaded c =
     let kept_long : length c.args.kept ≡ letters = c.well_formed.1.1.0.1.0.1 in
     let here =
     wholes_here c.args.kept c.args.journals.now c.in-Some.k _ _ _ _ (omega (arith, below, kept_long))
-    (omega (arith, below, c.rows-1.given)) refl refl in
+    (omega (arith, below)) refl refl in
     let is = ap (λ (n : ℕ). loaded (get_or (wholes_of c.args.kept c.args.journals.now) n closed_board)) place.1 in
     record {
       answer = back_free _ _ _ place.0 (sym c.loaded.ensures ∙ c.if-not-loaded.false) (sym is ∙ sym (ap loaded here) ∙ sym c.loaded-2.ensures ∙ c.if-loaded.true);
@@ -50,6 +57,6 @@ returns-else-loaded-clause-answer c =
     let kept_long : length c.args.kept ≡ letters = c.well_formed.1.1.0.1.0.1 in
     let here =
     wholes_here c.args.kept c.args.journals.now c.in-Some.k _ _ _ _ (omega (arith, below, kept_long))
-    (omega (arith, below, c.rows-1.given)) refl refl in
+    (omega (arith, below)) refl refl in
     let is = ap (λ (n : ℕ). loaded (get_or (wholes_of c.args.kept c.args.journals.now) n closed_board)) place.1 in
     back_empty _ _ _ place.0 (sym c.loaded.ensures ∙ c.if-not-loaded.false) (sym is ∙ sym (ap loaded here) ∙ sym c.loaded-2.ensures ∙ c.if-loaded.false)

@@ -2,10 +2,9 @@
 use Rattle.checkpoints.proofs.Wholes.{restarted}
 use Rattle.checkpoints.proofs.restart.Goals as goal
 
--- src/lib.rt:149:1
 pub returns : goal.returns
 returns c =
     let gave = c.load-loaded.ensures in record {
-      journals_after = λ journals four. restarted _ _ _ c.load-loaded.new.journal _ journals four gave.journal_after c.closed-closed.ensures;
+      journals_after = λ journals four. restarted _ _ c.load-loaded.new.journal _ journals four gave.journal_after c.closed-closed.ensures;
       journal_after = gave.journal_after_2;
     }
