@@ -1,6 +1,6 @@
 -- A move on lists that are lent is the move by the parts of a board: no move looks at the text's flows and homes, so what holds of the network of a board in play
 -- holds of the lists. A move that is not made changes nothing.
-use mathlib.Core.Path.{◌≡◌, refl, ap, subst}
+use mathlib.Core.Path.{◌≡◌, refl, sym, ap, subst}
 use mathlib.Core.Bool.{Bool, true, false}
 use mathlib.Core.List.{List}
 use mathlib.Core.Logic.{◌⊎◌, inl, inr, ◌≢◌}
@@ -8,8 +8,8 @@ use Prim.Native.Nat.{ℕ}
 use lib.ListN.{length, length-set}
 use Rattle.lists.specs.Choice.{pick}
 use Rattle.lists.proofs.Laws.{eq_or_ne}
-use Rattle.board.specs.Record.{blank}
 use Rattle.board.specs.declared.Network.{Network}
+use Rattle.graph_flows.specs.Trails.{Step}
 use Rattle.move_guard.specs.Moved.{unchanged}
 use Rattle.move_guard.specs.Moved.{Change}
 use Rattle.move_edges.specs.Incidence.{Incident, PositiveSet}
@@ -27,9 +27,7 @@ use Rattle.solve_carry.specs.Inner.{Resumes}
 use Rattle.solve_carry.proofs.Resumed.{resumes_bare}
 use Rattle.solve_next.specs.Choosing.{Act, relocate, augment, all_home_in, next_act_in}
 use Rattle.solve_next.specs.Parts.{Movable}
-use Rattle.solve_finish.specs.declared.Progress.{Progress}
-use Rattle.solve_finish.specs.Run.{all_small, carry_step, step_for, step_change, InPlay, Makes, made_of, HaltsWith, Going}
-use Rattle.solve_finish.proofs.Parting.{stop_made}
+use Rattle.solve_finish.specs.Run.{all_small, carry_step, step_for, step_change, InPlay, Makes, Going}
 use Rattle.solve_finish.proofs.Ready.{ready_small, ready_bounds}
 
 -- the moves on a network and on its bare one
@@ -58,11 +56,6 @@ bare_bounds net flows places bounds = record {
   placed = bounds.placed;
   needs = bounds.needs;
 }
-
--- no move
-pub halts : (answer : ℕ) (frame : Frame) (flows places : List ℕ) (r : Progress) → PositiveSet flows frame.positive → all_small flows ≡ true
-    → HaltsWith answer frame r → Makes (unchanged answer flows frame.marks places) (made_of r flows places)
-halts answer frame flows places r is_positive small e = rw (e flows places) (stop_made answer flows frame.marks places frame.positive blank is_positive small refl)
 
 module _ (frame : Frame) (tails heads demands leaving entering flows places : List ℕ)
     (g : Going frame tails heads demands leaving entering flows places) where
@@ -96,15 +89,27 @@ module _ (net : Network) (flows : List ℕ) (marks : ℕ) (places : List ℕ) wh
   keeps-pick true x y hx hy = hx
   keeps-pick false x y hx hy = hy
 
-  keeps_for : (x : Act) → Keeps flows marks places (step_for net flows marks places x)
-  unfolding carry_step carried_in turned_in
-  keeps_for (relocate i e) = keeps-pick _ _ _ (λ n. (refl, refl, refl)) (λ n. absurd (n refl))
-  keeps_for (augment w) = go (eq_or_ne (turn_refusal_in true false net flows w) 0)
+  turn_keeps : (w : List Step) → Keeps flows marks places (turn_change true false net flows marks places w)
+  unfolding turned_in
+  turn_keeps w = go (eq_or_ne (turn_refusal_in true false net flows w) 0)
     where
       go : (turn_refusal_in true false net flows w ≡ 0) ⊎ (turn_refusal_in true false net flows w ≢ 0)
           → Keeps flows marks places (turn_change true false net flows marks places w)
       go (inl z) = rw (change_accepted true false net flows marks places w z) (λ n. absurd (n refl))
       go (inr s) = rw (change_refused true false net flows marks places w s) (λ n. (refl, refl, refl))
+
+  -- a turn that is refused leaves the flows, so the positive edges are those before it
+  pub turn_stopped : (w : List Step) (flows' : List ℕ) (positive number : ℕ) → unchanged number flows' marks places ≡ turn_change true false net flows marks places w
+      → number ≢ 0 → PositiveSet flows positive → all_small flows ≡ true
+      → Makes (turn_change true false net flows marks places w) (record { change = unchanged number flows' marks places; positive = positive; small = true })
+  turn_stopped w flows' positive number e some is_positive small =
+      let same : flows' ≡ flows = (subst (Keeps flows marks places) (sym e) (turn_keeps w) some).0 in
+      record { changes = e; is_positive = rw same is_positive; smalls = sym (rw same small) }
+
+  keeps_for : (x : Act) → Keeps flows marks places (step_for net flows marks places x)
+  unfolding carry_step carried_in
+  keeps_for (relocate i e) = keeps-pick _ _ _ (λ n. (refl, refl, refl)) (λ n. absurd (n refl))
+  keeps_for (augment w) = turn_keeps w
 
   pub step_keeps : Keeps flows marks places (step_change net flows marks places)
   unfolding step_change

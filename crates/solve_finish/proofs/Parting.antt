@@ -17,8 +17,7 @@ use Rattle.sets.specs.Inner.{dropped}
 use Rattle.sets.proofs.Scan.{has-dropped}
 use Rattle.board.specs.Limits.{max_edges}
 use Rattle.move_edges.specs.Incidence.{PositiveSet}
-use Rattle.board.specs.Record.{blank}
-use Rattle.board.specs.Whole.{Carry, Entry}
+use Rattle.board.specs.Whole.{Carry}
 use Rattle.board.specs.declared.Network.{Network}
 use Rattle.move_guard.specs.Moved.{unchanged}
 use Rattle.move_carry.specs.Carries.{carried_in}
@@ -65,11 +64,9 @@ positive_falls flows positive e rest long is_positive less k h = go (known (eqb 
     go (was_false t) (inr n) = rw (pick_no _ (dropped positive e) positive t, get_or-set_other flows e k rest 0 n) (is_positive k h)
 
 -- no move
-pub stop_made : (answer : ℕ) (flows : List ℕ) (marks : ℕ) (places : List ℕ) (positive : ℕ) (entry : Entry) → PositiveSet flows positive → all_small flows ≡ true
-    → entry ≡ blank
-    → Makes (unchanged answer flows marks places)
-    (record { change = record { answer = answer; flows = flows; marks = marks; places = places; entry = entry }; positive = positive; small = true })
-stop_made answer flows marks places positive entry is_positive small e = record { changes = rw e; is_positive = is_positive; smalls = sym small }
+pub stop_made : (answer : ℕ) (flows : List ℕ) (marks : ℕ) (places : List ℕ) (positive : ℕ) → PositiveSet flows positive → all_small flows ≡ true
+    → Makes (unchanged answer flows marks places) (record { change = unchanged answer flows marks places; positive = positive; small = true })
+stop_made answer flows marks places positive is_positive small = record { changes = refl; is_positive = is_positive; smalls = sym small }
 
 -- a carry, by whether its terminal is at the source
 module _ (net : Network) (flows : List ℕ) (marks : ℕ) (places : List ℕ) (positive i e p : ℕ) (hp : p ≡ get_or places i 0) where

@@ -1,5 +1,8 @@
 -- The call `finish` on a table and the words of its journal.
-use Rattle.std.specs.Prelude.{List, ℕ}
+use Rattle.std.specs.Prelude.{Result, Ok, Err, List, ℕ}
+use Rattle.refusals.specs.declared.Refusal.{Refusal}
+use Rattle.refusals.specs.Refusals.{number}
+use Rattle.board.specs.Whole.{Table}
 use Rattle.journal.specs.Words.{whole_of}
 use Rattle.solve_finish.specs.declared.Finished as code
 use Rattle.solve_finish.specs.Finishes.{Finished}
@@ -8,6 +11,7 @@ use Rattle.solve_finish.specs.Finishes.{Finished}
 abbrev pub Ended : Type 0
 Ended = code.Finished
 
--- what a finish gave, as two numbers and a board
-abbrev pub ended_of : Ended → List (List ℕ) → Finished
-ended_of e words = record { answer = e.answer; count = e.count; board = whole_of e.board words }
+-- what a finish gave, as two numbers and a board: the table at the end, or a refusal, where the table is as it was
+abbrev pub ended_of : Table → Result Ended Refusal → List (List ℕ) → Finished
+ended_of old (Ok e) words = record { answer = 0; count = e.count; board = whole_of e.board words }
+ended_of old (Err r) words = record { answer = number r; count = 0; board = whole_of old words }

@@ -1,7 +1,9 @@
 -- For inner contracts only: the moves of a finish over the parts of a board in play, as the code makes them: the network, the flows, the marks and the places. They come to the same board as
 -- the moves of the definition `played_out`, which tests the whole board at each move; here only the numbers are tested that a move can put past their limits.
-use Rattle.std.specs.Prelude.{◌≡◌, Bool, true, false, List, ℕ, ◌+◌, ◌-◌, ◌≤◌, ◌<◌, leb, ltb, eqb, length, get_or, set}
+use Rattle.std.specs.Prelude.{◌≡◌, Bool, true, false, Result, Ok, Err, List, ℕ, ◌+◌, ◌-◌, ◌≤◌, ◌<◌, leb, ltb, eqb, length, get_or, set}
 use Rattle.lists.specs.Choice.{pick, both}
+use Rattle.refusals.specs.declared.Refusal.{Refusal}
+use Rattle.refusals.specs.Refusals.{number}
 use Rattle.lists.specs.Lists.{all}
 use Rattle.sets.specs.Sets.{none, set_of, has_bit, joined}
 use Rattle.sets.specs.Inner.{dropped}
@@ -102,18 +104,15 @@ pub record Sees (flows : List ℕ) (seen : Seen) : Type 0 where
 unfoldable pub left_after : ℕ → ℕ → Bool → ℕ
 left_after left moves small = pick (both (leb moves max_moves) small) (left - 1) 0
 
--- a move on lists that are lent, with the flows and places after it
-abbrev pub made_of : Progress → List ℕ → List ℕ → Made
-made_of r flows places = record {
-  change = record { answer = r.answer; flows = flows; marks = set_of r.marks; places = places; entry = entry_of r.entry };
+-- a move on lists that are lent, with the flows and places after it; where it is not made, the marks and the positive edges are those before it
+abbrev pub made_of : Frame → Result Progress Refusal → List ℕ → List ℕ → Made
+made_of frame (Ok r) flows places = record {
+  change = record { answer = 0; flows = flows; marks = set_of r.marks; places = places; entry = entry_of r.entry };
   positive = set_of r.positive;
   small = r.small;
 }
-
--- no move: whatever the flows and places are, nothing changes
-abbrev pub HaltsWith : ℕ → Frame → Progress → Type 0
-HaltsWith answer frame r = (flows places : List ℕ) → made_of r flows places ≡ record {
-  change = unchanged answer flows (set_of frame.marks) places;
+made_of frame (Err r) flows places = record {
+  change = unchanged (number r) flows (set_of frame.marks) places;
   positive = set_of frame.positive;
   small = true;
 }

@@ -25,9 +25,7 @@ ghost use Rattle.solve_finish.specs.Run.{
   resumption,
   RightBut,
   Sees,
-  left_after,
   made_of,
-  HaltsWith,
   Going,
   Stores,
   RanOut,
@@ -38,23 +36,21 @@ use board::{Board, Entry, Move, Relocation};
 use journal::WORDS;
 use move_carry::Frame;
 use move_cycle::StepCode;
+use refusals::Refusal;
 use sets::EdgeSet;
 use solve_next::Advice;
 
-// What a finish gives: 0, how many moves it made, and the board at the end; or the number that it is refused with, and
-// the board as it was.
+// What a finish gives: how many moves it made, and the board at the end.
 #[derive(Clone, Copy)]
 pub struct Finished {
-    pub answer: u32,
     pub count: u32,
     pub board: Board,
 }
 
-// A move of the solver on lists that are lent: its number, and where that is 0 its entry, the marks and the positive
-// edges after it, and whether the flows are small then.
+// A move of the solver on lists that are lent: its entry, the marks and the positive edges after it, and whether the
+// flows are small then.
 #[derive(Clone, Copy)]
 pub struct Progress {
-    pub answer: u32,
     pub entry: Entry,
     pub marks: EdgeSet,
     pub positive: EdgeSet,
@@ -75,17 +71,6 @@ pub struct Ran {
     pub filled: u32,
     pub marks: EdgeSet,
     pub moves: u32,
-}
-
-// The moves left of a run after one that leaves these moves standing: none where the board is not in play any more.
-fn left_after(left: u32, moves: u32, small: bool) -> u32
-    ensures { result ≡ left_after left moves small }
-{
-    if lists::and(moves <= Board::JOURNAL as u32, small) {
-        lists::minus(left, 1)
-    } else {
-        0
-    }
 }
 
 // The positive edges where edge e has the rest of its flow.
@@ -136,64 +121,47 @@ fn look_again(changed: EdgeSet, positive: EdgeSet, flows: &[u32; Board::MAX_EDGE
     }
     Seen {
         positive: after,
-        small: small,
+        small,
     }
 }
 
-// No move.
-fn halted(answer: u32, frame: Frame) -> Progress
-    ensures { HaltsWith answer frame result }
-{
-    let entry = Entry::blank();
-    Progress {
-        answer: answer,
-        entry: entry,
-        marks: frame.marks,
-        positive: frame.positive,
-        small: true,
-    }
-}
-
-// Relocates terminal i over edge e.
+// Makes a carry; a terminal at the source halts the run.
 fn carry_on<'a>(
     frame: Frame,
     tails: &'a [u32; Board::MAX_EDGES],
     demands: &'a [u32; Board::MAX_TERMINALS],
-    i: u32,
-    e: u32,
+    carry: Relocation,
     flows: &mut [u32; Board::MAX_EDGES],
     places: &mut [u32; Board::MAX_TERMINALS],
-) -> Progress
+) -> Result<Progress, Refusal>
     requires positive_set { PositiveSet flows.old (set_of frame.positive) }
     requires flows_value { all_small flows.old ≡ true }
     requires flows_len { length flows.old ≡ max_edges }
     ensures { Makes (carry_step (net_of frame tails.now [] demands.now)
-        flows.old (set_of frame.marks) places.old i e)
-        (made_of result flows.new places.new) }
+        flows.old (set_of frame.marks) places.old carry.terminal carry.edge)
+        (made_of frame result flows.new places.new) }
 {
-    let place = lists::at_or(places, i as usize, 0);
+    let terminal = carry.terminal as usize;
+    let edge = carry.edge as usize;
+    let place = lists::at_or(places, terminal, 0);
     if place == frame.source {
-        return halted(21, frame);
+        return Err(Refusal::AtSource);
     }
-    let demand = lists::at_or(demands, i as usize, 0);
-    let flow = lists::at_or(flows, e as usize, 0);
-    let tail = lists::at_or(tails, e as usize, 0);
+    let demand = lists::at_or(demands, terminal, 0);
+    let flow = lists::at_or(flows, edge, 0);
+    let tail = lists::at_or(tails, edge, 0);
     let rest = lists::minus(flow, demand);
-    lists::put(flows, e as usize, rest);
-    lists::put(places, i as usize, tail);
-    let after = positive_after(frame.positive, rest, e);
-    Progress {
-        answer: 0,
+    lists::put(flows, edge, rest);
+    lists::put(places, terminal, tail);
+    let after = positive_after(frame.positive, rest, carry.edge);
+    Ok(Progress {
         entry: Entry {
-            step: Move::Carry(Relocation {
-                terminal: i,
-                edge: e,
-            }),
+            step: Move::Carry(carry),
         },
         marks: frame.marks,
         positive: after,
         small: true,
-    }
+    })
 }
 
 // Augments along the steps of a cycle, where no carry is open.
@@ -206,31 +174,28 @@ fn turn_on<'a>(
     flows: &mut [u32; Board::MAX_EDGES],
     places: &'a [u32; Board::MAX_TERMINALS],
     steps: &'a [StepCode],
-) -> Progress
+) -> Result<Progress, Refusal>
     requires turnable { Turnable frame tails.now heads.now demands.now (sets_of leaving.now) flows.old }
     requires flows_value { all_small flows.old ≡ true }
     ensures { Makes (turn_change true false
         (net_of frame tails.now heads.now demands.now)
         flows.old (set_of frame.marks) places.now (code_steps steps.now))
-        (made_of result flows.new places.now) }
+        (made_of frame result flows.new places.now) }
 {
     let made = move_turn::change(
         false, frame, tails, heads, demands, leaving, places, steps, flows,
-    );
-    let entry = made.entry;
-    let step = entry.step;
-    let changed = shifted_edges(step);
+    )?;
+    let changed = shifted_edges(made.entry.step);
     let seen = look_again(changed, frame.positive, flows);
-    Progress {
-        answer: made.answer,
-        entry: entry,
+    Ok(Progress {
+        entry: made.entry,
         marks: made.marks,
         positive: seen.positive,
         small: seen.small,
-    }
+    })
 }
 
-// Makes the solver's next move on the lists of a board in play.
+// Makes the solver's next move on the lists of a board in play; there is none where every terminal is at the source.
 fn advance<'a>(
     frame: Frame,
     tails: &'a [u32; Board::MAX_EDGES],
@@ -240,37 +205,37 @@ fn advance<'a>(
     entering: &'a [EdgeSet],
     flows: &mut [u32; Board::MAX_EDGES],
     places: &mut [u32; Board::MAX_TERMINALS],
-) -> Progress
+) -> Result<Progress, Refusal>
     requires { Going frame tails.now heads.now demands.now (sets_of leaving.now)
         (sets_of entering.now) flows.old
         places.old }
     ensures { Makes (step_change
         (net_of frame tails.now heads.now demands.now)
         flows.old (set_of frame.marks) places.old)
-        (made_of result flows.new places.new) }
+        (made_of frame result flows.new places.new) }
 {
     let next = solve_next::next_move(
         frame, tails, heads, demands, leaving, entering, flows, places,
     );
-    if next.kind == Advice::NONE {
-        return halted(28, frame);
+    let Some(advice) = next else {
+        return Err(Refusal::NotFinished);
+    };
+    match advice {
+        Advice::Carry(carry) => carry_on(frame, tails, demands, carry, flows, places),
+        Advice::Turn(walk) => {
+            let count = walk.count as usize;
+            turn_on(
+                frame,
+                tails,
+                heads,
+                demands,
+                leaving,
+                flows,
+                places,
+                &walk.steps[..count],
+            )
+        }
     }
-    if next.kind == Advice::CARRY {
-        let terminal = next.terminal;
-        return carry_on(frame, tails, demands, terminal, next.edge, flows, places);
-    }
-    let steps = next.steps;
-    let count = next.count as usize;
-    turn_on(
-        frame,
-        tails,
-        heads,
-        demands,
-        leaving,
-        flows,
-        places,
-        &steps[..count],
-    )
 }
 
 // Stores the entry of a move where the journal holds all the moves before it and its place is blank; answers how many
@@ -313,37 +278,34 @@ fn play_out(
     let mut moves = board.moves;
     let mut filled = board.moves;
     let mut resume: u32 = 0;
-    let mut left = Board::JOURNAL as u32;
-    while left != 0 {
+    for _ in 0..Board::JOURNAL {
         let frame = Frame {
-            vertices: board.network.vertices,
-            edges: board.network.edges,
-            terminals: board.network.terminals,
-            source: board.network.source,
-            marks: marks,
-            positive: positive,
-            resume: resume,
+            vertices: net.vertices,
+            edges: net.edges,
+            terminals: net.terminals,
+            source: net.source,
+            marks,
+            positive,
+            resume,
         };
-        let made = advance(
+        let Ok(made) = advance(
             frame, &tails, &heads, &demands, &leaving, &entering, flows, places,
-        );
-        if made.answer != 0 {
-            left = 0;
-            continue;
-        }
-        let entry = made.entry;
-        let step = entry.step;
-        filled = store(journal, filled, moves, entry);
-        resume = resumption(step);
+        ) else {
+            break;
+        };
+        filled = store(journal, filled, moves, made.entry);
+        resume = resumption(made.entry.step);
         marks = made.marks;
         positive = made.positive;
         moves += 1;
-        left = left_after(left, moves, made.small);
+        if !lists::and(moves <= Board::JOURNAL as u32, made.small) {
+            break;
+        }
     }
     Ran {
-        filled: filled,
-        marks: marks,
-        moves: moves,
+        filled,
+        marks,
+        moves,
     }
 }
 
@@ -376,18 +338,17 @@ fn play_again(
 }
 
 // Plays to the end, and answers how many moves that took. Where the run ends with a terminal away, the places that were
-// filled are blanked again.
-pub fn finish(board: Board, journal: &mut [[u64; WORDS]; Board::JOURNAL]) -> Finished
-    ensures journal_after { ended_of result journal.new ≡ finish_call (whole_of board journal.old) }
+// filled are blanked again: a refused finish leaves the journal as it was.
+pub fn finish(
+    board: Board,
+    journal: &mut [[u64; WORDS]; Board::JOURNAL],
+) -> Result<Finished, Refusal>
+    ensures journal_after { ended_of board result journal.new ≡ finish_call (whole_of board journal.old) }
     ensures journal_after_2 { journal.new ≡
         words_after board.moves (finish_call (whole_of board journal.old)).board journal.old }
 {
     if !move_guard::playing(board, journal) {
-        return Finished {
-            answer: 20,
-            count: 0,
-            board: board,
-        };
+        return Err(Refusal::NotInPlay);
     }
     let net = board.network;
     let from = board.moves;
@@ -397,24 +358,20 @@ pub fn finish(board: Board, journal: &mut [[u64; WORDS]; Board::JOURNAL]) -> Fin
     if !solve_next::all_home(&places, net.terminals, net.source) {
         let filled = lists::minus(ran.filled, from);
         journal::wipe(journal, from as usize, filled as usize);
-        return Finished {
-            answer: 20,
-            count: 0,
-            board: board,
-        };
+        return Err(Refusal::NotInPlay);
     }
     let whole = play_again(ran, board, journal, &mut flows, &mut places);
     let count = lists::minus(whole.moves, from);
-    let mut last = board;
-    last.flows = flows;
-    last.marks = whole.marks;
-    last.places = places;
-    last.moves = whole.moves;
-    last.stage = Board::FINISHED;
-    last.finish_from = from;
-    Finished {
-        answer: 0,
-        count: count,
-        board: last,
-    }
+    Ok(Finished {
+        count,
+        board: Board {
+            stage: Board::FINISHED,
+            flows,
+            marks: whole.marks,
+            places,
+            moves: whole.moves,
+            finish_from: from,
+            ..board
+        },
+    })
 }
