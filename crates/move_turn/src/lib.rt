@@ -132,8 +132,8 @@ fn augment<'a>(
     }
 }
 
-// Makes a turn on the flows of a board in play, where it is accepted; `any_open` says whether a carry is open. A refusal
-// leaves the flows as they were.
+// Makes a turn on the flows of a board in play, where it is accepted; `any_open` says whether a carry is open. A
+// refusal leaves the flows as they were.
 pub fn change<'a>(
     any_open: bool,
     frame: Frame,

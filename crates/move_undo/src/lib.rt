@@ -78,8 +78,8 @@ fn undo_finish(board: Board, journal: &mut [[u64; WORDS]; Board::JOURNAL]) -> Re
     Ok(last)
 }
 
-// Takes the last standing move back, or a finish that stands with all its moves. A refused undo leaves the journal as it
-// was.
+// Takes the last standing move back, or a finish that stands with all its moves. A refused undo leaves the journal as
+// it was.
 pub fn undo(board: Board, journal: &mut [[u64; WORDS]; Board::JOURNAL]) -> Result<Board, Refusal>
     ensures journal_after { given_of board result journal.new ≡ undo_call (whole_of board journal.old) }
     ensures journal_after_2 { journal.new ≡
