@@ -2,14 +2,15 @@
 use mathlib.Core.Path.{◌≡◌, refl, sym, ap, ◌∙◌}
 use mathlib.Core.Bool.{false}
 use mathlib.Core.List.{List}
-use mathlib.Core.Logic.{◌≢◌}
 use Prim.Native.Nat.{ℕ}
+use Rattle.std.specs.Prelude.{Ok, Err}
 use Rattle.lists.specs.Choice.{both}
+use Rattle.refusals.specs.declared.Refusal.{Refusal}
+use Rattle.refusals.proofs.Laws.{refused}
 use Rattle.board.specs.Record.{closed_board}
-use Rattle.board.specs.Whole.{Board}
+use Rattle.board.specs.Whole.{Board, Table}
 use Rattle.journal.specs.Words.{whole_of, no_words, words_after, packed_all}
 use Rattle.load.specs.Load.{Loaded}
-use Rattle.load.specs.Lent.{Opened}
 use Rattle.load.specs.Load.{load_text}
 use Rattle.load.specs.Lent.{loaded_of}
 use Rattle.load.proofs.Loads.{load_refused}
@@ -25,20 +26,21 @@ closed_out : playing closed_board ≡ false
 unfolding playing loaded both closed_board
 closed_out = refl
 
-module _ (s : List ℕ) (l : Opened) (w : List (List ℕ)) (loads : loaded_of l w ≡ load_text s) (empty : w ≡ no_words) where
-  board : whole_of l.board w ≡ (load_text s).board
-  board = ap (λ (x : Loaded). x.board) loads
-
-  kept : w ≡ packed_all (whole_of l.board w).journal
-  kept = empty ∙ loaded_words s ∙ ap (λ (b : Board). packed_all b.journal) (sym board)
-
-  pub refused_words : l.answer ≢ 0 → w ≡ packed_all (finish_call (load_text s).board).board.journal
-  refused_words h =
-      let refused : (load_text s).board ≡ closed_board = load_refused s (λ e. h (ap (λ (x : Loaded). x.answer) loads ∙ e)) in
+module _ (s : List ℕ) (w : List (List ℕ)) (empty : w ≡ no_words) where
+  pub refused_words : (r : Refusal) → loaded_of (Err r) w ≡ load_text s → w ≡ packed_all (finish_call (load_text s).board).board.journal
+  refused_words r loads =
+      let closed : (load_text s).board ≡ closed_board = load_refused s (λ e. refused r (ap (λ (x : Loaded). x.answer) loads ∙ e)) in
       empty ∙ loaded_words s
-      ∙ ap (λ (b : Board). packed_all b.journal) (refused ∙ ap (λ (f : Finished). f.board) (finish_closed closed_board closed_out) ∙ ap (λ (b : Board). (finish_call b).board) (sym refused))
+      ∙ ap (λ (b : Board). packed_all b.journal) (closed ∙ ap (λ (f : Finished). f.board) (finish_closed closed_board closed_out) ∙ ap (λ (b : Board). (finish_call b).board) (sym closed))
 
-  pub finish_words : (v : List (List ℕ)) → v ≡ words_after l.board.moves (finish_call (whole_of l.board w)).board w
-      → v ≡ packed_all (finish_call (load_text s).board).board.journal
-  finish_words v stores =
-      stores ∙ finish_packed (whole_of l.board w) w kept ∙ ap (λ (b : Board). packed_all (finish_call b).board.journal) board
+  module _ (t : Table) (loads : loaded_of (Ok t) w ≡ load_text s) where
+    board : whole_of t w ≡ (load_text s).board
+    board = ap (λ (x : Loaded). x.board) loads
+
+    kept : w ≡ packed_all (whole_of t w).journal
+    kept = empty ∙ loaded_words s ∙ ap (λ (b : Board). packed_all b.journal) (sym board)
+
+    pub finish_words : (v : List (List ℕ)) → v ≡ words_after t.moves (finish_call (whole_of t w)).board w
+        → v ≡ packed_all (finish_call (load_text s).board).board.journal
+    finish_words v stores =
+        stores ∙ finish_packed (whole_of t w) w kept ∙ ap (λ (b : Board). packed_all (finish_call b).board.journal) board

@@ -9,16 +9,20 @@ use lib.Dec.{eqb}
 use lib.ListN.{length, set, length-append}
 use lib.Seq.{sets}
 use borrow.Author.Tests.{eq-eqb, ne_eqb}
+use Rattle.std.specs.Prelude.{Result, Ok, Err}
 use Rattle.lists.proofs.Laws.{pick_yes, pick_no}
 use Rattle.lists.specs.Choice.{pick}
 use Rattle.decimal.specs.Decimal.{decimal}
 use Rattle.board.specs.Whole.{Board}
 use Rattle.board.specs.declared.Network.{Network}
 use Rattle.text.specs.Text.{Read, refused, got, then, header, headed, numbers_text}
-use Rattle.text.specs.Views.{part_read, header_part}
-use Rattle.text.specs.declared.Part.{Part}
-use Rattle.text.specs.Results.{Written}
-use Rattle.text_lines.proofs.Reading.{answer_read_got, answer_read_refused}
+use Rattle.refusals.specs.declared.Refusal.{Refusal}
+use Rattle.refusals.specs.Refusals.{number}
+use Rattle.refusals.proofs.Laws.{refused as refused_number}
+use Rattle.text.specs.Views.{as_read, header_part}
+use Rattle.text.specs.declared.Taken.{Taken}
+use Rattle.text.specs.Results.{Written, as_written}
+use Rattle.text_lines.proofs.Reading.{read_ok, read_err}
 use Rattle.text_writer.proofs.Writing.{sets_append}
 use Rattle.sheet_output.specs.Inputs.{lines_of, lines_wanted}
 use Rattle.load.specs.Load.{Loaded}
@@ -39,22 +43,23 @@ number_put buf b1 b2 at end n p e f =
 -- ---- a report, or its number
 
 -- what the writing of the report answers, and leaves in the buffer
-module _ (b : Board) (buf out : List ℕ) (at : ℕ) (w : Written) (e : w ≡ put_call b false (length buf)) (o : out ≡ put_in b false buf at) where
-  number_so : w.answer ≡ unreported b
+module _ (b : Board) (buf out : List ℕ) (at : ℕ) (w : Result ℕ Refusal) (e : as_written w ≡ put_call b false (length buf)) (o : out ≡ put_in b false buf at) where
+  number_so : (as_written w).answer ≡ unreported b
   unfolding pick
   number_so = ap (λ (x : Written). x.answer) e
 
-  pub report_refused : (w.answer ≡ 0 → ⊥) → (number_line w.answer ≡ report_of b) × (out ≡ buf)
+  pub report_refused : {r : Refusal} → w ≡ Err r → (number_line (number r) ≡ report_of b) × (out ≡ buf)
   unfolding report_of pick
-  report_refused some =
-      let none : eqb (unreported b) 0 ≡ false = ne_eqb _ _ (λ z. some (number_so ∙ z)) in
-      (rw (number_so, none), o ∙ rw none)
+  report_refused {r} q =
+      let same : number r ≡ unreported b = ap (λ v. (as_written v).answer) (sym q) ∙ number_so in
+      let none : eqb (unreported b) 0 ≡ false = ne_eqb _ _ (λ z. refused_number r (same ∙ z)) in
+      (rw (same, none), o ∙ rw none)
 
-  pub report_given : w.answer ≡ 0 → (w.used ≡ length (report_of b)) × (out ≡ sets buf at (report_of b))
+  pub report_given : {n : ℕ} → w ≡ Ok n → (n ≡ length (report_of b)) × (out ≡ sets buf at (report_of b))
   unfolding report_of pick
-  report_given z =
-      let all_of : eqb (unreported b) 0 ≡ true = eq-eqb _ _ (sym number_so ∙ z) in
-      (ap (λ (x : Written). x.used) e ∙ rw all_of, o ∙ rw all_of)
+  report_given {n} q =
+      let all_of : eqb (unreported b) 0 ≡ true = eq-eqb _ _ (sym number_so ∙ ap (λ v. (as_written v).answer) q) in
+      (ap (λ v. (as_written v).used) (sym q) ∙ ap (λ (x : Written). x.used) e ∙ rw all_of, o ∙ rw all_of)
 
 -- ---- what is printed of an input that was loaded, and finished
 
@@ -91,11 +96,11 @@ unfolding then lines_of
 same_counts net rest (refused m) e = let z : ◌≡◌ {A = ℕ} 0 1 = cc in absurd (omega arith)
 same_counts net rest (got ns s) e = let same : headed ns ≡ net = cc in rw (← same)
 
-module _ (s : List ℕ) (h : Part) (hr : part_read h s ≡ header_part s) where
-  pub wanted_refused : (h.answer ≡ 0 → ⊥) → 1 ≡ lines_wanted s
+module _ (s : List ℕ) (h : Result (Taken Network) Refusal) (hr : as_read h s ≡ header_part s) where
+  pub wanted_refused : {r : Refusal} → h ≡ Err r → 1 ≡ lines_wanted s
   unfolding lines_wanted header_part
-  wanted_refused z = sym (same_refusal h.answer (header s) (sym hr ∙ answer_read_refused _ h.network h.used s _ refl z))
+  wanted_refused {r} q = sym (same_refusal (number r) (header s) (sym hr ∙ read_err s q))
 
-  pub wanted_counted : h.answer ≡ 0 → 1 + h.network.edges + h.network.terminals ≡ lines_wanted s
+  pub wanted_counted : {t : Taken Network} → h ≡ Ok t → 1 + t.value.edges + t.value.terminals ≡ lines_wanted s
   unfolding lines_wanted header_part
-  wanted_counted z = sym (same_counts h.network _ (header s) (sym hr ∙ answer_read_got _ _ _ s z))
+  wanted_counted {t} q = sym (same_counts t.value _ (header s) (sym hr ∙ read_ok s q))

@@ -1,7 +1,11 @@
 -- What the programs print: document 01, "Route sheet".
-use Rattle.std.specs.Prelude.{List, [], ◌∷◌, ℕ, eqb}
+use Rattle.std.specs.Prelude.{Result, Ok, Err, List, [], ◌∷◌, ℕ, eqb}
 use Rattle.lists.specs.Choice.{pick}
 use Rattle.board.specs.Whole.{Board}
+use Rattle.board.specs.Whole.{Table}
+use Rattle.journal.specs.Words.{whole_of}
+use Rattle.refusals.specs.declared.Refusal.{Refusal}
+use Rattle.refusals.specs.Refusals.{number}
 use Rattle.text.specs.Text.{numbers_text}
 use Rattle.load.specs.Load.{load_text}
 use Rattle.solve_finish.specs.Finishes.{Finished}
@@ -15,6 +19,11 @@ number_line n = numbers_text (n ∷ [])
 -- the report of a board, or the number that it is refused with
 unfoldable pub report_of : Board → List ℕ
 report_of b = pick (eqb (unreported b) 0) (report_text b) (number_line (unreported b))
+
+-- the same of a board whose journal is these words, or of a refusal
+abbrev pub prints : Result Table Refusal → List (List ℕ) → List ℕ
+prints (Ok b) words = report_of (whole_of b words)
+prints (Err r) words = number_line (number r)
 
 -- the report of a finished board, or the number that the finish is refused with
 unfoldable pub finish_output : Finished → List ℕ

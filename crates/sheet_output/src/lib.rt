@@ -8,11 +8,12 @@ ghost use Rattle.text.specs.Sizes.{number_bytes, report_bytes};
 ghost use Rattle.text.specs.Room.{start_most};
 ghost use Rattle.load.specs.Load.{load_text};
 ghost use Rattle.solve_finish.specs.Finishes.{finish_call};
-ghost use Rattle.sheet_output.specs.Outputs.{number_line, report_of, sheet_output};
+ghost use Rattle.sheet_output.specs.Outputs.{number_line, report_of, prints, sheet_output};
 ghost use Rattle.sheet_output.specs.Inputs.{lines_wanted};
 
 use board::Board;
 use journal::WORDS;
+use refusals::Refusal;
 
 // Writes a number and a line feed at a place of the buffer, and answers the place behind them. A byte past the end of
 // the buffer is dropped.
@@ -39,11 +40,21 @@ pub fn put_report(
     ensures upper_bound { result ≤ at + report_bytes }
     ensures buf_after { buf.new ≡ sets buf.old at (report_of (whole_of board journal.now)) }
 {
-    let written = report::put_sheet(buf, at, false, board, journal);
-    if written.answer != 0 {
-        return put_number(buf, at, written.answer);
+    match report::put_sheet(buf, at, false, board, journal) {
+        Ok(used) => at + used,
+        Err(refusal) => put_number(buf, at, u32::from(refusal)),
     }
-    at + written.used
+}
+
+// Loads the board of an input and finishes it.
+fn finished(input: &[u8], journal: &mut [[u64; WORDS]; Board::JOURNAL]) -> Result<Board, Refusal>
+    ensures value { prints result journal.new ≡ sheet_output input.now }
+    ensures journal_after { journal.new ≡
+        packed_all (finish_call (load_text input.now).board).board.journal }
+{
+    let board = load::load(input, journal)?;
+    let end = solve_finish::finish(board, journal)?;
+    Ok(end.board)
 }
 
 // Writes what the program `sheet` prints for an input, and answers how many bytes.
@@ -58,27 +69,21 @@ pub fn sheet_output(
     ensures journal_after { journal.new ≡
         packed_all (finish_call (load_text input.now).board).board.journal }
 {
-    let loaded = load::load(input, journal);
-    if loaded.answer != 0 {
-        return put_number(out, 0, loaded.answer);
+    match finished(input, journal) {
+        Ok(board) => put_report(out, 0, board, journal),
+        Err(refusal) => put_number(out, 0, u32::from(refusal)),
     }
-    let board = loaded.board;
-    let finished = solve_finish::finish(board, journal);
-    if finished.answer != 0 {
-        return put_number(out, 0, finished.answer);
-    }
-    let last = finished.board;
-    put_report(out, 0, last, journal)
 }
 
 // How many lines the board has whose text starts with this.
 pub fn lines_wanted(text: &[u8]) -> u32
     ensures { result ≡ lines_wanted text.now }
 {
-    let head = text_reader::header(text);
-    if head.answer != 0 {
-        return 1;
+    match text_reader::header(text) {
+        Ok(head) => {
+            let net = head.value;
+            1 + net.edges + net.terminals
+        }
+        Err(_) => 1,
     }
-    let net = head.network;
-    1 + net.edges + net.terminals
 }

@@ -4,24 +4,14 @@ use Rattle.text_reader.proofs.Whole.{first_counts}
 use Rattle.sheet_output.proofs.Prints.{wanted_refused, wanted_counted}
 use Rattle.sheet_output.proofs.lines_wanted.Goals as goal
 
-pub returns-then-head-ne0 : goal.returns-then-head-ne0
-returns-then-head-ne0 c =
-    let at_header = c.header-head in
-    wanted_refused _ at_header.result at_header.ensures.s_value c.if-head-ne0.true
+pub returns-in-Err : goal.returns-in-Err
+returns-in-Err c = wanted_refused _ _ c.header.ensures.s_value c.in-Err.is
 
 pub overflow_add-result : goal.overflow_add-result
-overflow_add-result c =
-    let at_header = c.header-head in
-    let n = first_counts _ at_header.result at_header.ensures.s_value c.if-head-ne0.false in
-    omega arith
+overflow_add-result c = let n = first_counts _ _ c.header.ensures.s_value _ c.in-Ok.is in omega arith
 
-pub overflow_add-result-2 : goal.overflow_add-result-2
-overflow_add-result-2 c =
-    let at_header = c.header-head in
-    let n = first_counts _ at_header.result at_header.ensures.s_value c.if-head-ne0.false in
-    omega arith
+pub overflow_add-result-in-Ok : goal.overflow_add-result-in-Ok
+overflow_add-result-in-Ok c = let n = first_counts _ _ c.header.ensures.s_value _ c.in-Ok.is in omega arith
 
-pub returns : goal.returns
-returns c =
-    let at_header = c.header-head in
-    wanted_counted _ at_header.result at_header.ensures.s_value c.if-head-ne0.false
+pub returns-in-Ok : goal.returns-in-Ok
+returns-in-Ok c = wanted_counted _ _ c.header.ensures.s_value c.in-Ok.is
