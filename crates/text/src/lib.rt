@@ -20,10 +20,11 @@ pub struct Taken<T> {
 }
 
 impl Range {
+    #[tactic(auto, unfolding(lists::specs::Choice::both))]
     pub fn holds(self, n: u32) -> bool
         ensures { result ≡ both (leb self.low n) (leb n self.high) }
     {
-        lists::and(self.low <= n, n <= self.high)
+        (self.low..=self.high).contains(&n)
     }
 
     // The numbers below n.

@@ -17,7 +17,9 @@ use Rattle.std.specs.Prelude.{Option, Some, None}
 use Rattle.decimal.specs.Decimal.{number_of}
 use Rattle.text.specs.declared.Range.{Range}
 use Rattle.std.specs.Prelude.{Result, Ok, Err}
+use Rattle.std.specs.Option.{ok_or}
 use Rattle.refusals.specs.declared.Refusal.{Refusal}
+use Rattle.refusals.specs.declared.Refusal.TheVariants.{Malformed}
 use Rattle.refusals.specs.Refusals.{number}
 use Rattle.text.specs.declared.Taken.{Taken}
 use Rattle.text.specs.Views.{as_read}
@@ -45,6 +47,11 @@ module _ (r : Range) (e n : ℕ) (s : List ℕ) (p : n ≡ index_of e s) where
     pub field_out : (v : ℕ) → number_of (take n s) ≡ Some v → both (leb r.low v) (leb v r.high) ≡ false → refused 2 ≡ field r e s
     unfolding ranged
     field_out v q b = sym (pick_no _ _ _ b) ∙ found (Some v) q
+
+-- where no number was read, the field is malformed
+pub no_number : (o : Option ℕ) {x : Result ℕ Refusal} {r : Refusal} → x ≡ ok_or o Malformed → x ≡ Err r → (o ≡ None) × (number r ≡ 1)
+no_number None {x} {r} e f = let z : Malformed ≡ r = cc in (refl, rw (← z) refl)
+no_number (Some n) e f = (cc, cc)
 
 -- reading on from what was read
 pub then_got : {A : Type 0} (x : Read A) → then x (λ a s. got a s) ≡ x

@@ -21,19 +21,14 @@ fn field(s: &[u8], range: Range, end: u8) -> Result<Taken<u32>, Refusal>
     if s.len() <= n {
         return Err(Refusal::Malformed);
     }
-    match decimal::read_number(&s[..n]) {
-        Some(value) => {
-            if range.holds(value) {
-                Ok(Taken {
-                    value: value,
-                    used: n + 1,
-                })
-            } else {
-                Err(Refusal::OutOfRange)
-            }
-        }
-        None => Err(Refusal::Malformed),
+    let value = decimal::read_number(&s[..n]).ok_or(Refusal::Malformed)?;
+    if !range.holds(value) {
+        return Err(Refusal::OutOfRange);
     }
+    Ok(Taken {
+        value: value,
+        used: n + 1,
+    })
 }
 
 // A line at the start of s: its letter, then a number for each of the ranges.
@@ -117,6 +112,7 @@ fn terminal_ranges(vertices: u32) -> [Range; 2]
 }
 
 // The terminal lines, from `start` on.
+// Its loop is not that of `edge_lines` with a closure that stores a row: such a contract is longer than the loop.
 pub fn terminal_lines(s: &[u8], start: usize, net: Network) -> Result<Taken<Network>, Refusal>
     requires { (start ≤ length s.now) × (0 < net.vertices) × (net.terminals ≤ max_terminals) }
     ensures s_value { as_read result s.now ≡

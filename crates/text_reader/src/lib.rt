@@ -43,11 +43,7 @@ fn headed(values: [u32; 4]) -> Network
         edges: values[1],
         terminals: values[2],
         source: values[3],
-        tails: [0; Board::MAX_EDGES],
-        heads: [0; Board::MAX_EDGES],
-        flows: [0; Board::MAX_EDGES],
-        homes: [0; Board::MAX_TERMINALS],
-        demands: [0; Board::MAX_TERMINALS],
+        ..Network::empty()
     }
 }
 
