@@ -3,12 +3,14 @@
 use mathlib.Core.Path.{◌≡◌, refl, sym, ap, ◌∙◌}
 use mathlib.Core.Bool.{true, false}
 use mathlib.Core.List.{List, [], ◌∷◌, ◌++◌}
-use Prim.Native.Nat.{ℕ, suc, ◌+◌, ◌-◌, ◌≤◌, ◌<◌}
+use Prim.Native.Nat.{ℕ, zero, suc, ◌+◌, ◌-◌, ◌*◌, ◌/◌, ◌%◌, ◌≤◌, ◌<◌}
 use native.Mathlib.Numerals.{add-one}
 use native.Mathlib.Omega.{arith}
+use Rattle.std.specs.Simd.{first_chunks}
+use Rattle.std.proofs.Math.Nat.{div-add-mod, mod-lt}
 use lib.Dec.{leb, ltb}
-use borrow.Author.Tests.{leb-true, lt-ltb, le-ltb}
-use lib.ListN.{length, get_or, take, drop, set, length-drop}
+use borrow.Author.Tests.{ne_eqb, leb-true, lt-ltb, le-ltb}
+use lib.ListN.{length, get_or, take, drop, set, drop_of_length-le}
 use lib.Seq.{drop-cons, sets}
 use Rattle.lists.specs.Choice.{both}
 use Rattle.lists.proofs.Laws.{pick_yes, pick_no, both_left, both_right}
@@ -18,7 +20,7 @@ use Rattle.solve_next.specs.Advices.{Advice}
 use Rattle.solve_next.specs.Advices.{Suggestion}
 use Rattle.solve_next.specs.Hints.{hint_call}
 use Rattle.move_list.specs.Calls.{Call, hint, Game, Reply, made, played, answers, hint_given, hints_of, advice_code, advice_width, behind, noted}
-use Rattle.move_list.specs.Codes.{part, call_of, calls_of}
+use Rattle.move_list.specs.Codes.{part, carry_code, turn_code, undo_code, hint_code, finish_code, call_of, calls_of}
 
 -- the steps of a turn
 module _ (steps : List ℕ) (a c : ℕ) where
@@ -36,19 +38,21 @@ module _ (steps : List ℕ) (a c : ℕ) where
   pub part_end : both (leb a c) (leb c (length steps)) ≡ true → c ≤ length steps
   part_end t = leb-true c (length steps) (both_right _ _ t)
 
--- the calls from place i on
-module _ (steps codes : List ℕ) (i : ℕ) where
-  three_left : i + 3 ≤ length codes → drop i codes ≡ get_or codes i 0 ∷ get_or codes (i + 1) 0 ∷ get_or codes (i + 2) 0 ∷ drop (i + 3) codes
-  three_left h =
-      let one : i + 1 ≡ suc i = omega arith in
-      let two : i + 2 ≡ suc (suc i) = omega arith in
-      let three : i + 3 ≡ suc (suc (suc i)) = omega arith in
-      rw (one, two, three, drop-cons codes i 0 (omega arith), drop-cons codes (suc i) 0 (omega arith), drop-cons codes (suc (suc i)) 0 (omega arith))
+-- a kind past that of a finish has no number
+pub none_coded : (steps : List ℕ) (kind a c : ℕ) → finish_code < kind → call_of steps kind a c ≡ []
+unfolding call_of
+none_coded steps kind a c h =
+    pick_no _ _ _ (ne_eqb kind carry_code (λ z. omega (arith, z))) ∙ pick_no _ _ _ (ne_eqb kind turn_code (λ z. omega (arith, z)))
+    ∙ pick_no _ _ _ (ne_eqb kind undo_code (λ z. omega (arith, z))) ∙ pick_no _ _ _ (ne_eqb kind hint_code (λ z. omega (arith, z)))
+    ∙ pick_no _ _ _ (ne_eqb kind finish_code (λ z. omega (arith, z)))
 
-  pub calls_turn : i + 3 ≤ length codes
-      → calls_of steps (drop i codes) ≡ call_of steps (get_or codes i 0) (get_or codes (i + 1) 0) (get_or codes (i + 2) 0) ++ calls_of steps (drop (i + 3) codes)
-  unfolding calls_of
-  calls_turn h = rw (three_left h)
+-- the call of three numbers, and those of a list of threes
+abbrev pub coded : List ℕ → List ℕ → List Call
+coded steps code = call_of steps (get_or code 0 0) (get_or code 1 0) (get_or code 2 0)
+
+unfoldable pub chunked : List ℕ → List (List ℕ) → List Call
+chunked steps [] = []
+chunked steps (code ∷ codes) = coded steps code ++ chunked steps codes
 
 -- fewer than three numbers are no call
 calls_few : (steps codes : List ℕ) → length codes < 3 → calls_of steps codes ≡ []
@@ -58,38 +62,48 @@ calls_few steps (x ∷ []) h = refl
 calls_few steps (x ∷ y ∷ []) h = refl
 calls_few steps (x ∷ y ∷ z ∷ codes) h = absurd (omega arith)
 
--- the hints that are noted with those of the first call: none of its own, or one
-module _ (b : Board) (c : Call) (rest : List Suggestion) (buf buf' : List ℕ) (k k' : ℕ) where
-  pub none_hinted : hint_given b c ≡ [] → buf' ≡ buf → k' ≡ k → noted buf' k' rest ≡ noted buf k (hint_given b c ++ rest)
-  none_hinted n e ek = rw (n, e, ek)
+-- .. which are the calls of the numbers
+chunks_coded : (steps : List ℕ) (k : ℕ) (codes : List ℕ) → 3 * k ≤ length codes → length codes < 3 * k + 3
+    → chunked steps (first_chunks 3 k codes) ≡ calls_of steps codes
+unfolding chunked calls_of
+chunks_coded steps zero codes low high = sym (calls_few steps codes (omega (arith, high)))
+chunks_coded steps (suc k) [] low high = absurd (omega (arith, low))
+chunks_coded steps (suc k) (x ∷ []) low high = absurd (omega (arith, low))
+chunks_coded steps (suc k) (x ∷ y ∷ []) low high = absurd (omega (arith, low))
+chunks_coded steps (suc k) (x ∷ y ∷ z ∷ codes) low high =
+    ap (λ (l : List Call). call_of steps x y z ++ l) (chunks_coded steps k codes (omega (arith, low)) (omega (arith, high)))
 
-  pub one_hinted : (h : Suggestion) → c ≡ hint → h ≡ hint_call b → buf' ≡ sets buf k (advice_code h.advice) → k' ≡ behind buf k
-      → noted buf' k' rest ≡ noted buf k (hint_given b c ++ rest)
-  unfolding noted
-  one_hinted h n eh e ek = rw (n, e, ek, eh)
+pub all_coded : (steps codes : List ℕ) → chunked steps (first_chunks 3 (length codes / 3) codes) ≡ calls_of steps codes
+all_coded steps codes =
+    let whole : 3 * (length codes / 3) + length codes % 3 ≡ length codes = div-add-mod (length codes) 3 in
+    let few : length codes % 3 < 3 = mod-lt (length codes) (omega arith) in
+    chunks_coded steps (length codes / 3) codes (omega arith) (omega arith)
 
--- the calls that are left, with this many numbers; one round makes the call of the first three of them, or leaves them out
-module _ (steps codes : List ℕ) (left : ℕ) where
-  abbrev at : ℕ
-  at = length codes - left
+-- the hint of a call is noted
+pub hint_noted : (b : Board) (rest : List Suggestion) (buf buf' : List ℕ) (k k' : ℕ) (h : Suggestion) → h ≡ hint_call b → buf' ≡ sets buf k (advice_code h.advice)
+    → k' ≡ behind buf k → noted buf' k' rest ≡ noted buf k (hint_given b hint ++ rest)
+unfolding noted
+hint_noted b rest buf buf' k k' h eh e ek = rw (e, ek, eh)
 
+-- the calls that are left from a three on; one round makes the call of that three, or leaves it out
+module _ (steps : List ℕ) (whole : List (List ℕ)) (n : ℕ) where
   abbrev pub calls : List Call
-  calls = calls_of steps (drop (length codes - left) codes)
+  calls = chunked steps (drop n whole)
 
   abbrev pub first : List Call
-  first = call_of steps (get_or codes (length codes - left) 0) (get_or codes (length codes - left + 1) 0) (get_or codes (length codes - left + 2) 0)
+  first = coded steps (get_or whole n [])
 
   abbrev pub others : List Call
-  others = calls_of steps (drop (length codes - (left - 3)) codes)
+  others = chunked steps (drop (n + 1) whole)
 
-  pub calls_none : left < 3 → calls ≡ []
-  calls_none h = calls_few steps (drop at codes) (rw (length-drop at codes) (omega arith))
+  pub calls_none : length whole ≤ n → calls ≡ []
+  unfolding chunked
+  calls_none h = rw (drop_of_length-le whole h)
 
-  module _ (some : 3 ≤ left) (inside : left ≤ length codes) where
+  module _ (inside : n < length whole) where
     calls_first : calls ≡ first ++ others
-    calls_first =
-        let next : length codes - (left - 3) ≡ at + 3 = omega arith in
-        rw (calls_turn steps codes at (omega arith), next)
+    unfolding chunked
+    calls_first = rw (add-one n, drop-cons whole n [] inside)
 
     pub calls_one : (call : Call) → first ≡ call ∷ [] → calls ≡ call ∷ others
     calls_one call alone = calls_first ∙ ap (λ (l : List Call). l ++ others) alone
@@ -98,15 +112,15 @@ module _ (steps codes : List ℕ) (left : ℕ) where
     calls_skipped none = sym (calls_first ∙ ap (λ (l : List Call). l ++ others) none)
 
   module _ (g : Game) where
-    pub played_end : left < 3 → g ≡ played g calls
+    pub played_end : length whole ≤ n → g ≡ played g calls
     unfolding played
     played_end h = rw (calls_none h)
 
-    pub answers_end : (buf : List ℕ) (k : ℕ) → left < 3 → buf ≡ sets buf k (answers g calls)
+    pub answers_end : (buf : List ℕ) (k : ℕ) → length whole ≤ n → buf ≡ sets buf k (answers g calls)
     unfolding answers
     answers_end buf k h = rw (calls_none h)
 
-    pub hints_end : (buf : List ℕ) (k : ℕ) → left < 3 → buf ≡ noted buf k (hints_of g calls)
+    pub hints_end : (buf : List ℕ) (k : ℕ) → length whole ≤ n → buf ≡ noted buf k (hints_of g calls)
     unfolding noted hints_of
     hints_end buf k h = rw (calls_none h)
 
@@ -122,11 +136,7 @@ module _ (steps codes : List ℕ) (left : ℕ) where
       pub hints_turn : (buf buf' : List ℕ) (k k' : ℕ) → ((rest : List Suggestion) → noted buf' k' rest ≡ noted buf k (hint_given g.board call ++ rest))
           → noted buf' k' (hints_of r.game others) ≡ noted buf k (hints_of g calls)
       unfolding hints_of
-      hints_turn buf buf' k k' told = rw (is, makes) (told _)
-
--- before the first round all is left
-pub all_left : (codes : List ℕ) → drop (length codes - length codes) codes ≡ codes
-all_left codes = let none : length codes - length codes ≡ 0 = omega arith in rw none
+      hints_turn buf buf' k k' said = rw (is, makes) (said _)
 
 -- numbers stored one after the other, from place k on, i of them so far
 module _ (buf xs : List ℕ) (k : ℕ) where

@@ -1,40 +1,128 @@
 // Lists of calls in numbers, for programs that drive the engine.
 #![tactic(auto)]
 
-ghost use Rattle.std.specs.Prelude.{◌≡◌, true, List, ℕ, ◌+◌, ◌-◌, ◌<◌, ◌≤◌, length};
+ghost use Rattle.std.specs.Prelude.{◌≡◌, List, ◌++◌, ℕ, ◌+◌, ◌≤◌, length, slice_index};
 ghost use Rattle.move_turn.specs.Turns.{turn_call};
 ghost use Rattle.move_cycle.specs.Steps.{steps_of};
 ghost use Rattle.journal.specs.Words.{whole_of, given_of, words_after};
 ghost use Rattle.move_list.specs.Words.{words_played};
-ghost use Rattle.move_list.specs.Calls.{game_of, played, answers, hints_of, advice_head, advice_code, behind, noted};
-ghost use Rattle.move_list.specs.Inner.{last_place, OneMade};
-ghost use Rattle.move_list.specs.Codes.{part, hint_code, call_of, calls_of};
+ghost use Rattle.move_list.specs.Calls.{
+  game_of,
+  reply_of,
+  made,
+  played,
+  answers,
+  hint_given,
+  hints_of,
+  advice_head,
+  advice_code,
+  behind,
+  noted,
+};
+ghost use Rattle.move_list.specs.Inner.{last_place};
+ghost use Rattle.move_list.specs.Codes.{part, call_of, calls_of};
+ghost use Rattle.move_list.specs.Told.{told, stated, Tells};
+ghost use Rattle.solve_next.specs.Views.{advice_given};
+ghost use Rattle.refusals.specs.Refusals.{answer_of};
+ghost use Rattle.solve_next.specs.Advices.{Suggestion};
 ghost use Rattle.std.proofs.lemmas.List.Edits.{sets};
 
-use board::{Board, Played};
+use board::Board;
 use journal::WORDS;
 use move_cycle::StepCode;
+use refusals::Refusal;
 use solve_next::Advice;
 
-// A call in numbers: its kind, and two numbers more. A kind without a number here is no call.
+// A call of a list.
 #[derive(Clone, Copy)]
-pub struct CallCode {
-    pub kind: u32,
-    pub first: u32,
-    pub second: u32,
+pub enum Call {
+    // A terminal is carried over an edge.
+    Carry { terminal: u32, edge: u32 },
+    // A turn along the steps from one place up to another.
+    Turn { from: u32, to: u32 },
+    Undo,
+    Hint,
+    Finish,
 }
 
-impl CallCode {
-    // A carry of terminal `first` over edge `second`.
+impl Call {
+    // The kinds in numbers. The first of the two numbers more is a carry's terminal or where a turn's steps begin, the
+    // second a carry's edge or where the steps end.
     pub const CARRY: u32 = 0;
-    // A turn along the steps from `first` up to `second`.
+
     pub const TURN: u32 = 1;
-    // An undo.
+
     pub const UNDO: u32 = 2;
-    // A hint.
+
     pub const HINT: u32 = 3;
-    // A finish.
+
     pub const FINISH: u32 = 4;
+
+    // The call of a kind and two numbers more; none where the kind has no number.
+    pub fn from_numbers(code: [u32; 3]) -> Option<Call>
+        ensures { (steps : List ℕ) → stated steps result ≡
+            call_of steps (slice_index code 0) (slice_index code 1) (slice_index code 2) }
+    {
+        let [kind, first, second] = code;
+        match kind {
+            Call::CARRY => Some(Call::Carry {
+                terminal: first,
+                edge: second,
+            }),
+            Call::TURN => Some(Call::Turn {
+                from: first,
+                to: second,
+            }),
+            Call::UNDO => Some(Call::Undo),
+            Call::HINT => Some(Call::Hint),
+            Call::FINISH => Some(Call::Finish),
+            _ => None,
+        }
+    }
+}
+
+// The move of a hint in numbers, as lists of calls and C (`vulprow_parts_hint`) have it: its kind, terminal, edge and
+// how many steps it has; and the codes of the steps, zeros behind them. No move has the kind NONE.
+#[derive(Clone, Copy)]
+pub struct AdviceNumbers {
+    pub kind: u32,
+    pub terminal: u32,
+    pub edge: u32,
+    pub count: u32,
+    pub steps: [StepCode; Board::MAX_EDGES],
+}
+
+impl From<Option<Advice>> for AdviceNumbers {
+    ghost from_gives = { Tells };
+
+    fn from(advice: Option<Advice>) -> AdviceNumbers {
+        match advice {
+            None => AdviceNumbers {
+                kind: Advice::NONE,
+                terminal: 0,
+                edge: 0,
+                count: 0,
+                steps: [0; Board::MAX_EDGES],
+            },
+            Some(Advice::Carry(carry)) => AdviceNumbers {
+                kind: Advice::CARRY,
+                terminal: carry.terminal,
+                edge: carry.edge,
+                count: 0,
+                steps: [0; Board::MAX_EDGES],
+            },
+            Some(Advice::Turn(walk)) => {
+                let steps = walk.steps;
+                AdviceNumbers {
+                    kind: Advice::TURN,
+                    terminal: 0,
+                    edge: 0,
+                    count: walk.count,
+                    steps,
+                }
+            }
+        }
+    }
 }
 
 // How many numbers of a hint stand before its steps, and how many it has.
@@ -49,8 +137,8 @@ fn turn_part(
     steps: &[u8],
     a: u32,
     c: u32,
-) -> Played
-    ensures journal_after { given_of result journal.new ≡
+) -> Result<Board, Refusal>
+    ensures journal_after { given_of board result journal.new ≡
         turn_call (whole_of board journal.old) (steps_of (part steps.now a c)) }
     ensures journal_after_2 { journal.new ≡ words_after board.moves
         (turn_call (whole_of board journal.old) (steps_of (part steps.now a c))).board
@@ -65,72 +153,86 @@ fn turn_part(
     move_turn::turn(board, journal, &steps[from..to])
 }
 
-// A carry, a turn or an undo.
-fn make(
-    board: Board,
-    journal: &mut [[u64; WORDS]; Board::JOURNAL],
-    steps: &[u8],
-    call: CallCode,
-) -> Played
-    requires { call.kind < hint_code }
-    ensures { OneMade (whole_of board journal.old) journal.old
-        (call_of steps.now call.kind call.first call.second)
-        (given_of result journal.new) journal.new }
-{
-    if call.kind == CallCode::CARRY {
-        return move_carry::carry(board, journal, call.first, call.second);
-    }
-    if call.kind == CallCode::TURN {
-        return turn_part(board, journal, steps, call.first, call.second);
-    }
-    move_undo::undo(board, journal)
-}
-
-// How many answers numbers of this kind leave: one, or none where the kind has no number.
-fn answer_count(kind: u32) -> usize
-    ensures { (steps : List ℕ) (a c : ℕ) → result ≡ length (call_of steps kind a c) }
-{
-    if kind <= CallCode::FINISH {
-        return 1;
-    }
-    0
-}
-
 // Stores the codes of the steps from place k on.
 fn put_steps(buf: &mut [u32], k: usize, steps: [StepCode; Board::MAX_EDGES])
     requires { k ≤ last_place + advice_head }
     ensures { buf.new ≡ sets buf.old k steps }
 {
-    let mut i: usize = 0;
-    while i < Board::MAX_EDGES {
-        lists::put(buf, k + i, steps[i] as u32);
-        i += 1;
+    for (i, step) in steps.iter().enumerate() {
+        lists::put(buf, k + i, u32::from(*step));
     }
 }
 
 // Stores the move of a hint from place k on.
-fn put_advice(buf: &mut [u32], k: usize, advice: Advice)
+fn put_advice(buf: &mut [u32], k: usize, advice: Option<Advice>)
     requires { k ≤ last_place }
-    ensures { buf.new ≡ sets buf.old k (advice_code advice) }
+    ensures { buf.new ≡ sets buf.old k (advice_code (advice_given advice)) }
 {
-    lists::put(buf, k, advice.kind);
-    lists::put(buf, k + 1, advice.terminal);
-    lists::put(buf, k + 2, advice.edge);
-    lists::put(buf, k + 3, advice.count);
-    let steps = advice.steps;
-    put_steps(buf, k + ADVICE_HEAD, steps);
+    let numbers = AdviceNumbers::from(advice);
+    lists::put(buf, k, numbers.kind);
+    lists::put(buf, k + 1, numbers.terminal);
+    lists::put(buf, k + 2, numbers.edge);
+    lists::put(buf, k + 3, numbers.count);
+    put_steps(buf, k + ADVICE_HEAD, numbers.steps);
 }
 
 // Stores the move of a hint from place k on, where the buffer reaches that far; gives the place of the next.
-fn note(buf: &mut [u32], k: usize, advice: Advice) -> usize
+fn note(buf: &mut [u32], k: usize, advice: Option<Advice>) -> usize
     ensures value { result ≡ behind buf.old k }
-    ensures buf_after { buf.new ≡ sets buf.old k (advice_code advice) }
+    ensures buf_after { buf.new ≡ sets buf.old k (advice_code (advice_given advice)) }
 {
     if buf.len() <= k {
         return k;
     }
     put_advice(buf, k, advice);
     k + ADVICE_WIDTH
+}
+
+// Makes a call. The move of a hint goes into the buffer, which is then filled up to the place that is left.
+fn make(
+    board: Board,
+    journal: &mut [[u64; WORDS]; Board::JOURNAL],
+    steps: &[u8],
+    call: Call,
+    hints: &mut [u32],
+    place: &mut usize,
+) -> Result<Board, Refusal>
+    ensures value { reply_of (given_of board result journal.new) ≡
+        made (game_of (whole_of board journal.old)) (told steps.now call) }
+    ensures journal_after { journal.new ≡ words_after board.moves
+        (made (game_of (whole_of board journal.old)) (told steps.now call)).game.board journal.old }
+    ensures hints_after { (rest : List Suggestion) → noted hints.new place.new rest ≡
+        noted hints.old place.old (hint_given (whole_of board journal.old) (told steps.now call) ++ rest) }
+{
+    match call {
+        Call::Carry { terminal, edge } => move_carry::carry(board, journal, terminal, edge),
+        Call::Turn { from, to } => turn_part(board, journal, steps, from, to),
+        Call::Undo => move_undo::undo(board, journal),
+        Call::Hint => match solve_next::hint(board, journal) {
+            Ok(advice) => {
+                *place = note(hints, *place, advice);
+                Ok(board)
+            }
+            Err(refusal) => {
+                *place = note(hints, *place, None);
+                Err(refusal)
+            }
+        },
+        Call::Finish => {
+            let finished = solve_finish::finish(board, journal)?;
+            Ok(finished.board)
+        }
+    }
+}
+
+// 0, or the number that a call is refused with.
+fn answer(given: Result<Board, Refusal>) -> u32
+    ensures { result ≡ answer_of given }
+{
+    match given {
+        Ok(_) => 0,
+        Err(refusal) => u32::from(refusal),
+    }
 }
 
 // Makes the calls, one after the other, and leaves out what is none; writes their answers into one buffer, and the
@@ -157,32 +259,18 @@ pub fn run(
         (calls_of steps.now codes.now)) }
 {
     let mut b = board;
-    let mut left = codes.len();
     let mut k: usize = 0;
     let mut j: usize = 0;
-    while left >= 3 {
-        let i = codes.len() - left;
-        let call = CallCode {
-            kind: codes[i],
-            first: codes[i + 1],
-            second: codes[i + 2],
+    let (whole, _) = codes.as_chunks::<3>();
+    for code in whole {
+        let Some(call) = Call::from_numbers(*code) else {
+            continue;
         };
-        if call.kind < CallCode::HINT {
-            let given = make(b, journal, steps, call);
-            lists::put(buf, k, given.answer);
-            b = given.board;
-        } else if call.kind == CallCode::HINT {
-            let given = solve_next::hint(b, journal);
-            lists::put(buf, k, given.answer);
-            let advice = given.advice;
-            j = note(hints, j, advice);
-        } else if call.kind == CallCode::FINISH {
-            let ended = solve_finish::finish(b, journal);
-            lists::put(buf, k, ended.answer);
-            b = ended.board;
-        }
-        left -= 3;
-        k += answer_count(call.kind);
+        let given = make(b, journal, steps, call, hints, &mut j);
+        let next = given.unwrap_or(b);
+        lists::put(buf, k, answer(given));
+        b = next;
+        k += 1;
     }
     b
 }

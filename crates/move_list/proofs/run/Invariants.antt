@@ -4,9 +4,6 @@ use Rattle.journal.specs.Words.{whole_of}
 use Rattle.move_list.proofs.Going.{Round}
 use Rattle.move_list.proofs.run.Given as goal
 
-abbrev pub invariant-loop-left : goal.invariant-loop-left
-invariant-loop-left l =
-    Round l.steps l.codes l.initial.buf l.initial.hints (whole_of l.initial.b l.initial.journal) l.initial.journal l.buf l.hints (whole_of l.b l.journal) l.journal l.left l.k l.j
-
-abbrev pub decreases-loop-left : goal.decreases-loop-left
-decreases-loop-left l = l.left
+abbrev pub invariant-loop-code : goal.invariant-loop-code
+invariant-loop-code l =
+    Round l.steps l.codes l.whole l.initial.buf l.initial.hints (whole_of l.initial.b l.initial.journal) l.initial.journal l.buf l.hints (whole_of l.b l.journal) l.journal l.code-index l.k l.j
