@@ -32,6 +32,17 @@ pub struct Way {
     pub vertex: u32,
 }
 
+// What the walk looks at, lent: the ends and the flows of the edges, the edges at each vertex, and the positive edges.
+#[derive(Clone, Copy)]
+struct Lent<'a> {
+    tails: &'a [u32],
+    heads: &'a [u32],
+    flows: &'a [u32],
+    leaving: &'a [EdgeSet],
+    entering: &'a [EdgeSet],
+    positive: EdgeSet,
+}
+
 // The lowest positive edge with this end at v other than x, or a number that no edge has.
 fn another(edges: &[EdgeSet], positive: EdgeSet, v: u32, x: u32) -> u32
     ensures { result ≡ another_by (sets_of edges.now) (set_of positive) v x }
@@ -93,115 +104,60 @@ fn walk_from(way: Way, k: u32) -> Walk
     let rest = way.count - k;
     let mut steps: [StepCode; Board::MAX_EDGES] = [0; Board::MAX_EDGES];
     steps[..rest as usize].copy_from_slice(&way.steps[k as usize..way.count as usize]);
-    Walk {
-        count: rest,
-        steps: steps,
-    }
+    Walk { count: rest, steps }
 }
 
 // Goes on from where the walk has come to over an edge down, or without a step: down by the lowest edge; up where none
 // leaves.
 #[cycle(down_walk_up_walk)]
-fn down_walk<'a>(
-    tails: &'a [u32],
-    heads: &'a [u32],
-    flows: &'a [u32],
-    leaving: &'a [EdgeSet],
-    entering: &'a [EdgeSet],
-    positive: EdgeSet,
-    left: u32,
-    way: &mut Way,
-)
+fn down_walk<'a>(net: &'a Lent<'a>, left: u32, way: &mut Way)
     requires left_bound { way.old.count + left ≤ max_vertices }
-    requires charted { Charted tails.now heads.now flows.now (sets_of leaving.now) (sets_of entering.now)
-        (set_of positive) }
-    requires seen { Seen tails.now heads.now (gone way.old) way.old.seen }
+    requires charted { Charted net.now.tails.now net.now.heads.now net.now.flows.now (sets_of net.now.leaving.now)
+        (sets_of net.now.entering.now) (set_of net.now.positive) }
+    requires seen { Seen net.now.tails.now net.now.heads.now (gone way.old) way.old.seen }
     requires vertex_lt_max_vertices { way.old.vertex < max_vertices }
-    ensures { StopsWith tails.now heads.now (down_walk tails.now heads.now flows.now
-        (another tails.now flows.now) (another heads.now flows.now) left
+    ensures { StopsWith net.now.tails.now net.now.heads.now
+        (down_walk net.now.tails.now net.now.heads.now net.now.flows.now
+        (another net.now.tails.now net.now.flows.now) (another net.now.heads.now net.now.flows.now) left
         (gone way.old) way.old.edge way.old.vertex) way.new }
 {
     if lists::or(left == 0, sets::word::has(way.seen, way.vertex as usize)) {
         return;
     }
-    let e = another(leaving, positive, way.vertex, way.edge);
-    if (e as usize) < flows.len() {
-        step_on(tails, heads, false, e, way);
-        return down_walk(
-            tails,
-            heads,
-            flows,
-            leaving,
-            entering,
-            positive,
-            left - 1,
-            way,
-        );
+    let e = another(net.leaving, net.positive, way.vertex, way.edge);
+    if (e as usize) < net.flows.len() {
+        step_on(net.tails, net.heads, false, e, way);
+        return down_walk(net, left - 1, way);
     }
-    let c = another(entering, positive, way.vertex, way.edge);
-    step_on(heads, tails, true, c, way);
-    up_walk(
-        tails,
-        heads,
-        flows,
-        leaving,
-        entering,
-        positive,
-        left - 1,
-        way,
-    )
+    let c = another(net.entering, net.positive, way.vertex, way.edge);
+    step_on(net.heads, net.tails, true, c, way);
+    up_walk(net, left - 1, way)
 }
 
 // Goes on from where the walk has come to over an edge up: up while one edge leaves; down where two or more do.
 #[cycle(down_walk_up_walk)]
-fn up_walk<'a>(
-    tails: &'a [u32],
-    heads: &'a [u32],
-    flows: &'a [u32],
-    leaving: &'a [EdgeSet],
-    entering: &'a [EdgeSet],
-    positive: EdgeSet,
-    left: u32,
-    way: &mut Way,
-)
+fn up_walk<'a>(net: &'a Lent<'a>, left: u32, way: &mut Way)
     requires left_bound { way.old.count + left ≤ max_vertices }
-    requires charted { Charted tails.now heads.now flows.now (sets_of leaving.now) (sets_of entering.now)
-        (set_of positive) }
-    requires seen { Seen tails.now heads.now (gone way.old) way.old.seen }
+    requires charted { Charted net.now.tails.now net.now.heads.now net.now.flows.now (sets_of net.now.leaving.now)
+        (sets_of net.now.entering.now) (set_of net.now.positive) }
+    requires seen { Seen net.now.tails.now net.now.heads.now (gone way.old) way.old.seen }
     requires vertex_lt_max_vertices { way.old.vertex < max_vertices }
-    ensures { StopsWith tails.now heads.now (up_walk tails.now heads.now flows.now
-        (another tails.now flows.now) (another heads.now flows.now) left
+    ensures { StopsWith net.now.tails.now net.now.heads.now
+        (up_walk net.now.tails.now net.now.heads.now net.now.flows.now
+        (another net.now.tails.now net.now.flows.now) (another net.now.heads.now net.now.flows.now) left
         (gone way.old) way.old.edge way.old.vertex) way.new }
 {
     if lists::or(left == 0, sets::word::has(way.seen, way.vertex as usize)) {
         return;
     }
-    if parts(leaving, positive, way.vertex) {
-        let e = another(leaving, positive, way.vertex, way.edge);
-        step_on(tails, heads, false, e, way);
-        return down_walk(
-            tails,
-            heads,
-            flows,
-            leaving,
-            entering,
-            positive,
-            left - 1,
-            way,
-        );
+    if parts(net.leaving, net.positive, way.vertex) {
+        let e = another(net.leaving, net.positive, way.vertex, way.edge);
+        step_on(net.tails, net.heads, false, e, way);
+        return down_walk(net, left - 1, way);
     }
-    let c = another(entering, positive, way.vertex, way.edge);
-    step_on(heads, tails, true, c, way);
-    up_walk(
-        tails,
-        heads,
-        flows,
-        leaving,
-        entering,
-        positive,
-        left - 1,
-        way,
-    )
+    let c = another(net.entering, net.positive, way.vertex, way.edge);
+    step_on(net.heads, net.tails, true, c, way);
+    up_walk(net, left - 1, way)
 }
 
 // The cycle that the walk from the source finds.
@@ -229,9 +185,15 @@ pub fn cycle<'a>(
         edge: flows.len() as u32,
         vertex: source,
     };
-    down_walk(
-        tails, heads, flows, leaving, entering, positive, vertices, &mut way,
-    );
+    let net = Lent {
+        tails,
+        heads,
+        flows,
+        leaving,
+        entering,
+        positive,
+    };
+    down_walk(&net, vertices, &mut way);
     let from = first_met(tails, heads, way, way.vertex);
     walk_from(way, from)
 }

@@ -29,15 +29,15 @@ down_some : (t : ℕ) (c : down_walk-Else-or t) → c.args.left ≡ 0 → ⊥
 down_some t c = left_some _ _ _ c.or.ensures c.if-or.false
 
 -- the edge that it goes on by
-down_fell : (t : ℕ) (c : down_walk-After-another-e t) → c.another-e.result ≡ another c.args.tails.now c.args.flows.now c.args.way.now.vertex c.args.way.now.edge
+down_fell : (t : ℕ) (c : down_walk-After-another-e t) → c.another-e.result ≡ another c.args.net.now.tails.now c.args.net.now.flows.now c.args.way.now.vertex c.args.way.now.edge
 down_fell t c = c.another-e.ensures ∙ falls_in _ _ _ _ _ _ _ c.requires.charted (search rules) c.requires.vertex_lt_max_vertices _
 
-down_climbed : (t : ℕ) (c : down_walk-After-another-c t) → c.another-c.result ≡ another c.args.heads.now c.args.flows.now c.args.way.now.vertex c.args.way.now.edge
+down_climbed : (t : ℕ) (c : down_walk-After-another-c t) → c.another-c.result ≡ another c.args.net.now.heads.now c.args.net.now.flows.now c.args.way.now.vertex c.args.way.now.edge
 down_climbed t c = c.another-c.ensures ∙ climbs_in _ _ _ _ _ _ _ c.requires.charted (search rules) c.requires.vertex_lt_max_vertices _
 
 pub down_walk-returns-then-or : goal.down_walk-returns-then-or
 down_walk-returns-then-or t c =
-    down_stops _ _ _ _ _ _ _ _ _ (λ w. StopsWith c.args.tails.now c.args.heads.now w c.args.way.now) (c.requires.seen _ c.requires.vertex_lt_max_vertices) (stop_is _ _ _ _ _ c.has.ensures c.or.ensures) c.if-or.true
+    down_stops _ _ _ _ _ _ _ _ _ (λ w. StopsWith c.args.net.now.tails.now c.args.net.now.heads.now w c.args.way.now) (c.requires.seen _ c.requires.vertex_lt_max_vertices) (stop_is _ _ _ _ _ c.has.ensures c.or.ensures) c.if-or.true
     (record { cycle = refl; short = room_now _ _ c.requires.left_bound })
 
 pub down_walk-step_on-requires-clause-count_lt_max_vertices : goal.down_walk-step_on-requires-clause-count_lt_max_vertices
@@ -56,10 +56,10 @@ down_walk-down_walk-requires t c =
     let small : c.step_on.new.way.vertex < max_vertices = rw longer.vertex (c.requires.charted.headed _) in
     (omega (arith, some, c.decreases), (room, (c.requires.charted, (met, small))))
 
-pub down_walk-returns-then-e-flows : goal.down_walk-returns-then-e-flows
-down_walk-returns-then-e-flows t c =
-    down_falls _ _ _ _ _ _ _ _ _ (λ w. StopsWith c.args.tails.now c.args.heads.now w c.down_walk.new.way) (c.requires.seen _ c.requires.vertex_lt_max_vertices) (stop_is _ _ _ _ _ c.has.ensures c.or.ensures) c.if-or.false _ _ _
-    (down_fell t (goal.at.down_walk-returns-then-e-flows t c).After-another-e) c.if-e-flows.true
+pub down_walk-returns-then-e-net : goal.down_walk-returns-then-e-net
+down_walk-returns-then-e-net t c =
+    down_falls _ _ _ _ _ _ _ _ _ (λ w. StopsWith c.args.net.now.tails.now c.args.net.now.heads.now w c.down_walk.new.way) (c.requires.seen _ c.requires.vertex_lt_max_vertices) (stop_is _ _ _ _ _ c.has.ensures c.or.ensures) c.if-or.false _ _ _
+    (down_fell t (goal.at.down_walk-returns-then-e-net t c).After-another-e) c.if-e-net.true
     c.step_on.ensures.steps c.step_on.ensures.vertex (rw c.step_on.ensures.edge at c.down_walk.ensures)
 
 pub down_walk-step_on-requires-2-clause-count_lt_max_vertices : goal.down_walk-step_on-requires-2-clause-count_lt_max_vertices
@@ -86,8 +86,8 @@ down_walk-up_walk-requires t c =
 pub down_walk-returns : goal.down_walk-returns
 down_walk-returns t c =
     let at = goal.at.down_walk-returns t c in
-    down_climbs _ _ _ _ _ _ _ _ _ (λ w. StopsWith c.args.tails.now c.args.heads.now w c.up_walk.new.way) (c.requires.seen _ c.requires.vertex_lt_max_vertices) (stop_is _ _ _ _ _ c.has.ensures c.or.ensures) c.if-or.false _ _ _ _
-    (down_fell t at.After-another-e) c.if-e-flows.false (down_climbed t at.After-another-c)
+    down_climbs _ _ _ _ _ _ _ _ _ (λ w. StopsWith c.args.net.now.tails.now c.args.net.now.heads.now w c.up_walk.new.way) (c.requires.seen _ c.requires.vertex_lt_max_vertices) (stop_is _ _ _ _ _ c.has.ensures c.or.ensures) c.if-or.false _ _ _ _
+    (down_fell t at.After-another-e) c.if-e-net.false (down_climbed t at.After-another-c)
     c.step_on-2.ensures.steps c.step_on-2.ensures.vertex (rw c.step_on-2.ensures.edge at c.up_walk.ensures)
 
 -- ---- the walk came up
@@ -97,19 +97,19 @@ up_some : (t : ℕ) (c : up_walk-Else-or t) → c.args.left ≡ 0 → ⊥
 up_some t c = left_some _ _ _ c.or.ensures c.if-or.false
 
 -- whether it parts there
-up_parted : (t : ℕ) (c : up_walk-After-parts t) → c.parts.result ≡ parts c.args.tails.now c.args.flows.now c.args.way.now.vertex
+up_parted : (t : ℕ) (c : up_walk-After-parts t) → c.parts.result ≡ parts c.args.net.now.tails.now c.args.net.now.flows.now c.args.way.now.vertex
 up_parted t c = c.parts.ensures ∙ parting_in _ _ _ _ _ _ _ c.requires.charted (search rules) c.requires.vertex_lt_max_vertices
 
 -- the edge that it goes on by
-up_fell : (t : ℕ) (c : up_walk-After-another-e t) → c.another-e.result ≡ another c.args.tails.now c.args.flows.now c.args.way.now.vertex c.args.way.now.edge
+up_fell : (t : ℕ) (c : up_walk-After-another-e t) → c.another-e.result ≡ another c.args.net.now.tails.now c.args.net.now.flows.now c.args.way.now.vertex c.args.way.now.edge
 up_fell t c = c.another-e.ensures ∙ falls_in _ _ _ _ _ _ _ c.requires.charted (search rules) c.requires.vertex_lt_max_vertices _
 
-up_climbed : (t : ℕ) (c : up_walk-After-another-c t) → c.another-c.result ≡ another c.args.heads.now c.args.flows.now c.args.way.now.vertex c.args.way.now.edge
+up_climbed : (t : ℕ) (c : up_walk-After-another-c t) → c.another-c.result ≡ another c.args.net.now.heads.now c.args.net.now.flows.now c.args.way.now.vertex c.args.way.now.edge
 up_climbed t c = c.another-c.ensures ∙ climbs_in _ _ _ _ _ _ _ c.requires.charted (search rules) c.requires.vertex_lt_max_vertices _
 
 pub up_walk-returns-then-or : goal.up_walk-returns-then-or
 up_walk-returns-then-or t c =
-    up_stops _ _ _ _ _ _ _ _ _ (λ w. StopsWith c.args.tails.now c.args.heads.now w c.args.way.now) (c.requires.seen _ c.requires.vertex_lt_max_vertices) (stop_is _ _ _ _ _ c.has.ensures c.or.ensures) c.if-or.true
+    up_stops _ _ _ _ _ _ _ _ _ (λ w. StopsWith c.args.net.now.tails.now c.args.net.now.heads.now w c.args.way.now) (c.requires.seen _ c.requires.vertex_lt_max_vertices) (stop_is _ _ _ _ _ c.has.ensures c.or.ensures) c.if-or.true
     (record { cycle = refl; short = room_now _ _ c.requires.left_bound })
 
 pub up_walk-step_on-requires-clause-count_lt_max_vertices : goal.up_walk-step_on-requires-clause-count_lt_max_vertices
@@ -136,7 +136,7 @@ up_walk-down_walk-requires t c =
 pub up_walk-returns-then-parts : goal.up_walk-returns-then-parts
 up_walk-returns-then-parts t c =
     let at = goal.at.up_walk-returns-then-parts t c in
-    up_falls _ _ _ _ _ _ _ _ _ (λ w. StopsWith c.args.tails.now c.args.heads.now w c.down_walk.new.way) (c.requires.seen _ c.requires.vertex_lt_max_vertices) (stop_is _ _ _ _ _ c.has.ensures c.or.ensures) c.if-or.false _ _ _
+    up_falls _ _ _ _ _ _ _ _ _ (λ w. StopsWith c.args.net.now.tails.now c.args.net.now.heads.now w c.down_walk.new.way) (c.requires.seen _ c.requires.vertex_lt_max_vertices) (stop_is _ _ _ _ _ c.has.ensures c.or.ensures) c.if-or.false _ _ _
     (sym (up_parted t at.After-parts) ∙ c.if-parts.true) (up_fell t at.After-another-e)
     c.step_on.ensures.steps c.step_on.ensures.vertex (rw c.step_on.ensures.edge at c.down_walk.ensures)
 
@@ -164,6 +164,6 @@ up_walk-up_walk-requires t c =
 pub up_walk-returns : goal.up_walk-returns
 up_walk-returns t c =
     let at = goal.at.up_walk-returns t c in
-    up_climbs _ _ _ _ _ _ _ _ _ (λ w. StopsWith c.args.tails.now c.args.heads.now w c.up_walk.new.way) (c.requires.seen _ c.requires.vertex_lt_max_vertices) (stop_is _ _ _ _ _ c.has.ensures c.or.ensures) c.if-or.false _ _ _
+    up_climbs _ _ _ _ _ _ _ _ _ (λ w. StopsWith c.args.net.now.tails.now c.args.net.now.heads.now w c.up_walk.new.way) (c.requires.seen _ c.requires.vertex_lt_max_vertices) (stop_is _ _ _ _ _ c.has.ensures c.or.ensures) c.if-or.false _ _ _
     (sym (up_parted t at.After-parts) ∙ c.if-parts.false) (up_climbed t at.After-another-c)
     c.step_on-2.ensures.steps c.step_on-2.ensures.vertex (rw c.step_on-2.ensures.edge at c.up_walk.ensures)
