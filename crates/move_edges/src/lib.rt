@@ -57,6 +57,7 @@ pub fn touching(edges: &[EdgeSet], positive: EdgeSet, v: u32) -> EdgeSet
 // sets.
 
 // Whether v and each vertex after it has at most one positive edge leaving, for as many vertices as are left.
+// It calls itself and is no loop: document 01 asks for this form (docs/DECISIONS.md).
 fn straight<'a>(
     heads: &'a [u32],
     leaving: &'a [EdgeSet],

@@ -108,7 +108,7 @@ fn walk_from(way: Way, k: u32) -> Walk
 }
 
 // Goes on from where the walk has come to over an edge down, or without a step: down by the lowest edge; up where none
-// leaves.
+// leaves. The two call each other and are no loop: document 01 asks for this form (docs/DECISIONS.md).
 #[cycle(down_walk_up_walk)]
 fn down_walk<'a>(net: &'a Lent<'a>, left: u32, way: &mut Way)
     requires left_bound { way.old.count + left ≤ max_vertices }
