@@ -14,11 +14,13 @@ use Rattle.lists.specs.Choice.{pick, both}
 use Rattle.lists.proofs.Laws.{Known, was_true, was_false, known, pick_yes, pick_no}
 use Rattle.std.specs.Prelude.{Option, Some, None}
 use Rattle.decimal.specs.Decimal.{max_digits}
+use Rattle.play_lines.specs.declared.Kind.{Kind}
+use Rattle.play_lines.specs.declared.Kind.TheVariants.{Nothing, Carry, CarryFrom, CarryWhole, Turn, TurnEdge}
 use Rattle.play_lines.specs.declared.Piece.{Piece}
 use Rattle.play_lines.specs.declared.Form.{Form}
 use Rattle.play_lines.specs.declared.Scan.{Scan}
 use Rattle.play_lines.specs.Orders.{onto, fields_of, order_of}
-use Rattle.play_lines.specs.Scans.{no_piece, piece_taken, nothing_read, numbered, begun, way_taken, with_step, form_taken, no_scan, scan_taken, scan_all, scanned, is_blank}
+use Rattle.play_lines.specs.Scans.{no_piece, piece_taken, piece_number, with_first, with_second, is_nothing, numbered, begun, way_taken, with_step, taken_by, form_taken, no_scan, scan_taken, scan_all, scanned, is_blank}
 use Rattle.play_lines.specs.Inner.{StandsFor}
 use Rattle.play_lines.proofs.Pieces.{Reads, reads_none, reads_next}
 use Rattle.play_lines.proofs.Shapes.{Shape, begin, order_from, shape_taken, shape_step}
@@ -100,7 +102,7 @@ scan_join s (c ∷ l) l' = scan_join (scan_taken s c) l l'
 
 -- a form into which a field was taken has a kind
 abbrev HasKind : Form → Type 0
-HasKind f = eqb f.kind nothing_read ≡ false
+HasKind f = is_nothing f.kind ≡ false
 
 pick-begun : (b : Bool) (f g : Form) → HasKind f → HasKind g → HasKind (pick b f g)
 unfolding pick
@@ -121,7 +123,15 @@ way_begun f p = search pick-begun depth 8
 
 taken_begun : (f : Form) (p : Piece) → HasKind (form_taken f p)
 unfolding form_taken
-taken_begun f p = search (pick-begun, numbered-begun, first_begun, way_begun) depth 8
+taken_begun f p = split f.kind
+  where
+    split : (k : Kind) → HasKind (taken_by k f p)
+    split Nothing = first_begun f p
+    split Carry = numbered-begun f (λ n. with_first CarryFrom n f) (piece_number p) (λ n. refl)
+    split CarryFrom = numbered-begun f (λ n. with_second CarryWhole n f) (piece_number p) (λ n. refl)
+    split Turn = numbered-begun f (λ n. with_first TurnEdge n f) (piece_number p) (λ n. refl)
+    split TurnEdge = way_begun f p
+    split _ = refl
 
 -- a field into which a byte was taken has a size
 taken_size : (p : Piece) (c : ℕ) → eqb (piece_taken p c).size 0 ≡ false
@@ -143,7 +153,7 @@ taken_blank t c = split (known (eqb c 44))
 
     split : Known (eqb c 44) → is_blank (scan_taken t c) ≡ false
     split (was_true e) = rw (comma_scan t c e, taken_begun t.form t.piece)
-    split (was_false e) = rw (byte_scan t c e, taken_size t.piece c) (neither (eqb t.form.kind nothing_read))
+    split (was_false e) = rw (byte_scan t c e, taken_size t.piece c) (neither (is_nothing t.form.kind))
 
 all-blank : (s : List ℕ) (t : Scan) → is_blank t ≡ false → is_blank (scan_all t s) ≡ false
 unfolding scan_all

@@ -18,8 +18,9 @@ use Rattle.graph_flows.specs.Trails.{Step, edge_of}
 use Rattle.move_cycle.specs.Steps.{code_up, code_step, code_steps, step_code, stride}
 use Rattle.move_cycle.specs.Inner.{greatest_edge}
 use Rattle.move_cycle.proofs.Codes.{stride_edge, stride_code, steps_join}
+use Rattle.play_lines.specs.declared.Kind.TheVariants.{Turn}
 use Rattle.play_lines.specs.declared.Form.{Form}
-use Rattle.play_lines.specs.Scans.{kept_code, with_step, turn_form}
+use Rattle.play_lines.specs.Scans.{kept_code, with_step}
 use Rattle.play_lines.specs.Inner.{KeepsSteps}
 
 -- what a form keeps of the steps w
@@ -108,5 +109,5 @@ unfolding greatest_edge code_steps
 holds_none f c g l = record { places = l; greatest = g; few = λ m. c; many = λ m. absurd (omega arith); steps = λ m b. rw c }
 
 -- a form that keeps steps is that of their turn
-pub keeps_steps : (w : List Step) (f : Form) → f.kind ≡ turn_form → HoldsSteps w f → KeepsSteps w f
+pub keeps_steps : (w : List Step) (f : Form) → f.kind ≡ Turn → HoldsSteps w f → KeepsSteps w f
 keeps_steps w f k h = record { kind = k; greatest = h.greatest; few = h.few; many = h.many; steps = h.steps }

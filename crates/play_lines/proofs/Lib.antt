@@ -1,10 +1,8 @@
-pub mod Loops
 pub mod Pieces
 pub mod Shapes
 pub mod Grown
 pub mod Follows
 pub mod Exact
-pub mod Tests
-pub mod MovesWritten
 pub mod MovesRead
 pub mod MovesShort
+pub mod MovesWritten

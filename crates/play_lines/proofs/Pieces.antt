@@ -141,7 +141,7 @@ module _ (f : List ℕ) (p : Piece) (r : Reads f p) where
       same : p.size ≡ length f
       same = omega (arith, r.size)
 
-      refused : (a b : Bool) → None ≡ pick a (pick b None None) None
+      refused : (a b : Bool) → ◌≡◌ {A = Option ℕ} None (pick a (pick b None None) None)
       refused true true = refl
       refused true false = refl
       refused false b = refl
@@ -169,7 +169,7 @@ module _ (f : List ℕ) (p : Piece) (r : Reads f p) where
       split (inr h) = few_number h
 
   pub is_letter_lem : (x : ℕ) → piece_is x p ≡ is_letter x f
-  unfolding piece_is is_letter both
+  unfolding is_letter both
   is_letter_lem x = split (lt_or_ge max_digits (length f))
     where
       split : (max_digits < length f) ⊎ (length f ≤ max_digits) → piece_is x p ≡ is_letter x f

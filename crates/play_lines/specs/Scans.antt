@@ -5,6 +5,8 @@ use Rattle.decimal.specs.Decimal.{max_digits}
 use Rattle.std.specs.Prelude.{Option, Some, None}
 use Rattle.board.specs.Limits.{max_edges}
 use Rattle.move_cycle.specs.Steps.{code_up, step_code, stride}
+use Rattle.play_lines.specs.declared.Kind.{Kind}
+use Rattle.play_lines.specs.declared.Kind.TheVariants.{Nothing, Other, Hint, Undo, Finish, Carry, CarryFrom, CarryWhole, Turn, TurnEdge}
 use Rattle.play_lines.specs.declared.Piece.{Piece}
 use Rattle.play_lines.specs.declared.Form.{Form}
 use Rattle.play_lines.specs.declared.Scan.{Scan}
@@ -33,59 +35,42 @@ piece_number p =
     (pick (both (ltb 1 p.size) (eqb p.initial 48)) None (Some p.value))
     None
 
-unfoldable pub piece_is : ℕ → Piece → Bool
+abbrev pub piece_is : ℕ → Piece → Bool
 piece_is x p = both (eqb p.size 1) (eqb p.initial x)
 
 -- ---- the fields before it: which line they begin, with its numbers so far
 
--- nothing read yet; a line of another form; `H`, `U`, `F`; `K` with no, one and both numbers; `T` with pairs, and with an edge whose way is to come
-abbrev pub nothing_read : ℕ
-nothing_read = 0
+-- nothing was read yet
+abbrev pub is_nothing : Kind → Bool
+is_nothing Nothing = true
+is_nothing _ = false
 
-abbrev pub other_form : ℕ
-other_form = 1
+-- a hint or a finish is asked for
+abbrev pub is_hint : Kind → Bool
+is_hint Hint = true
+is_hint _ = false
 
-abbrev pub hint_form : ℕ
-hint_form = 2
-
-abbrev pub undo_form : ℕ
-undo_form = 3
-
-abbrev pub finish_form : ℕ
-finish_form = 4
-
-abbrev pub carry_form : ℕ
-carry_form = 5
-
-abbrev pub carry_from : ℕ
-carry_from = 6
-
-abbrev pub carry_whole : ℕ
-carry_whole = 7
-
-abbrev pub turn_form : ℕ
-turn_form = 8
-
-abbrev pub turn_edge : ℕ
-turn_edge = 9
+abbrev pub is_finish : Kind → Bool
+is_finish Finish = true
+is_finish _ = false
 
 abbrev pub no_form : Form
-no_form = record { kind = nothing_read; first = 0; second = 0; count = 0; greatest = 0; steps = replicate max_edges 0 }
+no_form = record { kind = Nothing; first = 0; second = 0; count = 0; greatest = 0; steps = replicate max_edges 0 }
 
 -- a form of another kind, with nothing else changed; with a first number; and with a second
-abbrev pub of_kind : ℕ → Form → Form
+abbrev pub of_kind : Kind → Form → Form
 of_kind k f = record { kind = k; first = f.first; second = f.second; count = f.count; greatest = f.greatest; steps = f.steps }
 
-abbrev pub with_first : ℕ → ℕ → Form → Form
+abbrev pub with_first : Kind → ℕ → Form → Form
 with_first k n f = record { kind = k; first = n; second = f.second; count = f.count; greatest = f.greatest; steps = f.steps }
 
-abbrev pub with_second : ℕ → ℕ → Form → Form
+abbrev pub with_second : Kind → ℕ → Form → Form
 with_second k n f = record { kind = k; first = f.first; second = n; count = f.count; greatest = f.greatest; steps = f.steps }
 
 -- a number field that leads to kind k
 abbrev pub numbered : (ℕ → Form) → Form → Option ℕ → Form
 numbered k f (Some n) = k n
-numbered k f None = of_kind other_form f
+numbered k f None = of_kind Other f
 
 -- a step's code, 0 for an edge too large for one
 unfoldable pub kept_code : Bool → ℕ → ℕ
@@ -94,7 +79,7 @@ kept_code goes_up e = pick (ltb e code_up) (step_code (stride goes_up e)) 0
 -- one step more: how many, more than there are edges counted as one more than these; the greatest edge; and the first of them
 unfoldable pub with_step : Bool → Form → Form
 with_step goes_up f = record {
-  kind = turn_form;
+  kind = Turn;
   first = 0;
   second = f.second;
   count = pick (leb f.count max_edges) (f.count + 1) f.count;
@@ -105,24 +90,27 @@ with_step goes_up f = record {
 -- the first field
 unfoldable pub begun : Form → Piece → Form
 begun f p =
-    pick (piece_is 75 p) (of_kind carry_form f)
-    (pick (piece_is 84 p) (of_kind turn_form f)
-    (pick (piece_is 72 p) (of_kind hint_form f)
-    (pick (piece_is 85 p) (of_kind undo_form f)
-    (pick (piece_is 70 p) (of_kind finish_form f) (of_kind other_form f)))))
+    pick (piece_is 75 p) (of_kind Carry f)
+    (pick (piece_is 84 p) (of_kind Turn f)
+    (pick (piece_is 72 p) (of_kind Hint f)
+    (pick (piece_is 85 p) (of_kind Undo f)
+    (pick (piece_is 70 p) (of_kind Finish f) (of_kind Other f)))))
 
 -- a way
 unfoldable pub way_taken : Form → Piece → Form
-way_taken f p = pick (piece_is 68 p) (with_step false f) (pick (piece_is 85 p) (with_step true f) (of_kind other_form f))
+way_taken f p = pick (piece_is 68 p) (with_step false f) (pick (piece_is 85 p) (with_step true f) (of_kind Other f))
 
--- one field more
+-- one field more, by the kind
+abbrev pub taken_by : Kind → Form → Piece → Form
+taken_by Nothing f p = begun f p
+taken_by Carry f p = numbered (λ n. with_first CarryFrom n f) f (piece_number p)
+taken_by CarryFrom f p = numbered (λ n. with_second CarryWhole n f) f (piece_number p)
+taken_by Turn f p = numbered (λ n. with_first TurnEdge n f) f (piece_number p)
+taken_by TurnEdge f p = way_taken f p
+taken_by _ f p = of_kind Other f
+
 unfoldable pub form_taken : Form → Piece → Form
-form_taken f p =
-    pick (eqb f.kind nothing_read) (begun f p)
-    (pick (eqb f.kind carry_form) (numbered (λ n. with_first carry_from n f) f (piece_number p))
-    (pick (eqb f.kind carry_from) (numbered (λ n. with_second carry_whole n f) f (piece_number p))
-    (pick (eqb f.kind turn_form) (numbered (λ n. with_first turn_edge n f) f (piece_number p))
-    (pick (eqb f.kind turn_edge) (way_taken f p) (of_kind other_form f)))))
+form_taken f p = taken_by f.kind f p
 
 -- ---- a line
 
@@ -147,6 +135,6 @@ scanned s = form_taken s.form s.piece
 
 -- whether no byte of the line was read yet
 unfoldable pub is_blank : Scan → Bool
-is_blank s = both (eqb s.form.kind nothing_read) (eqb s.piece.size 0)
+is_blank s = both (is_nothing s.form.kind) (eqb s.piece.size 0)
 
 -- ---- what a form stands for
