@@ -39,7 +39,7 @@ pub fn read_number(s: &[u8]) -> Option<u32>
     scan(s)
 }
 
-// How many digits n is written with.
+// How many digits n is written with: as ranges, in place of `ilog10`, so that they can be held against the layout rule.
 pub fn digit_count(n: u32) -> usize
     ensures { result ≡ length (decimal n) }
 {

@@ -1,6 +1,6 @@
 -- The laws that the loops cite: what is left of a run, before and after one round, each in the code's own shape.
 use mathlib.Core.Path.{◌≡◌, refl, ◌∙◌}
-use mathlib.Core.Bool.{Bool, true, false}
+use mathlib.Core.Bool.{Bool, true, false, ◌||◌, true≢false}
 use mathlib.Core.List.{List}
 use Prim.Native.Nat.{ℕ, zero, suc, ◌+◌, ◌-◌, ◌<◌, ◌≤◌}
 use native.Mathlib.Numerals.{add-one}
@@ -14,6 +14,11 @@ step n i h = omega arith
 
 none : (n i : ℕ) → n ≤ i → n - i ≡ 0
 none n i h = omega arith
+
+-- a test of two that does not hold
+pub neither : (a b : Bool) → (a || b) ≡ false → (a ≡ false) × (b ≡ false)
+neither true b h = absurd (true≢false h)
+neither false b h = (refl, h)
 
 -- passes over the edges
 module _ (from to flows : List ℕ) where

@@ -28,13 +28,7 @@ fn join(bitsets: &mut [VertexSet], start: usize, end: usize) -> bool
 
 // Where edge e is positive, the bitset of its end takes in the bitset of its start. Answers whether the bitsets
 // changed.
-fn cross<'a>(
-    from: &'a [u32],
-    to: &'a [u32],
-    flows: &'a [u32],
-    bitsets: &mut [VertexSet],
-    e: usize,
-) -> bool
+fn cross(from: &[u32], to: &[u32], flows: &[u32], bitsets: &mut [VertexSet], e: usize) -> bool
     ensures bitsets_after { bitsets.new ≡
         pick (ltb 0 (get_or flows.now e 0)) (set bitsets.old (get_or to.now e 0)
         (joined (get_or bitsets.old (get_or to.now e 0) none)
@@ -50,7 +44,7 @@ fn cross<'a>(
 }
 
 // One pass over the edges, for every vertex at once. Answers whether the bitsets changed.
-fn pass<'a>(from: &'a [u32], to: &'a [u32], flows: &'a [u32], bitsets: &mut [VertexSet]) -> bool
+fn pass(from: &[u32], to: &[u32], flows: &[u32], bitsets: &mut [VertexSet]) -> bool
     ensures by_index { (v : ℕ) → column bitsets.new v ≡
         pass from.now to.now flows.now 0 (length flows.now)
         (column bitsets.old v) }
@@ -58,8 +52,7 @@ fn pass<'a>(from: &'a [u32], to: &'a [u32], flows: &'a [u32], bitsets: &mut [Ver
 {
     let mut any_changed = false;
     for e in 0..flows.len() {
-        let joined = cross(from, to, flows, bitsets, e);
-        any_changed = lists::or(any_changed, joined);
+        any_changed |= cross(from, to, flows, bitsets, e);
     }
     any_changed
 }
@@ -76,7 +69,7 @@ fn clear(bitsets: &mut [VertexSet])
 }
 
 // Passes over the edges until the bitsets no longer change.
-fn spread<'a>(from: &'a [u32], to: &'a [u32], flows: &'a [u32], bitsets: &mut [VertexSet])
+fn spread(from: &[u32], to: &[u32], flows: &[u32], bitsets: &mut [VertexSet])
     ensures { (v : ℕ) → column bitsets.new v ≡
         passes from.now to.now flows.now (length bitsets.old)
         (column bitsets.old v) }
@@ -89,7 +82,7 @@ fn spread<'a>(from: &'a [u32], to: &'a [u32], flows: &'a [u32], bitsets: &mut [V
 }
 
 // The bitsets in which a vertex u has v where u can be reached from v over positive edges.
-pub fn reach<'a>(from: &'a [u32], to: &'a [u32], flows: &'a [u32], bitsets: &mut [VertexSet])
+pub fn reach(from: &[u32], to: &[u32], flows: &[u32], bitsets: &mut [VertexSet])
     requires { length bitsets.old ≤ word_width }
     ensures { (v : ℕ) → column bitsets.new v ≡
         reached from.now to.now flows.now (length bitsets.old) v }
@@ -118,14 +111,7 @@ fn empty(edges: &mut [EdgeSet])
 }
 
 // Where edge e is positive and leads into the set, it joins the edges of the vertex that it leaves.
-fn leave<'a>(
-    from: &'a [u32],
-    to: &'a [u32],
-    flows: &'a [u32],
-    seen: &'a [bool],
-    edges: &mut [EdgeSet],
-    e: usize,
-)
+fn leave(from: &[u32], to: &[u32], flows: &[u32], seen: &[bool], edges: &mut [EdgeSet], e: usize)
     requires { e < set_width }
     ensures { (v : ℕ) → v < length edges.old → get_or (sets_of edges.new) v none ≡
         pick (leads from.now to.now flows.now seen.now v e)
@@ -144,13 +130,7 @@ fn leave<'a>(
 }
 
 // For each vertex the set of the positive edges that leave it and lead into the set.
-pub fn leaving<'a>(
-    from: &'a [u32],
-    to: &'a [u32],
-    flows: &'a [u32],
-    seen: &'a [bool],
-    edges: &mut [EdgeSet],
-)
+pub fn leaving(from: &[u32], to: &[u32], flows: &[u32], seen: &[bool], edges: &mut [EdgeSet])
     requires { length flows.now ≤ set_width }
     ensures { (v : ℕ) → v < length edges.old → get_or (sets_of edges.new) v none ≡
         collect (leads from.now to.now flows.now seen.now v) none 0

@@ -23,6 +23,16 @@ use Rattle.graph.proofs.Columns.{column_at, either_true, either_false}
 use Rattle.graph.proofs.Onwards.{cut_found, cut_none}
 use Rattle.graph_cancel.specs.Cycles.{on_cycle, cycle_vertex}
 
+-- two tests of which one does not hold
+pub first_false : (a b : Bool) → a ≡ false → both a b ≡ false
+unfolding both
+first_false a b e = rw e
+
+pub second_false : (a b : Bool) → b ≡ false → both a b ≡ false
+unfolding both
+second_false true b e = e
+second_false false b e = refl
+
 module _ (tails heads flows bitsets : List ℕ) where
   -- edge e is positive, and its tail is in the bitset of its head
   abbrev pub closes : ℕ → Bool

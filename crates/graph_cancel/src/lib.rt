@@ -16,12 +16,7 @@ use sets::VertexSet;
 // ---- The lowest vertex on a cycle of positive edges, and the walk from it.
 
 // The set of the vertices that a positive edge leaves from whose head they can be reached: the head's bitset has them.
-fn on_cycles<'a>(
-    tails: &'a [u32],
-    heads: &'a [u32],
-    flows: &'a [u32],
-    bitsets: &'a [VertexSet],
-) -> VertexSet
+fn on_cycles(tails: &[u32], heads: &[u32], flows: &[u32], bitsets: &[VertexSet]) -> VertexSet
     ensures { (v : ℕ) → has_bit result v ≡
         ltb (onward tails.now heads.now flows.now (column bitsets.now v) v)
         (length flows.now) }
@@ -32,7 +27,7 @@ fn on_cycles<'a>(
         let tail = lists::at_or(tails, e, 0) as usize;
         let head = lists::at_or(heads, e, 0) as usize;
         let bitset = lists::at_or(bitsets, head, none);
-        if lists::and(0 < *flow, sets::word::has(bitset, tail)) {
+        if 0 < *flow && sets::word::has(bitset, tail) {
             on = sets::word::with(on, true, tail);
         }
     }
@@ -41,10 +36,10 @@ fn on_cycles<'a>(
 
 // The lowest vertex on a cycle of positive edges, or the count of vertices. The bitsets are left as the vertices that
 // each vertex reaches.
-fn cycle_vertex<'a>(
-    tails: &'a [u32],
-    heads: &'a [u32],
-    flows: &'a [u32],
+fn cycle_vertex(
+    tails: &[u32],
+    heads: &[u32],
+    flows: &[u32],
     n: u32,
     bitsets: &mut [VertexSet],
 ) -> u32
@@ -59,7 +54,7 @@ fn cycle_vertex<'a>(
 }
 
 // How many edges of a walk, the latest first, come before the one that left v.
-fn since<'a>(tails: &'a [u32], v: u32, walk: &'a [usize]) -> usize
+fn since(tails: &[u32], v: u32, walk: &[usize]) -> usize
     ensures value { result ≡ since tails.now v walk.now }
     ensures upper_bound { result ≤ length walk.now }
 {
@@ -73,14 +68,14 @@ fn since<'a>(tails: &'a [u32], v: u32, walk: &'a [usize]) -> usize
 
 // Walks from `start` until a vertex comes a second time, filling `walk` from its end; answers the part since that
 // vertex was left.
-fn follow<'a, 'b>(
-    tails: &'a [u32],
-    heads: &'a [u32],
-    flows: &'a [u32],
-    seen: &'a [bool],
+fn follow<'w>(
+    tails: &[u32],
+    heads: &[u32],
+    flows: &[u32],
+    seen: &[bool],
     start: u32,
-    walk: &'b mut [usize],
-) -> &'b [usize]
+    walk: &'w mut [usize],
+) -> &'w [usize]
     requires heads_in_bounds { (length heads.now ≤ length flows.now) × (length flows.now ≤ set_width) }
     requires seen_len_bound { (length seen.now ≤ word_width) × (start < length seen.now) }
     ensures { result.now ≡ follow tails.now heads.now flows.now seen.now (length walk.old) [] start }
@@ -105,7 +100,7 @@ fn follow<'a, 'b>(
 // ---- One cycle lowered by the smallest flow on it.
 
 // The smallest flow on a cycle.
-fn smallest<'a>(flows: &'a [u32], cycle: &'a [usize]) -> u32
+fn smallest(flows: &[u32], cycle: &[usize]) -> u32
     ensures { result ≡ smallest flows.now (get_or flows.now (get_or cycle.now 0 0) 0)
         cycle.now }
 {
@@ -140,9 +135,9 @@ fn lower_cycle(flows: &mut [u32], cycle: &[usize])
 
 // Cancels the cycle that the walk from v finds: the bitsets have the vertices that each vertex reaches. The set and the
 // walk are for its use.
-fn cancel_from<'a>(
-    tails: &'a [u32],
-    heads: &'a [u32],
+fn cancel_from(
+    tails: &[u32],
+    heads: &[u32],
     flows: &mut [u32],
     v: u32,
     seen: &mut [bool],
@@ -163,9 +158,9 @@ fn cancel_from<'a>(
 }
 
 // Cancels every cycle, the lowest vertex on one first. The set, the walk and the bitsets are for its use.
-fn cancel_all<'a>(
-    tails: &'a [u32],
-    heads: &'a [u32],
+fn cancel_all(
+    tails: &[u32],
+    heads: &[u32],
     flows: &mut [u32],
     n: u32,
     seen: &mut [bool],
@@ -187,7 +182,7 @@ fn cancel_all<'a>(
 }
 
 // Cancels every cycle, the lowest vertex on one first.
-pub fn cancel<'a>(tails: &'a [u32], heads: &'a [u32], flows: &mut [u32], n: u32)
+pub fn cancel(tails: &[u32], heads: &[u32], flows: &mut [u32], n: u32)
     requires heads_in_bounds { (length heads.now ≤ length flows.old) × (length flows.old ≤ set_width) }
     requires n_le_word_width { n ≤ word_width }
     ensures { flows.new ≡ acyclic_flows tails.now heads.now n

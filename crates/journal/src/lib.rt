@@ -16,7 +16,7 @@ pub const WORDS: usize = 5;
 // The words of the blank.
 const BLANK: [u64; WORDS] = [0; WORDS];
 
-// An entry in words.
+// An entry in words, the first of which says which move it is: the memory that a C caller lends holds words.
 pub fn pack(entry: Entry) -> [u64; WORDS]
     ensures value { result ≡ packed (entry_of entry) }
     ensures result_value { unpacked result ≡ entry_of entry }

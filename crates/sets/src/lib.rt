@@ -17,8 +17,7 @@ pub type VertexSet = u64;
 // How many numbers a set of edges has room for.
 pub const WIDTH: u32 = word::WIDTH as u32;
 
-// Five of these call their namesakes in `word`. They stay two: the contracts here speak of `set_of` and `set_width`, so
-// that a set of edges may take more than one word; those of `word` speak of the word itself, which a set of vertices is.
+// Five call their namesakes in `word`: contracts here say `set_of`, so that a set of edges can take more than one word.
 
 // The empty set.
 pub fn none() -> EdgeSet

@@ -2,8 +2,7 @@
 -- bitsets that have not changed are the first.
 use mathlib.Core.Path.{refl, sym, ◌∙◌}
 use native.Mathlib.Nat.{sub-zero}
-use Rattle.lists.proofs.Laws.{either_left, either_right}
-use Rattle.graph.proofs.Loops.{pass_turn, pass_end}
+use Rattle.graph.proofs.Loops.{neither, pass_turn, pass_end}
 use Rattle.graph.proofs.Columns.{column_turn}
 use Rattle.graph.proofs.pass.Goals as goal
 
@@ -12,15 +11,14 @@ loop-e-init c = (λ v. rw sub-zero, λ h. refl)
 
 pub loop-e-preserved : goal.loop-e-preserved
 loop-e-preserved c =
-    let cross = c.cross-joined.ensures in
-    let any = sym c.or-any_changed.ensures in
+    let cross = c.cross-any_changed.ensures in
     let loop = c.loop-e in
     let from = c.args.from.now in
     let to = c.args.to.now in
     let flows = c.args.flows.now in
     let inv = loop.invariant in (
       λ v. pass_turn from to flows _ _ _ _ c.loop-e-test.true (column_turn from to flows loop.bitsets _ loop.e v cross.bitsets_after) ∙ inv.0 v,
-      λ h. cross.bitsets_unchanged (either_right _ _ (any ∙ h)) ∙ inv.1 (either_left _ _ (any ∙ h)),
+      λ h. let none = neither _ _ h in cross.bitsets_unchanged none.1 ∙ inv.1 none.0,
     )
 
 pub returns : goal.returns
