@@ -1,11 +1,8 @@
 -- For each vertex, the edges left, collected into its set, give the whole set of the edges that lead on from it.
 use Rattle.sets.proofs.Bits.{collect_end}
-use Rattle.graph.proofs.Onwards.{collect-none, collect_left}
+use Rattle.graph.proofs.Onwards.{collect_left}
 use native.Mathlib.Omega.{arith}
 use Rattle.graph.proofs.leaving.Goals as goal
-
-pub loop-e-init : goal.loop-e-init
-loop-e-init c = λ v h. collect-none _ _ _ (c.empty.ensures v (omega arith))
 
 pub loop-e-preserved : goal.loop-e-preserved
 loop-e-preserved c =

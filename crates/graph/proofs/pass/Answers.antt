@@ -1,13 +1,9 @@
 -- In each column, the rest of the pass over the bitsets as they are gives the whole pass over the first bitsets;
 -- bitsets that have not changed are the first.
-use mathlib.Core.Path.{refl, sym, ◌∙◌}
-use native.Mathlib.Nat.{sub-zero}
+use mathlib.Core.Path.{sym, ◌∙◌}
 use Rattle.graph.proofs.Loops.{neither, pass_turn, pass_end}
 use Rattle.graph.proofs.Columns.{column_turn}
 use Rattle.graph.proofs.pass.Goals as goal
-
-pub loop-e-init : goal.loop-e-init
-loop-e-init c = (λ v. rw sub-zero, λ h. refl)
 
 pub loop-e-preserved : goal.loop-e-preserved
 loop-e-preserved c =

@@ -3,14 +3,10 @@
 use mathlib.Core.Path.{sym, ap, ◌∙◌}
 use mathlib.Core.List.{List}
 use Prim.Native.Nat.{ℕ}
-use native.Mathlib.Nat.{sub-zero}
 use Rattle.graph.specs.Graph.{passes}
 use Rattle.graph.specs.Bitsets.{column}
 use Rattle.graph.proofs.Loops.{passes_turn, passes_end, passes_still}
 use Rattle.graph.proofs.spread.Goals as goal
-
-pub loop-init : goal.loop-init
-loop-init c = λ v. rw sub-zero
 
 pub returns-then-not-pass : goal.returns-then-not-pass
 returns-then-not-pass c =

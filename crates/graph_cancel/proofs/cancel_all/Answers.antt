@@ -1,7 +1,6 @@
 -- The rounds left over the flows as they are give all rounds over the first flows; where no vertex is on a cycle, no round changes them.
-use mathlib.Core.Path.{◌≡◌, sym, ◌∙◌}
+use mathlib.Core.Path.{sym, ◌∙◌}
 use native.Mathlib.Nat.{sub-zero}
-use lib.ListN.{length}
 use Rattle.graph_cancel.specs.Cancelling.{acyclic_flows}
 use Rattle.graph_cancel.proofs.Rounds.{round_turn, round_none, rounds_over}
 use native.Mathlib.Omega.{arith}
@@ -13,11 +12,6 @@ loop-init c = rw sub-zero
 
 pub returns-then-n-v : goal.returns-then-n-v
 returns-then-n-v c = sym (round_none _ _ _ _ _ _ _ c.cycle_vertex-v.ensures.value c.if-n-v.true) ∙ c.loop.invariant
-
-pub cancel_from-requires-clause-v_value : goal.cancel_from-requires-clause-v_value
-cancel_from-requires-clause-v_value c =
-    let all : length c.loop.seen ≡ c.args.n = omega arith in
-    rw all (c.cycle_vertex-v.ensures.by_index _)
 
 pub loop-preserved : goal.loop-preserved
 loop-preserved c =

@@ -2,15 +2,11 @@
 use mathlib.Core.Path.{◌≡◌, refl, sym, ◌∙◌}
 use Prim.Native.Nat.{◌<◌, ◌-◌}
 use lib.ListN.{length, length-set}
-use lib.Seq.{drop-length}
 use Rattle.graph.specs.Graph.{onward}
 use Rattle.graph.proofs.Onwards.{onward_made, onward_inside}
 use Rattle.graph_cancel.proofs.Loops.{follow_hit, follow_on, follow_over}
 use native.Mathlib.Omega.{arith}
 use Rattle.graph_cancel.proofs.follow.Goals as goal
-
-pub loop-at-init : goal.loop-at-init
-loop-at-init c = (refl, rw drop-length, omega arith)
 
 pub returns-then-count-walk : goal.returns-then-count-walk
 returns-then-count-walk c =

@@ -1,13 +1,9 @@
 -- While no edge passed leaves v, the edges passed and the count over those left make the count over the whole walk.
 use mathlib.Core.Path.{◌≡◌, sym, ◌∙◌}
-use native.Mathlib.Nat.{zero-add}
 use lib.ListN.{length}
 use Rattle.graph_cancel.proofs.Loops.{since_hit, since_miss, since_end}
 use native.Mathlib.Omega.{arith}
 use Rattle.graph_cancel.proofs.since.Goals as goal
-
-pub loop-i-init : goal.loop-i-init
-loop-i-init c = zero-add _
 
 pub returns-then-at_or-v : goal.returns-then-at_or-v
 returns-then-at_or-v c = record {

@@ -3,9 +3,6 @@ use mathlib.Core.Path.{sym, ◌∙◌}
 use Rattle.graph_cancel.proofs.Folds.{smallest_turn, smallest_end}
 use Rattle.graph_cancel.proofs.smallest.Goals as goal
 
-pub loop-e-init : goal.loop-e-init
-loop-e-init c = rw (c.at_or-least.ensures, c.at_or-first.ensures)
-
 pub loop-e-preserved : goal.loop-e-preserved
 loop-e-preserved c =
     smallest_turn _ _ _ _ _ c.loop-e-test.true (c.min-least.ensures ∙ rw c.at_or-flow.ensures) ∙ c.loop-e.invariant
