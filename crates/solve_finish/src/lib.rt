@@ -84,6 +84,7 @@ fn positive_after(positive: EdgeSet, rest: u32, e: u32) -> EdgeSet
 }
 
 // The edges whose flows a move shifts: those of a turn.
+#[tactic(auto, unfolding(crate::specs::Run::shifted_edges))]
 fn shifted_edges(step: Move) -> EdgeSet
     ensures { set_of result ≡ shifted_edges (move_of step) }
 {
@@ -94,6 +95,7 @@ fn shifted_edges(step: Move) -> EdgeSet
 }
 
 // The terminal at which the search for an open carry goes on after a move: that of a carry, the first after a turn.
+#[tactic(auto, unfolding(crate::specs::Run::resumption))]
 fn resumption(step: Move) -> u32
     ensures { result ≡ resumption (move_of step) }
 {

@@ -43,12 +43,7 @@ impl Advice {
 pub fn all_home(places: &[u32], terminals: u32, source: u32) -> bool
     ensures { result ≡ all_home_in terminals source places.now }
 {
-    for i in 0..terminals {
-        if lists::at_or(places, i as usize, 0) != source {
-            return false;
-        }
-    }
-    true
+    (0..terminals).all(|i| lists::at_or(places, i as usize, 0) == source)
 }
 
 // The same; this terminal is looked at before the others.
@@ -174,7 +169,7 @@ pub fn hint(
         terminals: net.terminals,
         source: net.source,
         marks: board.marks,
-        positive: positive,
+        positive,
         resume: 0,
     };
     let next = next_move(

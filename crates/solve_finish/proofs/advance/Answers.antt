@@ -1,5 +1,5 @@
 -- The next move is none, a carry or a turn; what is then made is the change of the solver's move.
-use mathlib.Core.Path.{◌≡◌, refl, ap}
+use mathlib.Core.Path.{◌≡◌, ap}
 use Prim.Native.Nat.{◌≤◌}
 use native.Mathlib.Omega.{arith}
 use Rattle.board.specs.Limits.{max_edges}
@@ -7,12 +7,14 @@ use Rattle.move_carry.specs.Frames.{net_of}
 use Rattle.move_carry.specs.Carries.{carried_in}
 use Rattle.solve_walk.specs.declared.Walk.{Walk}
 use Rattle.solve_next.specs.Advices.{Advice}
+use Rattle.lists.specs.Choice.{pick}
+use Rattle.solve_next.specs.Choosing.{act_of}
 use Rattle.solve_next.specs.Views.{Advised, advice_told}
 use Rattle.solve_next.specs.declared.Advice.TheVariants.{Carry, Turn}
 use Rattle.solve_next.proofs.Advised.{movable_few, advice_short}
 use Rattle.solve_finish.specs.Run.{carry_step}
 use Rattle.solve_finish.proofs.Parting.{stop_made}
-use Rattle.solve_finish.proofs.Ready.{step_none, step_carries, step_turns}
+use Rattle.solve_finish.proofs.Ready.{step_none, step_made}
 use Rattle.solve_finish.proofs.InPlace.{going_small, going_turns, going_movable}
 use Rattle.solve_finish.proofs.advance.Goals as goal
 
@@ -21,10 +23,7 @@ next_move-next-requires c = going_movable _ _ _ _ _ _ _ _ c.requires
 
 pub returns-in_default : goal.returns-in_default
 returns-in_default c =
-    let a = c.args in
-    let m = going_movable _ _ _ _ _ _ _ _ c.requires in
-    step_none (net_of a.frame a.tails.now a.heads.now a.demands.now) _ _ _ (movable_few _ _ _ _ _ _ _ _ m) m.bounds.all _ c.in_default.ensures _ refl
-    (stop_made _ _ _ _ _ c.requires.is_positive (going_small _ _ _ _ _ _ _ _ c.requires))
+    step_none _ _ _ _ _ c.in_default.ensures (stop_made _ _ _ _ _ c.requires.is_positive (going_small _ _ _ _ _ _ _ _ c.requires))
 
 pub carry_on-requires : goal.carry_on-requires
 carry_on-requires c =
@@ -35,12 +34,10 @@ carry_on-requires c =
     }
 
 pub returns-in-Carry : goal.returns-in-Carry
-unfolding carry_step carried_in
+unfolding carry_step carried_in act_of pick
 returns-in-Carry c =
-    let a = c.args in
     let m = going_movable _ _ _ _ _ _ _ _ c.requires in
-    step_carries (net_of a.frame a.tails.now a.heads.now a.demands.now) _ _ _ (movable_few _ _ _ _ _ _ _ _ m) m.bounds.all
-    (advice_told (Carry c.in-Carry.carry)) (rw c.in-Carry.is at c.in-Some.ensures) _ (λ q. omega (arith, q)) refl c.carry_on.ensures
+    step_made _ _ _ _ _ (movable_few _ _ _ _ _ _ _ _ m) m.bounds.all (Carry c.in-Carry.carry) (rw c.in-Carry.is at c.in-Some.ensures) c.carry_on.ensures
 
 -- the steps of a cycle fit
 short : (a : Advised) (w : Walk) (n : Advice) → a ≡ Turn w → advice_told a ≡ n → n.count ≤ max_edges → w.count ≤ max_edges
@@ -60,8 +57,7 @@ turn_on-requires c =
     }
 
 pub returns-in-Turn : goal.returns-in-Turn
+unfolding act_of pick
 returns-in-Turn c =
-    let a = c.args in
     let m = going_movable _ _ _ _ _ _ _ _ c.requires in
-    step_turns (net_of a.frame a.tails.now a.heads.now a.demands.now) _ _ _ (movable_few _ _ _ _ _ _ _ _ m) m.bounds.all
-    (advice_told (Turn c.in-Turn.walk)) (rw c.in-Turn.is at c.in-Some.ensures) _ (λ q. omega (arith, q)) (λ q. omega (arith, q)) c.turn_on.ensures
+    step_made _ _ _ _ _ (movable_few _ _ _ _ _ _ _ _ m) m.bounds.all (Turn c.in-Turn.walk) (rw c.in-Turn.is at c.in-Some.ensures) c.turn_on.ensures
