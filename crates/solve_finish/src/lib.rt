@@ -113,6 +113,7 @@ fn look_again(changed: EdgeSet, positive: EdgeSet, flows: &[u32; Board::MAX_EDGE
     let mut rest = changed;
     let mut after = positive;
     let mut small = true;
+    // No index is counted here: each round takes the lowest edge off the set.
     while !sets::is_empty(rest) {
         let e = sets::lowest(rest);
         let f = lists::at_or(flows, e as usize, 0);
@@ -220,6 +221,7 @@ fn advance<'a>(
         frame, tails, heads, demands, leaving, entering, flows, places,
     );
     let Some(advice) = next else {
+        // No caller sees this refusal: it ends the run. The definition `stepped` has its number.
         return Err(Refusal::NotFinished);
     };
     match advice {
@@ -332,6 +334,7 @@ fn play_again(
     let from = board.moves;
     let count = lists::minus(ran.moves, from);
     journal::wipe(journal, from as usize, count as usize);
+    // By two variables: an array of a field that is stored straight has no generated proof.
     let first_flows = board.flows;
     let first_places = board.places;
     *flows = first_flows;

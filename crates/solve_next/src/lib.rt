@@ -31,7 +31,7 @@ pub enum Advice {
 }
 
 impl Advice {
-    // What kind a move is, as the C interface tells it (include/vulprow.h).
+    // Numbers beside the variants: what kind a move is, as the C interface tells it (include/vulprow.h).
     pub const NONE: u32 = 0;
 
     pub const CARRY: u32 = 1;
@@ -46,7 +46,8 @@ pub fn all_home(places: &[u32], terminals: u32, source: u32) -> bool
     (0..terminals).all(|i| lists::at_or(places, i as usize, 0) == source)
 }
 
-// The same; this terminal is looked at before the others.
+// The same; this terminal is looked at before the others: the one of an open carry is away on every board that was
+// loaded, and spares a finish the walk over those below it at each move.
 fn all_home_after(places: &[u32], terminals: u32, source: u32, first: u32) -> bool
     ensures { result ≡ all_home_in terminals source places.now }
 {
