@@ -46,8 +46,8 @@ pub fn all_home(places: &[u32], terminals: u32, source: u32) -> bool
     (0..terminals).all(|i| lists::at_or(places, i as usize, 0) == source)
 }
 
-// The same; this terminal is looked at before the others: the one of an open carry is away on every board that was
-// loaded, and spares a finish the walk over those below it at each move.
+// The same; this terminal is looked at before the others: that of an open carry, mostly away, which spares a finish the
+// walk over those below it at each move.
 fn all_home_after(places: &[u32], terminals: u32, source: u32, first: u32) -> bool
     ensures { result ≡ all_home_in terminals source places.now }
 {
