@@ -7,7 +7,6 @@ use Rattle.board.specs.declared.Augmentation as code-augmentation
 use Rattle.board.specs.declared.Move as code-move
 use Rattle.board.specs.declared.Entry as code-entry
 use Rattle.board.specs.declared.Board as code-board
-use Rattle.board.specs.declared.Played as code-played
 
 -- an accepted carry: the terminal was relocated over the edge, to its tail
 pub record Relocation : Type 0 where
@@ -59,9 +58,6 @@ move_of (code-move.TheVariants.Turn a) = Turn (augmentation_of a)
 abbrev pub entry_of : code-entry.Entry → Entry
 entry_of e = record { step = move_of e.step }
 
--- the code's `Board` and `Played`: without the journal
+-- the code's `Board`: without the journal
 abbrev pub Table : Type 0
 Table = code-board.Board
-
-abbrev pub Done : Type 0
-Done = code-played.Played

@@ -67,14 +67,6 @@ pub struct Board {
     pub finish_from: u32,
 }
 
-// What a call on a board gives: 0 and the board after it; or the number that the call is refused with, and the board as
-// it was.
-#[derive(Clone, Copy)]
-pub struct Played {
-    pub answer: u32,
-    pub board: Board,
-}
-
 impl Board {
     pub const MAX_VERTICES: usize = 32;
 

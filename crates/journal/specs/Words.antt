@@ -6,7 +6,7 @@ use Rattle.refusals.specs.Refusals.{number}
 use Rattle.sets.specs.Sets.{set_of}
 use Rattle.board.specs.Limits.{max_moves}
 use Rattle.board.specs.Record.{blank}
-use Rattle.board.specs.Whole.{Move, Carry, Turn, Entry, Board, Played, Table, Done}
+use Rattle.board.specs.Whole.{Move, Carry, Turn, Entry, Board, Played, Table}
 
 -- a move in words: 0, the terminal, the edge, 0, 0; or 1, the amount, and the sets of edges that fell, rose and were marked
 abbrev pub move_words : Move → List ℕ
@@ -65,10 +65,6 @@ whole_of t words = record {
 abbrev pub given_of : Table → Result Table Refusal → List (List ℕ) → Played
 given_of old (Ok b) words = record { answer = 0; board = whole_of b words }
 given_of old (Err r) words = record { answer = number r; board = whole_of old words }
-
--- the same of a call that gives a number and a table
-abbrev pub done_of : Done → List (List ℕ) → Played
-done_of d words = record { answer = d.answer; board = whole_of d.board words }
 
 -- the words of an empty journal
 abbrev pub no_words : List (List ℕ)
