@@ -8,9 +8,9 @@ ghost use Rattle.board.specs.Whole.{entry_of};
 ghost use Rattle.journal.specs.Words.{whole_of, given_of, words_after};
 ghost use Rattle.move_carry.specs.Opens.{flow_fits};
 ghost use Rattle.move_carry.specs.Carries.{carry_call, carry_refusal_in, carry_entry};
-ghost use Rattle.move_carry.specs.Frames.{net_of};
+ghost use Rattle.move_carry.specs.Frames.{frame_of, net_of};
 
-use board::{Board, Entry, Move, Relocation};
+use board::{Board, Entry, Move, Network, Relocation};
 use journal::WORDS;
 use refusals::Refusal;
 use sets::EdgeSet;
@@ -26,6 +26,23 @@ pub struct Frame {
     pub marks: EdgeSet,
     pub positive: EdgeSet,
     pub resume: u32,
+}
+
+impl Frame {
+    // The frame of a network with these marked and positive edges; the search for an open carry goes on at `resume`.
+    pub fn of(net: &Network, marks: EdgeSet, positive: EdgeSet, resume: u32) -> Frame
+        ensures { result ≡ frame_of net.now marks positive resume }
+    {
+        Frame {
+            vertices: net.vertices,
+            edges: net.edges,
+            terminals: net.terminals,
+            source: net.source,
+            marks: marks,
+            positive: positive,
+            resume: resume,
+        }
+    }
 }
 
 // Whether the flow of an edge allows a carry of that demand.
@@ -97,15 +114,7 @@ pub fn carry(
         journal.old }
 {
     let in_play = move_guard::playing(board, journal);
-    let frame = Frame {
-        vertices: board.network.vertices,
-        edges: board.network.edges,
-        terminals: board.network.terminals,
-        source: board.network.source,
-        marks: board.marks,
-        positive: sets::none(),
-        resume: 0,
-    };
+    let frame = Frame::of(&board.network, board.marks, sets::none(), 0);
     judge_in(
         in_play,
         frame,

@@ -8,10 +8,11 @@ use Prim.Native.Nat.{ℕ, ◌+◌, ◌<◌, ◌^◌}
 use native.Mathlib.Omega.{arith}
 use lib.ListN.{length, set}
 use Rattle.lists.proofs.Laws.{pick_no, pick_passed}
+use Rattle.std.specs.Prelude.{Result}
 use Rattle.refusals.specs.declared.Refusal.{Refusal}
 use Rattle.refusals.specs.Refusals.{number}
 use Rattle.refusals.proofs.Laws.{refused}
-use Rattle.sets.specs.Sets.{joined}
+use Rattle.sets.specs.Sets.{joined, set_of}
 use Rattle.sets.specs.Inner.{set_width}
 use Rattle.board.specs.Whole.{Turn, Entry, Board, Played}
 use Rattle.board.specs.declared.Network.{Network}
@@ -35,7 +36,8 @@ use Rattle.move_turn.specs.Turns.{OnBoard}
 use Rattle.move_turn.specs.Turns.{meets_in, turn_refusal_in, turned_in, turn_change, turn_call}
 use Rattle.move_guard.specs.Bounds.{InBounds}
 use Rattle.move_edges.specs.Marking.{singular_in}
-use Rattle.move_turn.specs.Lent.{augmented_by, Turnable}
+use Rattle.move_turn.specs.declared.Augmented.{Augmented}
+use Rattle.move_turn.specs.Lent.{made_of, augmented_by, Turnable}
 use Rattle.move_turn.proofs.Passing.{in_sets}
 use Rattle.move_turn.proofs.Changes.{change_accepted, change_refused, turn_made, turn_changes, turn_refused, turn_stored}
 
@@ -92,6 +94,12 @@ module _ (frame : Frame) (tails heads demands leaving flows : List ℕ) (can : T
     turn_is_made c fits z e =
         e ∙ augmented fits places w
         ∙ sym (change_accepted true any_open (net_of frame tails heads demands) flows frame.marks places w (sym (turn_tests any_open w) ∙ z))
+
+-- what a turn changes, by what its frame is
+pub framed : (f g : Frame) → f ≡ g → (r : Result Augmented Refusal) (after places : List ℕ) (any_open : Bool) (tails heads demands flows : List ℕ) (w : List Step)
+    → made_of f.marks r after places ≡ turn_change true any_open (net_of f tails heads demands) flows (set_of f.marks) places w
+    → made_of g.marks r after places ≡ turn_change true any_open (net_of g tails heads demands) flows (set_of g.marks) places w
+framed f g e r after places any_open tails heads demands flows w h = rw e at h
 
 -- a network and its bare one
 pub turn_of_bare : (net : Network) (play any_open : Bool) (flows : List ℕ) (marks : ℕ) (places : List ℕ) (w : List Step)

@@ -171,31 +171,26 @@ pub fn turn_steps(
     }
     let net = board.network;
     let mut flows = board.flows;
-    let places = board.places;
-    let tails = net.tails;
-    let heads = net.heads;
-    let demands = net.demands;
-    let leaving = move_edges::at_vertices(tails);
-    let entering = move_edges::at_vertices(heads);
+    let leaving = move_edges::at_vertices(net.tails);
+    let entering = move_edges::at_vertices(net.heads);
     let positive = move_edges::positive(&flows);
-    let frame = Frame {
-        vertices: net.vertices,
-        edges: net.edges,
-        terminals: net.terminals,
-        source: net.source,
-        marks: board.marks,
-        positive: positive,
-        resume: 0,
-    };
-    let found = solve_carry::open_carry(frame, &heads, &demands, &entering, &flows, &places);
+    let frame = Frame::of(&net, board.marks, positive, 0);
+    let found = solve_carry::open_carry(
+        frame,
+        &net.heads,
+        &net.demands,
+        &entering,
+        &flows,
+        &board.places,
+    );
     let made = change(
         found.is_some(),
         frame,
-        &tails,
-        &heads,
-        &demands,
+        &net.tails,
+        &net.heads,
+        &net.demands,
         &leaving,
-        &places,
+        &board.places,
         steps,
         &mut flows,
     )?;

@@ -1,7 +1,7 @@
 -- The carry is judged by the board's own parts. Where it is accepted, the terminal and the edge are on the board, and what is stored is one more move.
 use mathlib.Core.Path.{◌≡◌, refl, sym, ap, ◌∙◌}
 use mathlib.Core.Bool.{Bool}
-use mathlib.Core.List.{List}
+use mathlib.Core.List.{List, []}
 use Prim.Native.Nat.{ℕ, ◌<◌, ◌≤◌}
 use native.Mathlib.Omega.{arith}
 use lib.ListN.{set}
@@ -10,6 +10,9 @@ use Rattle.refusals.specs.Refusals.{answer_of}
 use Rattle.board.specs.Limits.{max_edges, max_terminals, max_moves}
 use Rattle.board.specs.Whole.{Entry, Table}
 use Rattle.journal.specs.Words.{packed, entries_of, whole_of}
+use Rattle.sets.specs.Sets.{set_of}
+use Rattle.move_carry.specs.declared.Frame.{Frame}
+use Rattle.move_carry.specs.Frames.{net_of}
 use Rattle.move_carry.specs.Carries.{carry_refusal_in, carry_refusal}
 use Rattle.move_carry.proofs.Makes.{makes_carried}
 use Rattle.move_carry.proofs.Lent.{carry_refusal_bare, room_edge, room_terminal, room_move, lent_accepted, lent_refused}
@@ -29,7 +32,9 @@ words c = c.args.journal.now
 judged : (c : Judged) → answer_of c.judge_in.result ≡ carry_refusal (whole_of (table c) (words c)) c.args.i c.args.e
 judged c =
     let t = table c in
-    c.judge_in.ensures ∙ carry_refusal_bare _ t.network t.flows t.marks c.none.result t.places _ _
+    c.judge_in.ensures
+    ∙ ap (λ (f : Frame). carry_refusal_in c.playing-in_play.result (net_of f [] t.network.heads t.network.demands) t.flows (set_of f.marks) t.places c.args.i c.args.e) c.of-frame.ensures
+    ∙ carry_refusal_bare _ t.network t.flows t.marks c.none.result t.places _ _
     ∙ ap (λ (p : Bool). carry_refusal_in p t.network t.flows t.marks t.places c.args.i c.args.e) c.playing-in_play.ensures
 
 -- where it is accepted

@@ -4,7 +4,7 @@ use Rattle.std.specs.Prelude.{Result}
 use Rattle.refusals.specs.declared.Refusal.{Refusal}
 use Rattle.refusals.proofs.Laws.{refused, passed_on}
 use mathlib.Core.Bool.{true}
-use mathlib.Core.List.{List}
+use mathlib.Core.List.{List, []}
 use Prim.Native.Nat.{ℕ, ◌+◌}
 use native.Mathlib.Omega.{arith}
 use Rattle.board.specs.Whole.{Board, Entry, entry_of, Table}
@@ -14,6 +14,10 @@ use Rattle.journal.proofs.Laws.{add_standing}
 use Rattle.move_guard.specs.Guard.{playing}
 use Rattle.move_guard.proofs.Facts.{playing_moves}
 use Rattle.move_guard.proofs.Lent.{whole_long}
+use Rattle.sets.specs.Sets.{set_of}
+use Rattle.move_carry.specs.declared.Frame.{Frame}
+use Rattle.move_carry.specs.Frames.{net_of}
+use Rattle.move_carry.specs.Opens.{some_open_in}
 use Rattle.move_cycle.specs.Steps.{code_steps}
 use Rattle.move_turn.specs.declared.Augmented.{Augmented}
 use Rattle.move_turn.specs.Lent.{made_of}
@@ -22,7 +26,7 @@ use Rattle.move_guard.proofs.Bounds.{playing_bounds}
 use Rattle.solve_carry.proofs.Finds.{some_open_bare, bounds_searched}
 use Rattle.solve_carry.proofs.Resumed.{resumes_first}
 use Rattle.move_turn.proofs.Changes.{turn_made}
-use Rattle.move_turn.proofs.Lent.{bounds_turnable, turn_of_bare, closed_made, open_made, lent_refused, lent_stored}
+use Rattle.move_turn.proofs.Lent.{framed, bounds_turnable, turn_of_bare, closed_made, open_made, lent_refused, lent_stored}
 use borrow.Author.Rules.{rules}
 use Rattle.move_turn.proofs.turn_steps.Lts as lts
 use Rattle.move_turn.proofs.turn_steps.Tie as tie
@@ -58,10 +62,10 @@ abbrev Charted : Type 0
 Charted = lts.After-positive tie.the-claims reads.Pre reads.Post tie.handed_clauses
 
 abbrev charted : Lending → Charted
-charted c = c.before.before.before.before.before.before.before.before.before.before.before.before.before.before
+charted c = c.before.before.before.before.before.before.before.before.before.before.before.before.before.before.before.before.before.before.before
 
 abbrev begun : Charted → Begun
-begun c = c.before.before.before.before.before.before.before.before.before.before
+begun c = c.before.before.before.before.before.before.before.before
 
 -- what the call leans on
 bounds : (c : Begun) → InBounds (given c).network (given c).flows (given c).places
@@ -84,10 +88,13 @@ made_here : (c : lts.After-change tie.the-claims reads.Pre reads.Post tie.handed
 made_here c r is =
     let b = given (begun (charted c.before)) in
     let found = (searched c.before).open_carry-found in
+    let frame = c.of-frame.ensures in
     open_made b _ _ _ (plays (begun (charted c.before)))
-    (c.is_some.ensures ∙ found.ensures.some ∙ some_open_bare b.network b.flows b.marks (charted c.before).positive-positive.result b.places)
+    (c.is_some.ensures ∙ found.ensures.some
+    ∙ ap (λ (f : Frame). some_open_in (net_of f [] b.network.heads b.network.demands) b.flows (set_of f.marks) b.places) frame
+    ∙ some_open_bare b.network b.flows b.marks (charted c.before).positive-positive.result b.places)
     (ap (λ (x : Result Augmented Refusal). made_of (table (begun (charted c.before))).marks x c.change.new.flows b.places) (sym is)
-    ∙ c.change.ensures ∙ turn_of_bare b.network true _ b.flows b.marks b.places _)
+    ∙ framed _ _ frame _ _ _ _ _ _ _ _ _ c.change.ensures ∙ turn_of_bare b.network true _ b.flows b.marks b.places _)
 
 pub returns-then-not-playing : goal.returns-then-not-playing
 returns-then-not-playing c =
@@ -103,16 +110,19 @@ slice_bounds-open_carry-end-2 c = search rules
 
 pub open_carry-found-requires : goal.open_carry-found-requires
 open_carry-found-requires c =
-    let b = given (begun c.before.before.before.before.before.before) in record {
-      searched = bounds_searched b.network b.flows b.places _ b.marks _ (bounds (begun c.before.before.before.before.before.before)) c.at_vertices-entering.ensures c.positive-positive.ensures;
+    let start = begun c.before.before.before.before.before.before.before.before.before.before.before in
+    let b = given start in
+    rw c.of-frame.ensures
+    (record {
+      searched = bounds_searched b.network b.flows b.places _ b.marks _ (bounds start) c.at_vertices-entering.ensures c.positive-positive.ensures;
       resumes = resumes_first _ _ _ _;
-    }
+    })
 
 pub change-requires : goal.change-requires
 change-requires c =
     let chart = charted c.before in
     let b = given (begun chart) in
-    bounds_turnable b.network b.flows b.places _ _ _ _ (bounds (begun chart)) c.at_vertices-leaving.ensures c.positive-positive.ensures
+    rw c.of-frame.ensures (bounds_turnable b.network b.flows b.places _ _ _ _ (bounds (begun chart)) c.at_vertices-leaving.ensures c.positive-positive.ensures)
 
 pub returns-in_err-made : goal.returns-in_err-made
 returns-in_err-made c =
@@ -124,12 +134,12 @@ returns-in_err-made c =
 
 pub overflow_add-next : goal.overflow_add-next
 overflow_add-next c =
-    let few = playing_moves _ (plays (begun (charted c.before.before.before.before.before.before.before.before.before))) in
+    let few = playing_moves _ (plays (begun (charted c.before.before.before.before.before.before.before))) in
     omega (arith, few)
 
 pub returns : goal.returns
 returns c =
-    let changed = c.before.before.before.before.before.before.before.before in
+    let changed = c.before.before.before.before.before.before in
     let begin = begun (charted changed.before) in
     let b = given begin in
     let m = b.moves in
