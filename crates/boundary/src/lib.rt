@@ -2,11 +2,14 @@
 // library/vulprow.c has the functions of include/vulprow.h, each of which makes one of these calls.
 #![tactic(auto)]
 
-ghost use Rattle.std.specs.Prelude.{◌≡◌, length};
-ghost use Rattle.text.specs.Results.{write_text, written};
+ghost use Rattle.std.specs.Prelude.{◌≡◌, List, ℕ, length};
+ghost use Rattle.refusals.specs.Refusals.{answer_of};
+ghost use Rattle.text.specs.Results.{as_written, write_text, written};
+ghost use Rattle.boundary.specs.Inner.{memory_given};
 ghost use Rattle.load.specs.Load.{load_text};
 ghost use Rattle.move_cycle.specs.Steps.{steps_of};
 ghost use Rattle.solve_next.specs.Hints.{hint_call};
+ghost use Rattle.solve_next.specs.Views.{advice_given};
 ghost use Rattle.solve_finish.specs.Finishes.{finish_call};
 ghost use Rattle.report.specs.Reports.{sheet_call, sheeted};
 ghost use Rattle.catalog.specs.Catalog.{catalog_call, catalogued};
@@ -31,8 +34,49 @@ use boundary_parts::{
     EDGE_ROWS, ENTRY_NUMBERS, ENTRY_ROWS, MOVE_NUMBERS, NUMBERS, TERMINAL_ROWS, VIEW_NUMBERS,
 };
 use journal::WORDS;
+use move_list::AdviceNumbers;
+use refusals::Refusal;
 use sets::EdgeSet;
 use solve_next::Advice;
+
+// Stores the board that a call gave in the memory, which a refused call leaves as it was. Answers 0 or the number of the
+// refusal.
+fn store_given(
+    given: Result<Board, Refusal>,
+    numbers: &mut [u32; NUMBERS],
+    edges: &mut [[u32; Board::MAX_EDGES]; EDGE_ROWS],
+    terminals: &mut [[u32; Board::MAX_TERMINALS]; TERMINAL_ROWS],
+    marks: &mut EdgeSet,
+) -> u32
+    ensures value { result ≡ answer_of given }
+    ensures marks_after { (words : List (List ℕ)) → memory numbers.new edges.new terminals.new marks.new words ≡
+        memory_given given (memory numbers.old edges.old terminals.old marks.old words) }
+{
+    match given {
+        Ok(next) => {
+            boundary_parts::store(next, numbers, edges, terminals, marks);
+            0
+        }
+        Err(refusal) => u32::from(refusal),
+    }
+}
+
+// Stores the length of what was written, 0 where nothing was. Answers 0 or the number of the refusal.
+fn store_used(written: Result<usize, Refusal>, used: &mut usize) -> u32
+    ensures value { result ≡ (as_written written).answer }
+    ensures used_after { used.new ≡ (as_written written).used }
+{
+    match written {
+        Ok(length) => {
+            *used = length;
+            0
+        }
+        Err(refusal) => {
+            *used = 0;
+            u32::from(refusal)
+        }
+    }
+}
 
 // Reads a board text and opens it for play. Answers what the load answered; the memory is then that of the board that
 // it gave, with no move standing.
@@ -48,11 +92,16 @@ pub fn vulprow_parts_load(
     ensures journal_after { memory numbers.new edges.new terminals.new marks.new
         journal.new ≡ memory_loaded (load_text text.now).board }
 {
-    let loaded = load::load(text, journal);
-    let board = loaded.board;
-    let answer = loaded.answer;
-    boundary_parts::store(board, numbers, edges, terminals, marks);
-    answer
+    match load::load(text, journal) {
+        Ok(board) => {
+            boundary_parts::store(board, numbers, edges, terminals, marks);
+            0
+        }
+        Err(refusal) => {
+            boundary_parts::store(Board::closed(), numbers, edges, terminals, marks);
+            u32::from(refusal)
+        }
+    }
 }
 
 // Relocates a terminal over an edge.
@@ -74,12 +123,7 @@ pub fn vulprow_parts_carry(
 {
     let board = boundary_parts::board_in(numbers, edges, terminals, marks);
     let played = move_carry::carry(board, journal, terminal, edge);
-    let answer = played.answer;
-    if answer == 0 {
-        let next = played.board;
-        boundary_parts::store(next, numbers, edges, terminals, marks);
-    }
-    answer
+    store_given(played, numbers, edges, terminals, marks)
 }
 
 // Augments along a cycle, a byte a step.
@@ -100,12 +144,7 @@ pub fn vulprow_parts_turn(
 {
     let board = boundary_parts::board_in(numbers, edges, terminals, marks);
     let turned = move_turn::turn(board, journal, steps);
-    let answer = turned.answer;
-    if answer == 0 {
-        let next = turned.board;
-        boundary_parts::store(next, numbers, edges, terminals, marks);
-    }
-    answer
+    store_given(turned, numbers, edges, terminals, marks)
 }
 
 // Takes the last standing move back, or a finish that stands.
@@ -125,12 +164,7 @@ pub fn vulprow_parts_undo(
 {
     let board = boundary_parts::board_in(numbers, edges, terminals, marks);
     let back = move_undo::undo(board, journal);
-    let answer = back.answer;
-    if answer == 0 {
-        let next = back.board;
-        boundary_parts::store(next, numbers, edges, terminals, marks);
-    }
-    answer
+    store_given(back, numbers, edges, terminals, marks)
 }
 
 // Plays to the end; `count` gets how many moves that took.
@@ -152,14 +186,31 @@ pub fn vulprow_parts_finish(
         marks.old journal.old) finish }
 {
     let board = boundary_parts::board_in(numbers, edges, terminals, marks);
-    let finished = solve_finish::finish(board, journal);
-    let answer = finished.answer;
-    *count = finished.count;
-    if answer == 0 {
-        let last = finished.board;
-        boundary_parts::store(last, numbers, edges, terminals, marks);
+    match solve_finish::finish(board, journal) {
+        Ok(finished) => {
+            *count = finished.count;
+            boundary_parts::store(finished.board, numbers, edges, terminals, marks);
+            0
+        }
+        Err(refusal) => {
+            *count = 0;
+            u32::from(refusal)
+        }
     }
-    answer
+}
+
+// A hint's move in numbers, and its steps in bytes.
+fn show_hint(
+    advice: Option<Advice>,
+    parts: &mut [u32; MOVE_NUMBERS],
+    steps: &mut [u8; Board::MAX_EDGES],
+)
+    ensures parts_after { parts.new ≡ advice_numbers (advice_given advice) }
+    ensures steps_after { steps.new ≡ advice_bytes (advice_given advice) }
+{
+    let numbers = AdviceNumbers::from(advice);
+    *parts = [numbers.kind, numbers.terminal, numbers.edge, numbers.count];
+    *steps = boundary_parts::step_bytes(numbers.steps);
 }
 
 // Gives the move that a finish would make next: kind, terminal, edge and how many steps; and the steps, a byte each.
@@ -180,14 +231,16 @@ pub fn vulprow_parts_hint<'a>(
         edges.now terminals.now marks.now journal.now))).advice }
 {
     let board = boundary_parts::board_in(numbers, edges, terminals, marks);
-    let hint = solve_next::hint(board, journal);
-    let answer = hint.answer;
-    let advice = hint.advice;
-    let codes = advice.steps;
-    let bytes = boundary_parts::step_bytes(codes);
-    *parts = [advice.kind, advice.terminal, advice.edge, advice.count];
-    *steps = bytes;
-    answer
+    match solve_next::hint(board, journal) {
+        Ok(advice) => {
+            show_hint(advice, parts, steps);
+            0
+        }
+        Err(refusal) => {
+            show_hint(None, parts, steps);
+            u32::from(refusal)
+        }
+    }
 }
 
 // Writes the route report of a finished board; `used` gets its length.
@@ -209,8 +262,7 @@ pub fn vulprow_parts_sheet<'a>(
 {
     let board = boundary_parts::board_in(numbers, edges, terminals, marks);
     let sheet = report::sheet(board, journal, buf);
-    *used = sheet.used;
-    sheet.answer
+    store_used(sheet, used)
 }
 
 // Writes the text that was loaded; `used` gets its length.
@@ -232,8 +284,7 @@ pub fn vulprow_parts_write<'a>(
 {
     let board = boundary_parts::board_in(numbers, edges, terminals, marks);
     let text = text_writer::write(board, buf);
-    *used = text.used;
-    text.answer
+    store_used(text, used)
 }
 
 // Writes the text of a board of the catalog; `used` gets its length.
@@ -243,8 +294,7 @@ pub fn vulprow_parts_catalog(number: u32, buf: &mut [u8], used: &mut usize) -> u
     ensures buf_after { buf.new ≡ catalogued number buf.old }
 {
     let board_text = catalog::write(number, buf);
-    *used = board_text.used;
-    board_text.answer
+    store_used(board_text, used)
 }
 
 // Gives what a screen draws: numbers, rows over the edges and rows over the terminals.
@@ -269,12 +319,10 @@ pub fn vulprow_parts_look<'a>(
 {
     let board = boundary_parts::board_in(numbers, edges, terminals, marks);
     if !move_guard::loaded(board, journal) {
-        let no_edges = [0u32; Board::MAX_EDGES];
-        let no_terminals = [0u32; Board::MAX_TERMINALS];
         *counts = [0; VIEW_NUMBERS];
-        *lines = [no_edges; EDGE_ROWS];
-        *posts = [no_terminals; TERMINAL_ROWS];
-        return 29;
+        *lines = [[0; Board::MAX_EDGES]; EDGE_ROWS];
+        *posts = [[0; Board::MAX_TERMINALS]; TERMINAL_ROWS];
+        return u32::from(Refusal::NotLoaded);
     }
     boundary_parts::show_board(board, counts, lines, posts);
     0
@@ -299,17 +347,18 @@ pub fn vulprow_parts_journal<'a>(
         terminals.now marks.now journal.now)) place }
 {
     let board = boundary_parts::board_in(numbers, edges, terminals, marks);
-    let number = boundary_parts::entry_refusal(board, journal, place);
-    if number != 0 {
-        let none = [0u32; Board::MAX_EDGES];
-        *parts = [0; ENTRY_NUMBERS];
-        *rows = [none; ENTRY_ROWS];
-        return number;
+    match boundary_parts::entry_refusal(board, journal, place) {
+        Ok(()) => {
+            let entry = journal::entry_at(journal, place as usize);
+            boundary_parts::show_move(entry.step, parts, rows);
+            0
+        }
+        Err(refusal) => {
+            *parts = [0; ENTRY_NUMBERS];
+            *rows = [[0; Board::MAX_EDGES]; ENTRY_ROWS];
+            u32::from(refusal)
+        }
     }
-    let entry = journal::entry_at(journal, place as usize);
-    let step = entry.step;
-    boundary_parts::show_move(step, parts, rows);
-    0
 }
 
 // Gives the numbers that the header has as macros and in enums.

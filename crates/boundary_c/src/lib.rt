@@ -1,5 +1,6 @@
 // What C links: the calls of crates/boundary under their own names, each with its clauses. library/vulprow.c has the
 // functions of include/vulprow.h, each of which makes one of these calls.
+// C links each export by its name, so each is a function of its own with the clauses of its call in crates/boundary.
 #![tactic(auto)]
 
 ghost use Rattle.std.specs.Prelude.{◌≡◌, length};

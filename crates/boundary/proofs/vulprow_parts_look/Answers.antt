@@ -9,7 +9,7 @@ pub returns-then-not-loaded : goal.returns-then-not-loaded
 returns-then-not-loaded c =
     let is = c.board_in-board.ensures c.args.journal.now in
     let all = look_refused _ (sym (ap loaded is) ∙ sym c.loaded.ensures ∙ c.if-not-loaded.true) in record {
-      value = all.0;
+      value = c.from.ensures ∙ all.0;
       counts_after = all.1.0;
       lines_after = all.1.1.0;
       posts_after = all.1.1.1;

@@ -12,7 +12,7 @@ returns c =
     let buf = args.buf.now in
     let is = c.board_in-board.ensures args.journal.now in
     let call = c.sheet-sheet.ensures.value ∙ ap (λ (b : Board). sheet_call b (length buf)) is in record {
-      value = ap (λ (w : Written). w.answer) call;
-      used_after = ap (λ (w : Written). w.used) call;
+      value = c.store_used.ensures.value ∙ ap (λ (w : Written). w.answer) call;
+      used_after = c.store_used.ensures.used_after ∙ ap (λ (w : Written). w.used) call;
       buf_after = c.sheet-sheet.ensures.buf_after ∙ ap (λ (b : Board). sheeted b buf) is;
     }
