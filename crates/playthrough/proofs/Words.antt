@@ -1,6 +1,11 @@
 -- A whole play over lent words: the words that the load cleared stay those of the journal through the calls and the finish; and what that stores behind the
 -- standing moves leaves the board before it as it was.
-use mathlib.Core.Path.{◌≡◌, sym, ap, ◌∙◌}
+use mathlib.Core.Path.{◌≡◌, refl, sym, ap, ◌∙◌}
+use Rattle.std.specs.Prelude.{Result, Ok, Err}
+use Rattle.std.specs.Result.{result_unwrap_or, result_and}
+use Rattle.refusals.specs.declared.Refusal.{Refusal}
+use Rattle.refusals.specs.Refusals.{answer_of}
+use Rattle.board.specs.Record.{closed_table}
 use mathlib.Core.List.{List}
 use Prim.Native.Nat.{ℕ, ◌-◌, ◌≤◌}
 use native.Mathlib.Omega.{arith}
@@ -13,8 +18,6 @@ use Rattle.journal.proofs.After.{after_many}
 use Rattle.journal.proofs.Behind.{whole_behind}
 use Rattle.load.specs.Load.{load_text}
 use Rattle.load.specs.Lent.{loaded_of}
-use Rattle.load.specs.Load.{Loaded}
-use Rattle.load.specs.Lent.{Opened}
 use Rattle.solve_finish.specs.Finishes.{Finished}
 use Rattle.solve_finish.specs.Lent.{Ended}
 use Rattle.solve_finish.specs.Finishes.{played_out, finish_refusal, ended, finish_call}
@@ -47,12 +50,19 @@ finish_moves b = go (known (eqb (finish_refusal b) 0))
         let e : finish_call b ≡ record { answer = finish_refusal b; count = 0; board = b } = pick_no {A = Finished} _ _ _ n in
         rw e (omega arith)
 
--- what load, the calls and finish gave, each from what the one before gave, and the words after each
-module _ (text : List ℕ) (cs : List Call) (l : Opened) (w₁ : List (List ℕ)) (loads : loaded_of l w₁ ≡ load_text text) (empty : w₁ ≡ no_words) (t : Table)
-    (w₂ : List (List ℕ)) (plays : whole_of t w₂ ≡ (played (game_of (whole_of l.board w₁)) cs).board) (packs : w₂ ≡ words_played (game_of (whole_of l.board w₁)) cs w₁) where
-  start : whole_of l.board w₁ ≡ (load_text text).board
-  start = ap (λ (x : Loaded). x.board) loads
+-- the board of a load: its own, or the closed board after a refusal
+pub opened : (l : Result Table Refusal) (w : List (List ℕ)) → whole_of (result_unwrap_or l closed_table) w ≡ (loaded_of l w).board
+opened (Ok t) w = refl
+opened (Err r) w = refl
 
+-- .. and its number
+pub said : (l : Result Table Refusal) (w : List (List ℕ)) → answer_of (result_and l (Ok (tt {0}))) ≡ (loaded_of l w).answer
+said (Ok t) w = refl
+said (Err r) w = refl
+
+-- what the calls and finish gave, each from what the one before gave, and the words after each
+module _ (text : List ℕ) (cs : List Call) (t₁ : Table) (w₁ : List (List ℕ)) (start : whole_of t₁ w₁ ≡ (load_text text).board) (empty : w₁ ≡ no_words) (t : Table)
+    (w₂ : List (List ℕ)) (plays : whole_of t w₂ ≡ (played (game_of (whole_of t₁ w₁)) cs).board) (packs : w₂ ≡ words_played (game_of (whole_of t₁ w₁)) cs w₁) where
   pub after_calls : whole_of t w₂ ≡ (played (game_of (load_text text).board) cs).board
   after_calls = plays ∙ ap (λ (b : Board). (played (game_of b) cs).board) start
 
@@ -61,10 +71,7 @@ module _ (text : List ℕ) (cs : List Call) (l : Opened) (w₁ : List (List ℕ)
       packs ∙ ap (λ (b : Board). words_played (game_of b) cs w₁) start ∙ ap (words_played (game_of (load_text text).board) cs) empty ∙ calls_kept text cs
       ∙ ap (λ (b : Board). packed_all b.journal) (sym after_calls)
 
-  pub from_load : {A : Type 0} (f : Board → A) → f (whole_of l.board w₁) ≡ f (load_text text).board
-  from_load f = ap f start
-
-  module _ (e : Ended) (w₃ : List (List ℕ)) (ends : ended_of e w₃ ≡ finish_call (whole_of t w₂))
+  module _ (e : Result Ended Refusal) (w₃ : List (List ℕ)) (ends : ended_of t e w₃ ≡ finish_call (whole_of t w₂))
       (stores : w₃ ≡ words_after t.moves (finish_call (whole_of t w₂)).board w₂) where
     pub words_after_lem : w₃ ≡ packed_all (outcome text cs).finish.board.journal
     words_after_lem =
@@ -74,9 +81,10 @@ module _ (text : List ℕ) (cs : List Call) (l : Opened) (w₁ : List (List ℕ)
     before : whole_of t w₃ ≡ whole_of t w₂
     before = ap (whole_of t) stores ∙ whole_kept t (finish_call (whole_of t w₂)).board w₂ (finish_moves (whole_of t w₂))
 
-    pub gathered : outcome_of (record { loading = l.answer; board = t; finish = e }) w₃ ≡ outcome text cs
-    gathered = λ i. record {
-      loading = ap (λ (x : Loaded). x.answer) loads i;
+    pub gathered : (loading : Result (Unit {0}) Refusal) → answer_of loading ≡ (load_text text).answer
+        → outcome_of (record { loading = loading; board = t; finish = e }) w₃ ≡ outcome text cs
+    gathered loading loads = λ i. record {
+      loading = loads i;
       board = (before ∙ after_calls) i;
       finish = (ends ∙ ap finish_call after_calls) i;
     }

@@ -1,5 +1,6 @@
 -- A whole play with the journal lent.
 use Rattle.std.specs.Prelude.{List, ℕ}
+use Rattle.refusals.specs.Refusals.{answer_of}
 use Rattle.journal.specs.Words.{whole_of}
 use Rattle.solve_finish.specs.Lent.{ended_of}
 use Rattle.playthrough.specs.declared.Outcome as code
@@ -11,4 +12,4 @@ Gone = code.Outcome
 
 -- what it gave, by the words at its end: a finish keeps the places of the moves that stood, so they are those of the board before it, too
 abbrev pub outcome_of : Gone → List (List ℕ) → Outcome
-outcome_of r words = record { loading = r.loading; board = whole_of r.board words; finish = ended_of r.finish words }
+outcome_of r words = record { loading = answer_of r.loading; board = whole_of r.board words; finish = ended_of r.board r.finish words }

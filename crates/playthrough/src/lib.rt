@@ -12,14 +12,15 @@ ghost use Rattle.playthrough.specs.Lent.{outcome_of};
 
 use board::Board;
 use journal::WORDS;
+use refusals::Refusal;
 use solve_finish::Finished;
 
-// What a whole play gives: the answer of the load, the board after the calls, and what the finish gave.
+// What a whole play gives: whether the load was accepted, the board after the calls, and what the finish gave.
 #[derive(Clone, Copy)]
 pub struct Outcome {
-    pub loading: u32,
+    pub loading: Result<(), Refusal>,
     pub board: Board,
-    pub finish: Finished,
+    pub finish: Result<Finished, Refusal>,
 }
 
 // Loads a text, makes the calls (crates/move_list: three numbers a call, and the steps of the turns), and finishes the
@@ -47,13 +48,13 @@ pub fn play_through(
         given.new hints.old hints.new (outcome_of result journal.new) }
 {
     let loaded = load::load(text, journal);
-    let start = loaded.board;
-    let loading = loaded.answer;
+    let start = loaded.unwrap_or(Board::closed());
+    let loading = loaded.and(Ok(()));
     let board = move_list::run(start, journal, codes, steps, given, hints);
     let finish = solve_finish::finish(board, journal);
     Outcome {
-        loading: loading,
-        board: board,
-        finish: finish,
+        loading,
+        board,
+        finish,
     }
 }
