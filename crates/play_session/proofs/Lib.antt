@@ -5,6 +5,4 @@ pub mod Pieces
 pub mod PlayedLines
 pub mod BoardParts
 pub mod Prints
-pub mod Replying
-pub mod Keeping
 pub mod Feeding

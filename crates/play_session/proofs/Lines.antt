@@ -22,13 +22,15 @@ use Rattle.move_turn.specs.Turns.{turn_call, turn_unkept}
 use Rattle.move_turn.proofs.Unkept.{closed_alike, unkept_number}
 use Rattle.solve_next.specs.Hints.{hint_call}
 use Rattle.move_list.specs.Calls.{carry, turn, undo, hint, finish}
+use Rattle.play_lines.specs.declared.Kind.{Kind}
+use Rattle.play_lines.specs.declared.Kind.TheVariants.{Hint, Undo, Finish, CarryWhole, Turn}
 use Rattle.play_lines.specs.declared.Form.{Form}
 use Rattle.play_lines.specs.Orders.{Order, call, other}
-use Rattle.play_lines.specs.Scans.{hint_form, finish_form, carry_whole, turn_form}
-use Rattle.play_lines.specs.Inner.{KeepsSteps, StandsFor}
+use Rattle.play_lines.specs.Scans.{is_hint, is_finish}
+use Rattle.play_lines.specs.Inner.{KeepsSteps, NoLine, StandsFor}
 use Rattle.sheet_output.specs.Outputs.{number_line}
 use Rattle.play_session.specs.Replies.{replied, behind_zero, reply_text}
-use Rattle.play_session.specs.Machine.{turn_replied, form_replied, suggestion_text, played_text, form_text}
+use Rattle.play_session.specs.Machine.{turn_replied, replied_by, form_replied, suggestion_text, played_text, form_text}
 
 module _ (b : Board) where
   module _ (w : List Step) (f : Form) (k : KeepsSteps w f) where
@@ -64,15 +66,31 @@ module _ (b : Board) where
         split (was_true s) (was_false t) = rw (s, t, both, pick) (turn_unkept_lem (λ h. ltb-false _ _ t))
         split (was_false s) t = rw (s, both, pick) (turn_unkept_lem (λ h. absurd (omega (arith, h, leb-false f.count max_edges s))))
 
+-- a line of another form
+other_replied : (b : Board) (f : Form) (k : Kind) → NoLine k → replied_by k b f ≡ record { answer = 1; board = b }
+other_replied b f Hint n = absurd n
+other_replied b f Undo n = absurd n
+other_replied b f Finish n = absurd n
+other_replied b f CarryWhole n = absurd n
+other_replied b f Turn n = absurd n
+other_replied b f _ n = refl
+
+no_hint : (k : Kind) → NoLine k → is_hint k ≡ false
+no_hint Hint n = absurd n
+no_hint _ n = refl
+
+no_finish : (k : Kind) → NoLine k → is_finish k ≡ false
+no_finish Finish n = absurd n
+no_finish _ n = refl
+
 pub form_replied_lem : (b : Board) (o : Order) (f : Form) → StandsFor o f → form_replied b f ≡ replied b o
-unfolding form_replied replied pick
+unfolding form_replied replied
 form_replied_lem b (call (carry i e)) f s = rw (s.0, s.1, s.2)
-form_replied_lem b (call (turn w)) f s =
-    pick_no (eqb f.kind carry_whole) _ _ (rw s.kind) ∙ pick_yes (eqb f.kind turn_form) _ _ (rw s.kind) ∙ turn_replied_lem b w f s
+form_replied_lem b (call (turn w)) f s = ap (λ (k : Kind). replied_by k b f) s.kind ∙ turn_replied_lem b w f s
 form_replied_lem b (call undo) f s = rw s
 form_replied_lem b (call hint) f s = rw s
 form_replied_lem b (call finish) f s = rw s
-form_replied_lem b other f s = rw (s.no_carry, s.no_turn, s.no_hint, s.no_undo, s.no_finish)
+form_replied_lem b other f s = other_replied b f f.kind s
 
 -- what is printed: the number alone, but for a finish and a hint
 no_more : (t : Bool) → pick {A = List ℕ} t [] [] ≡ []
@@ -85,12 +103,12 @@ unfolding reply_text
 reply_alone b o e = rw (e, no_more (eqb (replied b o).answer 0)) (append-nil _)
 
 module _ (b : Board) (f : Form) where
-  form_alone : eqb f.kind hint_form ≡ false → eqb f.kind finish_form ≡ false → form_text b f ≡ number_line (form_replied b f).answer
+  form_alone : is_hint f.kind ≡ false → is_finish f.kind ≡ false → form_text b f ≡ number_line (form_replied b f).answer
   unfolding form_text played_text both pick
   form_alone h n = rw (h, n) (append-nil _)
 
   -- so the line of such an order is printed as the order is
-  alone_text : (o : Order) → StandsFor o f → eqb f.kind hint_form ≡ false → eqb f.kind finish_form ≡ false → behind_zero b o ≡ []
+  alone_text : (o : Order) → StandsFor o f → is_hint f.kind ≡ false → is_finish f.kind ≡ false → behind_zero b o ≡ []
       → form_text b f ≡ reply_text b o
   alone_text o s h n e = form_alone h n ∙ ap (λ (p : Played). number_line p.answer) (form_replied_lem b o f s) ∙ sym (reply_alone b o e)
 
@@ -108,4 +126,4 @@ form_text_lem b (call (turn w)) f s = alone_text b f (call (turn w)) s (rw s.kin
 form_text_lem b (call undo) f s = alone_text b f (call undo) s (rw s) (rw s) refl
 form_text_lem b (call hint) f s = hint_text b f s
 form_text_lem b (call finish) f s = finish_text b f s
-form_text_lem b other f s = alone_text b f other s s.no_hint s.no_finish refl
+form_text_lem b other f s = alone_text b f other s (no_hint f.kind s) (no_finish f.kind s) refl

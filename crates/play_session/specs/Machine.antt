@@ -16,10 +16,12 @@ use Rattle.solve_next.specs.Hints.{hint_refusal, hint_call}
 use Rattle.solve_finish.specs.Finishes.{finish_call}
 use Rattle.load.specs.Load.{Loaded}
 use Rattle.load.specs.Load.{load_text}
+use Rattle.play_lines.specs.declared.Kind.{Kind}
+use Rattle.play_lines.specs.declared.Kind.TheVariants.{Hint, Undo, Finish, CarryWhole, Turn}
 use Rattle.play_lines.specs.declared.Form.{Form}
 use Rattle.play_lines.specs.declared.Scan.{Scan}
 use Rattle.play_lines.specs.MoveLines.{hint_line}
-use Rattle.play_lines.specs.Scans.{hint_form, undo_form, finish_form, carry_whole, turn_form, no_scan, scan_all, scanned, is_blank}
+use Rattle.play_lines.specs.Scans.{is_hint, is_finish, no_scan, scan_all, scanned, is_blank}
 use Rattle.text.specs.Sizes.{number_bytes, report_bytes}
 use Rattle.sheet_output.specs.Outputs.{number_line, report_of}
 use Rattle.sheet_output.specs.Inputs.{text_space, lines_wanted}
@@ -42,14 +44,17 @@ turn_replied b f =
     (turn_call b (code_steps (take f.count f.steps)))
     (record { answer = turn_unkept b f.greatest; board = b })
 
+-- a line, by its kind
+abbrev pub replied_by : Kind → Board → Form → Played
+replied_by CarryWhole b f = carry_call b f.first f.second
+replied_by Turn b f = turn_replied b f
+replied_by Hint b f = record { answer = hint_refusal b; board = b }
+replied_by Undo b f = undo_call b
+replied_by Finish b f = record { answer = (finish_call b).answer; board = (finish_call b).board }
+replied_by _ b f = record { answer = 1; board = b }
+
 unfoldable pub form_replied : Board → Form → Played
-form_replied b f =
-    pick (eqb f.kind carry_whole) (carry_call b f.first f.second)
-    (pick (eqb f.kind turn_form) (turn_replied b f)
-    (pick (eqb f.kind hint_form) (record { answer = hint_refusal b; board = b })
-    (pick (eqb f.kind undo_form) (undo_call b)
-    (pick (eqb f.kind finish_form) (record { answer = (finish_call b).answer; board = (finish_call b).board })
-    (record { answer = 1; board = b })))))
+form_replied b f = replied_by f.kind b f
 
 -- what is printed for a hint, for another line, and for a line
 unfoldable pub suggestion_text : Suggestion → List ℕ
@@ -57,10 +62,10 @@ suggestion_text h = number_line h.answer ++ pick (eqb h.answer 0) (hint_line h.a
 
 unfoldable pub played_text : Form → Played → List ℕ
 played_text f p =
-    number_line p.answer ++ pick (both (eqb f.kind finish_form) (eqb p.answer 0)) (report_of p.board) []
+    number_line p.answer ++ pick (both (is_finish f.kind) (eqb p.answer 0)) (report_of p.board) []
 
 unfoldable pub form_text : Board → Form → List ℕ
-form_text b f = pick (eqb f.kind hint_form) (suggestion_text (hint_call b)) (played_text f (form_replied b f))
+form_text b f = pick (is_hint f.kind) (suggestion_text (hint_call b)) (played_text f (form_replied b f))
 
 -- what a line's answer takes at most: a number, and the longest report
 abbrev pub output_bytes : ℕ

@@ -1,19 +1,19 @@
 // The program `play` over pieces of its input.
 #![tactic(auto)]
 
-ghost use Rattle.std.specs.Prelude.{◌≡◌, false, List, ℕ, min, ◌+◌, ◌≤◌, leb, eqb, length};
+ghost use Rattle.std.specs.Prelude.{◌≡◌, false, List, ℕ, ◌≤◌, length, take};
 ghost use Rattle.std.proofs.lemmas.List.Edits.{sets};
-ghost use Rattle.lists.specs.Choice.{pick};
+ghost use Rattle.refusals.specs.Refusals.{answer_of};
+ghost use Rattle.board.specs.Whole.{Table};
 ghost use Rattle.journal.specs.Words.{whole_of, given_of, no_words};
 ghost use Rattle.solve_next.specs.Hints.{hint_refusal, hint_call};
-ghost use Rattle.load.specs.Load.{load_text};
+ghost use Rattle.solve_next.specs.Views.{suggestion_of};
 ghost use Rattle.load.specs.Lent.{loaded_of};
-ghost use Rattle.play_lines.specs.Scans.{hint_form, scanned};
-ghost use Rattle.sheet_output.specs.Inputs.{text_space};
+ghost use Rattle.play_lines.specs.Scans.{is_hint, scanned};
+ghost use Rattle.text.specs.Sizes.{number_bytes};
+ghost use Rattle.sheet_output.specs.Outputs.{number_line};
 ghost use Rattle.play_session.specs.Machine.{
   output_bytes,
-  playing_stage,
-  over_stage,
   turn_replied,
   form_replied,
   suggestion_text,
@@ -23,7 +23,6 @@ ghost use Rattle.play_session.specs.Machine.{
   text_grown,
   scan_grown,
   grown,
-  text_so_far,
   lines_left,
   ready,
   board_line,
@@ -39,18 +38,25 @@ ghost use Rattle.play_session.specs.Machine.{
 };
 ghost use Rattle.play_session.specs.Lent.{session_of};
 
-use board::{Board, Played};
+use board::Board;
 use journal::WORDS;
-use load::Loaded;
-use play_lines::{Form, Scan};
-use solve_next::Suggestion;
+use play_lines::{Form, Kind, Scan};
+use refusals::Refusal;
+use solve_next::Advice;
 
-// The board is read, lines are played, or the board was refused; how many lines of the board are still to come, 0
-// before the first has ended; the text of the board as far as it is kept; the line as far as it was read; and the
-// board.
+// What a session does: the board is read, lines are played, or the board was refused.
+#[derive(Clone, Copy, PartialEq, Eq)]
+pub enum Stage {
+    Reading,
+    Playing,
+    Over,
+}
+
+// Its stage; how many lines of the board are still to come, 0 before the first has ended; the text of the board as far
+// as it is kept; the line as far as it was read; and the board.
 #[derive(Clone, Copy)]
 pub struct Session {
-    pub stage: u32,
+    pub stage: Stage,
     pub left: u32,
     pub used: usize,
     pub text: [u8; Session::TEXT],
@@ -81,109 +87,115 @@ impl Session {
     // The most that a line's answer takes: a number, and the longest report.
     pub const OUTPUT: usize = 11 + report::REPORT_BYTES;
 
-    // The stages.
-    pub const READING: u32 = 0;
-
-    pub const PLAYING: u32 = 1;
-
-    pub const OVER: u32 = 2;
-
     // Nothing was read yet, and the journal is empty.
     pub fn start() -> Session
         ensures { session_of result no_words ≡ new_session }
     {
-        let scan = Scan::none();
-        let board = Board::closed();
         Session {
-            stage: Session::READING,
+            stage: Stage::Reading,
             left: 0,
             used: 0,
             text: [0; Session::TEXT],
-            scan: scan,
-            board: board,
+            scan: Scan::none(),
+            board: Board::closed(),
         }
+    }
+
+    // The text of the board as far as it is kept.
+    fn kept(&self) -> &[u8]
+        ensures { result.now ≡ take self.now.used self.now.text }
+    {
+        &self.text[..self.used.min(Session::TEXT)]
     }
 }
 
 // A turn.
-fn turn_replied(board: Board, journal: &mut [[u64; WORDS]; Board::JOURNAL], form: Form) -> Played
-    ensures { given_of result journal.new ≡ turn_replied (whole_of board journal.old) form }
+#[tactic(auto, unfolding(crate::specs::Machine::turn_replied, lists::specs::Choice::pick, lists::specs::Choice::both))]
+fn turn_replied(
+    board: Board,
+    journal: &mut [[u64; WORDS]; Board::JOURNAL],
+    form: Form,
+) -> Result<Board, Refusal>
+    ensures { given_of board result journal.new ≡ turn_replied (whole_of board journal.old) form }
 {
-    let net = board.network;
     let few = form.count <= Board::MAX_EDGES as u32;
-    let known = form.greatest < net.edges;
-    if !lists::and(few, known) {
-        let number = move_turn::turn_unkept(board, journal, form.greatest);
-        return Played {
-            answer: number,
-            board: board,
-        };
+    let known = form.greatest < board.network.edges;
+    if few && known {
+        move_turn::turn_steps(board, journal, &form.steps[..form.count as usize])
+    } else {
+        Err(move_turn::turn_unkept(board, journal, form.greatest))
     }
-    let steps = form.steps;
-    move_turn::turn_steps(board, journal, &steps[..form.count as usize])
 }
 
-// What a line that asks for no hint is answered with, and the board after it.
-fn form_replied(board: Board, journal: &mut [[u64; WORDS]; Board::JOURNAL], form: Form) -> Played
-    requires { eqb form.kind hint_form ≡ false }
-    ensures { given_of result journal.new ≡ form_replied (whole_of board journal.old) form }
+// What a line that asks for no hint is answered with: the board after it, or why it is refused.
+#[tactic(auto, unfolding(crate::specs::Machine::form_replied))]
+fn form_replied(
+    board: Board,
+    journal: &mut [[u64; WORDS]; Board::JOURNAL],
+    form: Form,
+) -> Result<Board, Refusal>
+    requires { is_hint form.kind ≡ false }
+    ensures { given_of board result journal.new ≡ form_replied (whole_of board journal.old) form }
 {
-    if form.kind == Form::CARRY_WHOLE {
-        return move_carry::carry(board, journal, form.first, form.second);
+    match form.kind {
+        Kind::CarryWhole => move_carry::carry(board, journal, form.first, form.second),
+        Kind::Turn => turn_replied(board, journal, form),
+        Kind::Undo => move_undo::undo(board, journal),
+        Kind::Finish => {
+            let finished = solve_finish::finish(board, journal)?;
+            Ok(finished.board)
+        }
+        _ => Err(Refusal::Malformed),
     }
-    if form.kind == Form::TURN {
-        return turn_replied(board, journal, form);
-    }
-    if form.kind == Form::UNDO {
-        return move_undo::undo(board, journal);
-    }
-    if form.kind == Form::FINISH {
-        let finished = solve_finish::finish(board, journal);
-        let last = finished.board;
-        return Played {
-            answer: finished.answer,
-            board: last,
-        };
-    }
-    Played {
-        answer: 1,
-        board: board,
-    }
+}
+
+// Writes the number of an answer, 0 where nothing is refused; answers how many bytes.
+fn put_answer<T: Copy>(out: &mut [u8], given: Result<T, Refusal>) -> usize
+    ensures value { result ≡ length (number_line (answer_of given)) }
+    ensures upper_bound { result ≤ number_bytes }
+    ensures out_after { out.new ≡ sets out.old 0 (number_line (answer_of given)) }
+{
+    let number = match given {
+        Ok(_) => 0,
+        Err(refusal) => u32::from(refusal),
+    };
+    sheet_output::put_number(out, 0, number)
 }
 
 // Writes the number of a hint, and after an accepted one its move as a line; answers how many bytes.
-fn put_hint(out: &mut [u8], given: Suggestion) -> usize
-    ensures value { result ≡ length (suggestion_text given) }
+fn put_hint(out: &mut [u8], given: Result<Option<Advice>, Refusal>) -> usize
+    ensures value { result ≡ length (suggestion_text (suggestion_of given)) }
     ensures upper_bound { result ≤ output_bytes }
-    ensures out_after { out.new ≡ sets out.old 0 (suggestion_text given) }
+    ensures out_after { out.new ≡ sets out.old 0 (suggestion_text (suggestion_of given)) }
 {
-    let number = sheet_output::put_number(out, 0, given.answer);
-    if given.answer != 0 {
-        return number;
+    let behind = put_answer(out, given);
+    match given {
+        Ok(advice) => play_lines::put_move(out, behind, advice),
+        Err(_) => behind,
     }
-    let advice = given.advice;
-    play_lines::put_move(out, number, advice)
 }
 
 // Writes the number of an answer, and the report after an accepted finish; answers how many bytes.
 fn put_reply(
     out: &mut [u8],
     form: Form,
-    played: Played,
+    given: Result<Board, Refusal>,
     journal: &[[u64; WORDS]; Board::JOURNAL],
 ) -> usize
-    ensures value { result ≡ length (played_text form (given_of played journal.now)) }
+    ensures value { (old : Table) →
+        result ≡ length (played_text form (given_of old given journal.now)) }
     ensures upper_bound { result ≤ output_bytes }
-    ensures out_after { out.new ≡
-        sets out.old 0 (played_text form (given_of played journal.now)) }
+    ensures out_after { (old : Table) →
+        out.new ≡ sets out.old 0 (played_text form (given_of old given journal.now)) }
 {
-    let number = sheet_output::put_number(out, 0, played.answer);
-    let finished = form.kind == Form::FINISH;
-    if !lists::and(finished, played.answer == 0) {
-        return number;
+    let number = put_answer(out, given);
+    match form.kind {
+        Kind::Finish => match given {
+            Ok(board) => sheet_output::put_report(out, number, board, journal),
+            Err(_) => number,
+        },
+        _ => number,
     }
-    let last = played.board;
-    sheet_output::put_report(out, number, last, journal)
 }
 
 // Stores bytes from a place on, as many as there is room for.
@@ -191,142 +203,96 @@ fn put_bytes(text: [u8; Session::TEXT], at: usize, bytes: &[u8]) -> [u8; Session
     ensures { result ≡ sets text at bytes.now }
 {
     let mut next = text;
-    let mut to = at;
-    let mut i: usize = 0;
-    while i < bytes.len() {
-        if Session::TEXT <= to {
-            return next;
+    let room = Session::TEXT.saturating_sub(at);
+    for (i, byte) in bytes.iter().enumerate() {
+        if i < room {
+            next[at + i] = *byte;
         }
-        next[to] = bytes[i];
-        to += 1;
-        i += 1;
     }
     next
 }
 
-// How much of the text is used behind so many bytes more: all of it where they have no room.
-fn used_after(used: usize, count: usize) -> usize
-    ensures { result ≡ pick (leb (used + count) text_space) (used + count) text_space }
-{
-    if Session::TEXT < used {
-        return Session::TEXT;
-    }
-    if Session::TEXT - used < count {
-        return Session::TEXT;
-    }
-    used + count
-}
-
 // Bytes of the board's text.
-fn text_grown(mut session: Session, bytes: &[u8]) -> Session
+#[tactic(auto, unfolding(lists::specs::Choice::pick))]
+fn text_grown(session: Session, bytes: &[u8]) -> Session
     ensures { (w : List (List ℕ)) → session_of result w ≡ text_grown (session_of session w) bytes.now }
 {
-    let text = session.text;
-    let kept = put_bytes(text, session.used, bytes);
-    let used = used_after(session.used, bytes.len());
-    session.used = used;
-    session.text = kept;
-    session
+    Session {
+        used: session.used.saturating_add(bytes.len()).min(Session::TEXT),
+        text: put_bytes(session.text, session.used, bytes),
+        ..session
+    }
 }
 
 // Bytes of a line of the play.
-fn scan_grown(mut session: Session, bytes: &[u8]) -> Session
+fn scan_grown(session: Session, bytes: &[u8]) -> Session
     ensures { (w : List (List ℕ)) → session_of result w ≡ scan_grown (session_of session w) bytes.now }
 {
-    let scan = session.scan;
-    let read = play_lines::read_on(scan, bytes);
-    session.scan = read;
-    session
+    Session {
+        scan: play_lines::read_on(session.scan, bytes),
+        ..session
+    }
 }
 
 // Bytes with no line feed among them.
+#[tactic(auto, unfolding(crate::specs::Machine::grown, lists::specs::Choice::pick))]
 fn grown(session: Session, bytes: &[u8]) -> Session
     ensures { (w : List (List ℕ)) → session_of result w ≡ grown (session_of session w) bytes.now }
 {
-    if session.stage == Session::READING {
-        return text_grown(session, bytes);
-    }
-    if session.stage == Session::PLAYING {
-        return scan_grown(session, bytes);
-    }
-    session
-}
-
-// How many bytes of the text are kept.
-fn kept(used: usize) -> usize
-    ensures { result ≡ min used text_space }
-{
-    if used < Session::TEXT {
-        used
-    } else {
-        Session::TEXT
+    match session.stage {
+        Stage::Reading => text_grown(session, bytes),
+        Stage::Playing => scan_grown(session, bytes),
+        Stage::Over => session,
     }
 }
 
 // How many lines of the board are still to come behind one that has ended. The first one says how many there are.
+#[tactic(auto, unfolding(crate::specs::Machine::lines_left, lists::specs::Choice::pick))]
 fn lines_left(session: Session) -> u32
     ensures { (w : List (List ℕ)) → result ≡ lines_left (session_of session w) }
 {
-    if session.left != 0 {
-        return session.left - 1;
-    }
-    let text = session.text;
-    let used = kept(session.used);
-    let wanted = sheet_output::lines_wanted(&text[..used]);
-    lists::minus(wanted, 1)
-}
-
-// The board, loaded from the text.
-fn board_loaded(session: Session, journal: &mut [[u64; WORDS]; Board::JOURNAL]) -> Loaded
-    ensures { loaded_of result journal.new ≡
-        load_text (text_so_far (session_of session journal.old)) }
-{
-    let text = session.text;
-    let used = kept(session.used);
-    load::load(&text[..used], journal)
-}
-
-// The stage behind a load: the board is played, or it was refused.
-fn stage_after(answer: u32) -> u32
-    ensures { result ≡ pick (eqb answer 0) playing_stage over_stage }
-{
-    if answer == 0 {
-        Session::PLAYING
+    if session.left == 0 {
+        sheet_output::lines_wanted(session.kept()).saturating_sub(1)
     } else {
-        Session::OVER
+        session.left - 1
     }
 }
 
-// The session with the board loaded.
-fn ready(mut session: Session, loaded: Loaded) -> Session
+// The session with the board loaded: it is played, or it was refused.
+#[tactic(auto, unfolding(lists::specs::Choice::pick))]
+fn ready(session: Session, loaded: Result<Board, Refusal>) -> Session
     ensures { (w : List (List ℕ)) → session_of result w ≡ ready (loaded_of loaded w) (session_of session w) }
 {
-    let stage = stage_after(loaded.answer);
-    let scan = Scan::none();
-    let board = loaded.board;
-    session.stage = stage;
-    session.left = 0;
-    session.scan = scan;
-    session.board = board;
-    session
+    let (stage, board) = match loaded {
+        Ok(board) => (Stage::Playing, board),
+        Err(_) => (Stage::Over, Board::closed()),
+    };
+    Session {
+        stage,
+        left: 0,
+        scan: Scan::none(),
+        board,
+        ..session
+    }
 }
 
 // Writes the number of a refused board, and nothing for another; answers how many bytes.
-fn put_load(out: &mut [u8], loaded: Loaded) -> usize
+#[tactic(auto, unfolding(crate::specs::Machine::load_told, lists::specs::Choice::pick))]
+fn put_load(out: &mut [u8], loaded: Result<Board, Refusal>) -> usize
     ensures by_index { (w : List (List ℕ)) → result ≡ length (load_told (loaded_of loaded w)) }
     ensures upper_bound { result ≤ output_bytes }
     ensures by_index_2 { (w : List (List ℕ)) →
         out.new ≡ sets out.old 0 (load_told (loaded_of loaded w)) }
 {
-    if loaded.answer == 0 {
-        return 0;
+    match loaded {
+        Ok(_) => 0,
+        Err(refusal) => sheet_output::put_number(out, 0, u32::from(refusal)),
     }
-    sheet_output::put_number(out, 0, loaded.answer)
 }
 
 // A line of the board has ended: the next one is expected, or the board is loaded.
 fn board_line(
-    mut session: Session,
+    session: Session,
     journal: &mut [[u64; WORDS]; Board::JOURNAL],
     out: &mut [u8],
 ) -> AfterLine
@@ -339,24 +305,21 @@ fn board_line(
 {
     let left = lines_left(session);
     if left != 0 {
-        session.left = left;
         return AfterLine {
-            session: session,
+            session: Session { left, ..session },
             used: 0,
         };
     }
-    let loaded = board_loaded(session, journal);
-    let used = put_load(out, loaded);
-    let next = ready(session, loaded);
+    let loaded = load::load(session.kept(), journal);
     AfterLine {
-        session: next,
-        used: used,
+        session: ready(session, loaded),
+        used: put_load(out, loaded),
     }
 }
 
 // A line that asks for a hint has ended: the hint is worked out once, and the board stays.
 fn hint_line(
-    mut session: Session,
+    session: Session,
     journal: &[[u64; WORDS]; Board::JOURNAL],
     out: &mut [u8],
 ) -> AfterLine
@@ -370,20 +333,20 @@ fn hint_line(
     ensures out_after { out.new ≡
         sets out.old 0 (suggestion_text (hint_call (whole_of session.board journal.now))) }
 {
-    let board = session.board;
-    let given = solve_next::hint(board, journal);
+    let given = solve_next::hint(session.board, journal);
     let used = put_hint(out, given);
-    let none = Scan::none();
-    session.scan = none;
     AfterLine {
-        session: session,
-        used: used,
+        session: Session {
+            scan: Scan::none(),
+            ..session
+        },
+        used,
     }
 }
 
 // A line of the play has ended: it is answered.
 fn played_line(
-    mut session: Session,
+    session: Session,
     journal: &mut [[u64; WORDS]; Board::JOURNAL],
     out: &mut [u8],
 ) -> AfterLine
@@ -396,21 +359,21 @@ fn played_line(
     ensures out_after { out.new ≡ sets out.old 0
         (form_text (whole_of session.board journal.old) (scanned session.scan)) }
 {
-    let scan = session.scan;
-    let form = play_lines::whole(scan);
-    if form.kind == Form::HINT {
-        return hint_line(session, journal, out);
-    }
-    let board = session.board;
-    let played = form_replied(board, journal, form);
-    let used = put_reply(out, form, played, journal);
-    let none = Scan::none();
-    let last = played.board;
-    session.scan = none;
-    session.board = last;
-    AfterLine {
-        session: session,
-        used: used,
+    let form = play_lines::whole(session.scan);
+    match form.kind {
+        Kind::Hint => hint_line(session, journal, out),
+        _ => {
+            let given = form_replied(session.board, journal, form);
+            let used = put_reply(out, form, given, journal);
+            AfterLine {
+                session: Session {
+                    scan: Scan::none(),
+                    board: given.unwrap_or(session.board),
+                    ..session
+                },
+                used,
+            }
+        }
     }
 }
 
@@ -427,17 +390,10 @@ fn line_ended(
     ensures out_after { out.new ≡
         sets out.old 0 (line_told (session_of session journal.old)) }
 {
-    if session.stage == Session::READING {
-        let feed = [b'\n'];
-        let whole = text_grown(session, &feed);
-        return board_line(whole, journal, out);
-    }
-    if session.stage == Session::PLAYING {
-        return played_line(session, journal, out);
-    }
-    AfterLine {
-        session: session,
-        used: 0,
+    match session.stage {
+        Stage::Reading => board_line(text_grown(session, &[b'\n']), journal, out),
+        Stage::Playing => played_line(session, journal, out),
+        Stage::Over => AfterLine { session, used: 0 },
     }
 }
 
@@ -461,9 +417,8 @@ pub fn feed(
 {
     let at = lists::index_of(bytes, b'\n');
     if bytes.len() <= at {
-        let next = grown(session, bytes);
         return Fed {
-            session: next,
+            session: grown(session, bytes),
             taken: bytes.len(),
             used: 0,
         };
@@ -471,15 +426,15 @@ pub fn feed(
     let taken = at + 1;
     let next = grown(session, &bytes[..at]);
     let told = line_ended(next, journal, out);
-    let last = told.session;
     Fed {
-        session: last,
-        taken: taken,
+        session: told.session,
+        taken,
         used: told.used,
     }
 }
 
 // Writes what is printed at the end of the input, and answers how many bytes.
+#[tactic(auto, unfolding(crate::specs::Machine::end_told, lists::specs::Choice::pick))]
 pub fn close(
     session: Session,
     journal: &mut [[u64; WORDS]; Board::JOURNAL],
@@ -490,16 +445,18 @@ pub fn close(
     ensures out_after { out.new ≡
         sets out.old 0 (end_told (session_of session journal.old)) }
 {
-    if session.stage == Session::READING {
-        let loaded = board_loaded(session, journal);
-        return put_load(out, loaded);
-    }
-    if session.stage == Session::PLAYING {
-        let scan = session.scan;
-        if play_lines::is_blank(scan) {
-            return 0;
+    match session.stage {
+        Stage::Reading => {
+            let loaded = load::load(session.kept(), journal);
+            put_load(out, loaded)
         }
-        return sheet_output::put_number(out, 0, 1);
+        Stage::Playing => {
+            if play_lines::is_blank(session.scan) {
+                0
+            } else {
+                sheet_output::put_number(out, 0, u32::from(Refusal::Malformed))
+            }
+        }
+        Stage::Over => 0,
     }
-    0
 }

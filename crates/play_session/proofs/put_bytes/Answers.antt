@@ -1,29 +1,20 @@
--- What is left to store, from the next place on, gives what all of the bytes give from the first one on; past the end of the text nothing is stored.
-use mathlib.Core.Path.{refl, sym, ◌∙◌}
+-- A byte that has room is stored; past the end of the text nothing is.
+use mathlib.Core.Path.{◌≡◌, refl, sym, ◌∙◌}
+use Prim.Native.Nat.{ℕ, ◌+◌, ◌<◌, ◌≤◌}
 use native.Mathlib.Omega.{arith}
-use lib.ListN.{drop}
-use Rattle.lists.proofs.Stored.{stored_turn, stored_end, stored_past}
-use borrow.Author.Rules.{rules}
+use mathlib.Core.List.{List}
+use lib.ListN.{length, get_or, set, drop, length-set}
+use lib.Seq.{sets, set_out}
+use Rattle.lists.proofs.Stored.{stored_turn}
 use Rattle.play_session.proofs.put_bytes.Goals as goal
+use Rattle.play_session.proofs.put_bytes.Goals.{then-i-room, else-i-room}
 
-pub loop-i-init : goal.loop-i-init
-loop-i-init c = (omega arith, (search rules, refl))
-
-pub returns-then-to-ge-TEXT : goal.returns-then-to-ge-TEXT
-returns-then-to-ge-TEXT c =
-    let at_loop = c.loop-i in
-    let at_args = c.args in
-    sym (stored_past at_loop.next (drop at_loop.i at_args.bytes.now) at_loop.to (omega arith)) ∙ at_loop.invariant.1.1
+stored : (buf next xs : List ℕ) (at i : ℕ) → i < length xs → next ≡ set buf (at + i) (get_or xs i 0) → sets next (at + (i + 1)) (drop (i + 1) xs) ≡ sets buf (at + i) (drop i xs)
+stored buf next xs at i h e = let s : at + (i + 1) ≡ at + i + 1 = omega arith in rw s (stored_turn buf xs (at + i) i 0 next h e)
 
 pub loop-i-preserved : goal.loop-i-preserved
 loop-i-preserved c =
-    let at_loop_test = c.loop-i-test in
-    let at_loop = c.loop-i in
-    let at_args = c.args in
-    (omega arith, (search rules, stored_turn at_loop.next at_args.bytes.now at_loop.to at_loop.i 0 _ at_loop_test.true refl ∙ at_loop.invariant.1.1))
-
-pub returns : goal.returns
-returns c =
-    let at_loop = c.loop-i in
-    let at_args = c.args in
-    stored_end at_loop.next at_args.bytes.now at_loop.to at_loop.i c.loop-i-test.false ∙ at_loop.invariant.1.1
+    elim c.if-i-room.branch [
+      | then-i-room w ↦ (rw w.next-is (simp length-set c.loop-i.invariant.0), stored _ _ _ _ _ c.loop-i-test.true w.next-is ∙ c.loop-i.invariant.1)
+      | else-i-room w ↦ (rw w.next-is c.loop-i.invariant.0, stored _ _ _ _ _ c.loop-i-test.true (w.next-is ∙ sym (set_out _ _ _ (omega arith))) ∙ c.loop-i.invariant.1)
+    ]
