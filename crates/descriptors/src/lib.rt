@@ -10,10 +10,11 @@ ghost use Rattle.descriptors.specs.Serving.{ServedPart};
 
 use board::Board;
 use journal::WORDS;
-use play_session::Session;
+use play_session::{Session, Stage};
 use std::io::Write;
 
-// A session behind a piece of its input, how many bytes of the piece it took, and whether what it said was printed.
+// A session behind a piece of its input, how many bytes of the piece it took, and whether what it said was printed. The
+// flag says nothing of the other two, which hold where the printing failed, too: no Result has them.
 #[derive(Clone, Copy)]
 struct Handed {
     session: Session,
@@ -21,7 +22,8 @@ struct Handed {
     printed: bool,
 }
 
-// A session, and whether it goes on: what it said was printed, and its board was not refused.
+// A session, and whether it goes on: what it said was printed, and its board was not refused. The session is there
+// either way, and `ServedPart` speaks of both fields, so they stand side by side.
 #[derive(Clone, Copy)]
 pub struct Served {
     pub session: Session,
@@ -58,11 +60,10 @@ fn hand_on<W: Write>(
 {
     let fed = play_session::feed(session, journal, bytes, out);
     let printed = print_part(out, fed.used, output);
-    let next = fed.session;
     Handed {
-        session: next,
+        session: fed.session,
         taken: fed.taken,
-        printed: printed,
+        printed,
     }
 }
 
@@ -80,23 +81,21 @@ fn hand_all<W: Write>(
 {
     let mut current = session;
     let mut from: usize = 0;
+    // The place grows by what the session takes, which no range and no iterator gives.
     while from < bytes.len() {
         let handed = hand_on(current, journal, &bytes[from..], out, output);
-        let taken = handed.taken;
-        let printed = handed.printed;
         current = handed.session;
-        from += taken;
-        if !printed {
+        from += handed.taken;
+        if !handed.printed {
             return Served {
                 session: current,
                 going: false,
             };
         }
     }
-    let going = current.stage != Session::OVER;
     Served {
         session: current,
-        going: going,
+        going: current.stage != Stage::Over,
     }
 }
 
