@@ -24,15 +24,14 @@ fn next_piece(
     let got = streams::read_some(input, &mut space);
     if got == 0 {
         return Served {
-            session: session,
+            session,
             going: false,
         };
     }
     descriptors::serve(session, journal, &space[..got], output)
 }
 
-// A proved loop has to end, and nothing says that the input does. So the loop counts its rounds down, from a number
-// that no run uses up.
+// A proved loop has to end, and nothing says that the input does. So the loop has as many rounds as no run uses up.
 fn all_pieces(
     session: Session,
     journal: &mut [[u64; WORDS]; Board::JOURNAL],
@@ -42,15 +41,12 @@ fn all_pieces(
     ensures { BehindPieces (session_of session journal.old) (session_of result journal.new) }
 {
     let mut current = session;
-    let mut rounds = u64::MAX;
-    while 0 < rounds {
+    for _ in 0..u64::MAX {
         let served = next_piece(current, journal, input, output);
-        let going = served.going;
         current = served.session;
-        if !going {
-            return current;
+        if !served.going {
+            break;
         }
-        rounds -= 1;
     }
     current
 }
