@@ -23,7 +23,7 @@ use Rattle.solve_next.specs.Hints.{hint_refusal, hint_call}
 use Rattle.boundary_parts.specs.Shown.{
   advice_numbers,
   advice_bytes,
-  at_or,
+  byte_at,
   marked_in,
   no_row,
   look_refusal,
@@ -46,7 +46,7 @@ zero_at (suc n) zero = refl
 zero_at (suc n) (suc i) = zero_at n i
 
 -- the byte of no step
-zero_byte : (n i : ℕ) → at_or (replicate n 0) i ≡ 0
+zero_byte : (n i : ℕ) → byte_at (replicate n 0) i ≡ 0
 zero_byte n i = ap (λ (s : ℕ). step_byte (code_step s)) (zero_at n i) ∙ ap step_byte (step_down 0 (omega arith))
 
 zeros_tabulated : (f : ℕ → ℕ) (i k : ℕ) → ((j : ℕ) → f j ≡ 0) → tabulated f i k ≡ replicate k 0
@@ -60,7 +60,7 @@ unfolding hint_call
 hint_zeros b s =
     let is : (hint_call b).advice ≡ no_advice = pick_no _ _ _ (ne_eqb (hint_refusal b) 0 s) in (
       ap advice_numbers is,
-      ap advice_bytes is ∙ zeros_tabulated (at_or (replicate max_edges 0)) 0 max_edges (zero_byte max_edges),
+      ap advice_bytes is ∙ zeros_tabulated (byte_at (replicate max_edges 0)) 0 max_edges (zero_byte max_edges),
     )
 
 -- ---- A refused view, and a refused place of the journal.
