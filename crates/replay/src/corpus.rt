@@ -11,30 +11,18 @@ fn print_text(network: Network, output: &mut Stdout) -> bool {
     board.stage = Board::PLAY;
     board.network = network;
     let mut space = [0u8; Session::TEXT];
-    let written = text_writer::write(board, &mut space);
-    if written.answer != 0 {
-        return framing::print_line(written.answer, output);
-    }
-    let used = written.used;
-    if used <= space.len() {
-        streams::write_all(output, &space[..used])
-    } else {
-        false
+    match text_writer::write(board, &mut space) {
+        Ok(used) => descriptors::print_part(&space, used, output),
+        Err(refusal) => framing::print_line(u32::from(refusal), output),
     }
 }
 
 // What reading the text answers, and after a 0 the text of what was read.
 fn answer(text: &[u8], output: &mut Stdout) -> bool {
-    let reading = text_reader::read(text);
-    let is_printed = framing::print_line(reading.answer, output);
-    if !is_printed {
-        return false;
+    match text_reader::read(text) {
+        Ok(network) => framing::print_line(0, output) && print_text(network, output),
+        Err(refusal) => framing::print_line(u32::from(refusal), output),
     }
-    if reading.answer != 0 {
-        return true;
-    }
-    let network = reading.network;
-    print_text(network, output)
 }
 
 // One text: answers whether there was one, and it was read and answered whole.
@@ -44,7 +32,7 @@ fn next_text(space: &mut [u8], input: &mut Stdin, output: &mut Stdout) -> bool {
     if got < 2 {
         return false;
     }
-    let n = framing::two_bytes(before[0], before[1]);
+    let n = usize::from(u16::from_be_bytes(before));
     if space.len() < n {
         return false;
     }
@@ -58,9 +46,10 @@ fn next_text(space: &mut [u8], input: &mut Stdin, output: &mut Stdout) -> bool {
 // Answers so many texts; whether all of them were there and answered whole.
 pub fn all_texts(count: u32, input: &mut Stdin, output: &mut Stdout) -> bool {
     let mut space = [0u8; 65536];
-    let mut left = count;
-    while 0 < left && next_text(&mut space, input, output) {
-        left -= 1;
+    for _ in 0..count {
+        if !next_text(&mut space, input, output) {
+            return false;
+        }
     }
-    left == 0
+    true
 }

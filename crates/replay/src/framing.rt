@@ -1,15 +1,14 @@
-// What the test programs share: numbers in bytes, and a number alone on a line.
+// What the test programs share: the number of an answer, and a number alone on a line.
 
+use refusals::Refusal;
 use std::io::Stdout;
 
-// The number that two bytes make, the first the high one.
-pub fn two_bytes(high: u8, low: u8) -> usize {
-    (high as usize) * 256 + (low as usize)
-}
-
-// The number that four bytes make, the first the highest.
-pub fn four_bytes(a: u8, b: u8, c: u8, d: u8) -> u32 {
-    (a as u32) * 16777216 + (b as u32) * 65536 + (c as u32) * 256 + (d as u32)
+// 0, or the number of the refusal.
+pub fn number<T: Copy>(answer: Result<T, Refusal>) -> u32 {
+    match answer {
+        Ok(_) => 0,
+        Err(refusal) => u32::from(refusal),
+    }
 }
 
 // A number alone on a line.

@@ -8,27 +8,16 @@ use journal::WORDS;
 use play_session::Session;
 use std::io::Stdout;
 
-// 1 for a carry, 0 for a turn.
-fn carry_count(step: Move) -> u32
-    ensures { result ≤ 1 }
-{
-    match step {
-        Move::Carry(relocation) => 1,
-        Move::Turn(augmentation) => 0,
-    }
-}
-
 // How many of the first moves of a journal are carries.
 fn carries(journal: &[[u64; WORDS]; Board::JOURNAL], moves: u32) -> u32
     ensures { result ≤ moves }
 {
     let mut count: u32 = 0;
-    let mut i: u32 = 0;
-    while i < moves && (i as usize) < Board::JOURNAL {
+    for i in 0..moves.min(Board::JOURNAL as u32) {
         let entry = journal::entry_at(journal, i as usize);
-        let step = entry.step;
-        count += carry_count(step);
-        i += 1;
+        if let Move::Carry(_) = entry.step {
+            count += 1;
+        }
     }
     count
 }
@@ -58,10 +47,11 @@ fn print_counts(
 // The line of a board, its text and its report.
 fn print_board(number: u32, text: &[u8], output: &mut Stdout) -> bool {
     let mut journal = [[0u64; WORDS]; Board::JOURNAL];
-    let loaded = load::load(text, &mut journal);
-    let board = loaded.board;
-    let finished = solve_finish::finish(board, &mut journal);
-    let last = finished.board;
+    let board = load::load(text, &mut journal).unwrap_or(Board::closed());
+    let last = match solve_finish::finish(board, &mut journal) {
+        Ok(finished) => finished.board,
+        Err(_) => board,
+    };
     let counted = print_counts(number, last, &journal, output);
     let written = descriptors::print_part(text, text.len(), output);
     let mut out = [0u8; Session::OUTPUT];
@@ -72,22 +62,18 @@ fn print_board(number: u32, text: &[u8], output: &mut Stdout) -> bool {
 // The board of a number, or what the number is refused with.
 fn show(number: u32, output: &mut Stdout) -> bool {
     let mut space = [0u8; Session::TEXT];
-    let written = catalog::write(number, &mut space);
-    let used = written.used;
-    if written.answer != 0 {
-        return framing::print_line(written.answer, output);
+    match catalog::write(number, &mut space) {
+        Ok(used) => used <= space.len() && print_board(number, &space[..used], output),
+        Err(refusal) => framing::print_line(u32::from(refusal), output),
     }
-    if space.len() < used {
-        return false;
-    }
-    print_board(number, &space[..used], output)
 }
 
 // Shows the boards of the numbers below the count; whether all of them were printed whole.
 pub fn all_boards(count: u32, output: &mut Stdout) -> bool {
-    let mut number: u32 = 0;
-    while number < count && show(number, output) {
-        number += 1;
+    for number in 0..count {
+        if !show(number, output) {
+            return false;
+        }
     }
-    number == count
+    true
 }

@@ -36,17 +36,18 @@ fn next_part(input: &mut Stdin, output: &mut Stdout) -> bool {
     if got < 5 {
         return false;
     }
-    let count = framing::four_bytes(before[1], before[2], before[3], before[4]);
+    let count = u32::from_be_bytes([before[1], before[2], before[3], before[4]]);
     answer(before[0], count, input, output)
 }
 
-// A proved loop has to end, and nothing says that the input does. So the loop counts its rounds down, from a number
-// that no run uses up.
+// A proved loop has to end, and nothing says that the input does. So the loop counts its rounds, up to a number that no
+// run reaches.
 fn main(rt: HostRuntime) {
     let mut input = rt.stdin();
     let mut output = rt.stdout();
-    let mut rounds = u64::MAX;
-    while 0 < rounds && next_part(&mut input, &mut output) {
-        rounds -= 1;
+    for _ in 0..u64::MAX {
+        if !next_part(&mut input, &mut output) {
+            return;
+        }
     }
 }

@@ -9,21 +9,13 @@ use journal::WORDS;
 use play_session::Session;
 use std::io::{Stdin, Stdout};
 
-// The smaller of two lengths.
-fn least(a: u32, b: u32) -> u32
-    ensures upper_bound { result ≤ a }
-    ensures upper_bound_2 { result ≤ b }
-{
-    if a < b { a } else { b }
-}
-
 // Reads the next bytes: as many as a piece has, no more than are left and no more than there is room for. Answers how
 // many, 0 where the input ends before.
 fn read_piece(space: &mut [u8], piece: u8, left: u32, input: &mut Stdin) -> usize
     ensures upper_bound { result ≤ left }
     ensures upper_bound_2 { result ≤ length space.new }
 {
-    let n = least(piece as u32, left) as usize;
+    let n = u32::from(piece).min(left) as usize;
     if space.len() < n {
         return 0;
     }
@@ -102,8 +94,8 @@ fn report_into(
     output: &mut Stdout,
 ) -> bool {
     let written = report::sheet(board, journal, room);
-    let answer_printed = framing::print_line(written.answer, output);
-    let printed = descriptors::print_part(room, written.used, output);
+    let answer_printed = framing::print_line(framing::number(written), output);
+    let printed = descriptors::print_part(room, written.unwrap_or(0), output);
     answer_printed && printed
 }
 
@@ -125,15 +117,15 @@ fn report(
 fn call_script(text: &[u8], output: &mut Stdout) -> bool {
     let mut journal = [[0u64; WORDS]; Board::JOURNAL];
     let loaded = load::load(text, &mut journal);
-    let board = loaded.board;
-    let loading = framing::print_line(loaded.answer, output);
+    let board = loaded.unwrap_or(Board::closed());
+    let loading = framing::print_line(framing::number(loaded), output);
     let before = report(board, &journal, Session::OUTPUT, output);
-    let finished = solve_finish::finish(board, &mut journal);
-    let finishing = framing::print_line(finished.answer, output);
-    let mut last = board;
-    if finished.answer == 0 {
-        last = finished.board;
-    }
+    let finish = solve_finish::finish(board, &mut journal);
+    let finishing = framing::print_line(framing::number(finish), output);
+    let last = match finish {
+        Ok(finished) => finished.board,
+        Err(_) => board,
+    };
     let short = report(last, &journal, 10, output);
     let whole = report(last, &journal, Session::OUTPUT, output);
     loading && before && finishing && short && whole
@@ -162,7 +154,7 @@ fn answer(letter: u8, text: &[u8], output: &mut Stdout) -> bool {
 // A script for `sheet` or a caller: the first bytes decide, the rest is read past.
 fn text_script(letter: u8, length: u32, input: &mut Stdin, output: &mut Stdout) -> bool {
     let mut space = [0u8; Session::TEXT];
-    let kept = least(length, Session::TEXT as u32);
+    let kept = length.min(Session::TEXT as u32);
     let n = kept as usize;
     let came = fill(&mut space, n, input);
     if !came || space.len() < n {
@@ -180,7 +172,7 @@ fn next_script(input: &mut Stdin, output: &mut Stdout) -> bool {
     if got < 6 {
         return false;
     }
-    let length = framing::four_bytes(before[2], before[3], before[4], before[5]);
+    let length = u32::from_be_bytes([before[2], before[3], before[4], before[5]]);
     let done = if before[0] == b'P' {
         play_script(before[1], length, input, output)
     } else {
@@ -194,9 +186,10 @@ fn next_script(input: &mut Stdin, output: &mut Stdout) -> bool {
 
 // Does so many scripts; whether all of them were there and answered whole.
 pub fn all_scripts(count: u32, input: &mut Stdin, output: &mut Stdout) -> bool {
-    let mut left = count;
-    while 0 < left && next_script(input, output) {
-        left -= 1;
+    for _ in 0..count {
+        if !next_script(input, output) {
+            return false;
+        }
     }
-    left == 0
+    true
 }

@@ -6,22 +6,30 @@ use journal::WORDS;
 use play_session::Session;
 use std::io::Stdout;
 
+// A call that is made on each board.
+#[derive(Clone, Copy)]
+enum Call {
+    Carry,
+    EmptyTurn,
+    Turn,
+    Undo,
+    Hint,
+    Finish,
+    Sheet,
+    Write,
+}
+
 // The calls, in the order of the lines.
-const CARRY: u32 = 0;
-
-const EMPTY_TURN: u32 = 1;
-
-const TURN: u32 = 2;
-
-const UNDO: u32 = 3;
-
-const HINT: u32 = 4;
-
-const FINISH: u32 = 5;
-
-const SHEET: u32 = 6;
-
-const WRITE: u32 = 7;
+const CALLS: [Call; 8] = [
+    Call::Carry,
+    Call::EmptyTurn,
+    Call::Turn,
+    Call::Undo,
+    Call::Hint,
+    Call::Finish,
+    Call::Sheet,
+    Call::Write,
+];
 
 // The first stage that no board has.
 const NO_STAGE: u32 = 3;
@@ -52,63 +60,39 @@ fn past_limits(stage: u32, number: u32) -> Board {
     board
 }
 
-// What the sheet (SHEET) or the board writer answers, with room for either text.
-fn text_answer(call: u32, board: Board, journal: &[[u64; WORDS]; Board::JOURNAL]) -> u32 {
-    let mut space = [0u8; Session::OUTPUT];
-    let written = if call == SHEET {
-        report::sheet(board, journal, &mut space)
-    } else {
-        text_writer::write(board, &mut space)
-    };
-    written.answer
-}
-
-// What a turn answers, along no steps (EMPTY_TURN) or down edge 0.
-fn turn_answer(call: u32, board: Board, journal: &mut [[u64; WORDS]; Board::JOURNAL]) -> u32 {
-    let steps = [0u8; 1];
-    let played = if call == EMPTY_TURN {
-        move_turn::turn(board, journal, &steps[..0])
-    } else {
-        move_turn::turn(board, journal, &steps)
-    };
-    played.answer
-}
-
-// What a call answers.
-fn answer(call: u32, board: Board, journal: &mut [[u64; WORDS]; Board::JOURNAL]) -> u32 {
-    if call == CARRY {
-        let played = move_carry::carry(board, journal, 0, 0);
-        played.answer
-    } else if call <= TURN {
-        turn_answer(call, board, journal)
-    } else if call == UNDO {
-        let played = move_undo::undo(board, journal);
-        played.answer
-    } else if call == HINT {
-        let given = solve_next::hint(board, journal);
-        given.answer
-    } else if call == FINISH {
-        let finished = solve_finish::finish(board, journal);
-        finished.answer
-    } else {
-        text_answer(call, board, journal)
+// What a call answers: a carry of terminal 0 over edge 0, a turn along no steps or down edge 0, and with room for
+// either text the sheet and the board writer.
+fn answer(call: Call, board: Board, journal: &mut [[u64; WORDS]; Board::JOURNAL]) -> u32 {
+    match call {
+        Call::Carry => framing::number(move_carry::carry(board, journal, 0, 0)),
+        Call::EmptyTurn => framing::number(move_turn::turn(board, journal, b"")),
+        Call::Turn => framing::number(move_turn::turn(board, journal, b"\0")),
+        Call::Undo => framing::number(move_undo::undo(board, journal)),
+        Call::Hint => framing::number(solve_next::hint(board, journal)),
+        Call::Finish => framing::number(solve_finish::finish(board, journal)),
+        Call::Sheet => {
+            let mut space = [0u8; Session::OUTPUT];
+            framing::number(report::sheet(board, journal, &mut space))
+        }
+        Call::Write => {
+            let mut space = [0u8; Session::OUTPUT];
+            framing::number(text_writer::write(board, &mut space))
+        }
     }
 }
 
 // What a call answers; 0 where it answers something else at one of so many times more.
 fn repeated(
-    call: u32,
+    call: Call,
     board: Board,
     journal: &mut [[u64; WORDS]; Board::JOURNAL],
     count: u32,
 ) -> u32 {
     let first = answer(call, board, journal);
-    let mut left = count;
-    while 0 < left {
+    for _ in 0..count {
         if answer(call, board, journal) != first {
             return 0;
         }
-        left -= 1;
     }
     first
 }
@@ -116,27 +100,30 @@ fn repeated(
 // Every call on a board with an empty journal; whether all of the numbers were printed.
 fn all_calls(board: Board, count: u32, output: &mut Stdout) -> bool {
     let mut journal = [[0u64; WORDS]; Board::JOURNAL];
-    let mut call = CARRY;
-    while call <= WRITE && framing::print_line(repeated(call, board, &mut journal, count), output) {
-        call += 1;
+    for call in &CALLS {
+        if !framing::print_line(repeated(*call, board, &mut journal, count), output) {
+            return false;
+        }
     }
-    WRITE < call
+    true
 }
 
 // The boards of a stage; whether all of the numbers were printed.
 fn all_numbers(stage: u32, count: u32, output: &mut Stdout) -> bool {
-    let mut number: u32 = 0;
-    while number <= LAST_BOARD && all_calls(past_limits(stage, number), count, output) {
-        number += 1;
+    for number in 0..=LAST_BOARD {
+        if !all_calls(past_limits(stage, number), count, output) {
+            return false;
+        }
     }
-    LAST_BOARD < number
+    true
 }
 
 // The boards of all stages; whether all of the numbers were printed.
 pub fn all_stages(count: u32, output: &mut Stdout) -> bool {
-    let mut stage = Board::PLAY;
-    while stage <= NO_STAGE && all_numbers(stage, count, output) {
-        stage += 1;
+    for stage in Board::PLAY..=NO_STAGE {
+        if !all_numbers(stage, count, output) {
+            return false;
+        }
     }
-    NO_STAGE < stage
+    true
 }

@@ -1,9 +1,0 @@
--- Safe and ending: the measure is how often the call is still made.
-use Prim.Native.Nat.{◌≤◌}
-use Rattle.replay.proofs.unloaded.repeated.Given as goal
-
-abbrev pub invariant-loop-left : goal.invariant-loop-left
-invariant-loop-left l = l.left ≤ l.initial.left
-
-abbrev pub decreases-loop-left : goal.decreases-loop-left
-decreases-loop-left l = l.left
