@@ -1,4 +1,4 @@
--- The code's calls, by the steps that are lent; and the code's numbers of a hint's move.
+-- For inner contracts only: the code's calls, by the steps that are lent; and the code's numbers of a hint's move.
 use Rattle.std.specs.Prelude.{◌≡◌, Option, None, Some, List, [], ◌∷◌, ℕ}
 use Rattle.move_cycle.specs.Steps.{steps_of}
 use Rattle.solve_next.specs.Advices.{Advice}
