@@ -173,6 +173,15 @@ module _ (net : Network) (flows : List ℕ) (marks : ℕ) (places : List ℕ) wh
   unfolding advice_number_in carry_refusal_in on_board_in enters_in turn_refusal_in
   number_bare a = refl
 
+  -- of the frame of a board
+  module _ (frame : Frame) (positive : ℕ) (is : frame ≡ frame_of net marks positive 0) where
+    pub advice_framed : next_advice_in (net_of frame net.tails net.heads net.demands) flows frame.marks places ≡ next_advice_in net flows marks places
+    advice_framed = rw is advice_bare
+
+    pub number_framed : (a : Advice)
+        → advice_number_in (net_of frame net.tails net.heads net.demands) flows frame.marks places a ≡ advice_number_in net flows marks places a
+    number_framed a = rw is (number_bare a)
+
 -- the number of the code's move
 module _ (frame : Frame) (tails heads demands flows places : List ℕ) where
   pub number_carry : (r : Relocation)

@@ -52,7 +52,7 @@ fn all_home_after(places: &[u32], terminals: u32, source: u32, first: u32) -> bo
     ensures { result ≡ all_home_in terminals source places.now }
 {
     let place = lists::at_or(places, first as usize, 0);
-    if lists::and(first < terminals, place != source) {
+    if first < terminals && place != source {
         return false;
     }
     all_home(places, terminals, source)
@@ -156,31 +156,32 @@ pub fn hint(
         return Err(Refusal::NotInPlay);
     }
     let net = board.network;
-    let flows = board.flows;
-    let places = board.places;
-    let tails = net.tails;
-    let heads = net.heads;
-    let demands = net.demands;
-    let leaving = move_edges::at_vertices(tails);
-    let entering = move_edges::at_vertices(heads);
-    let positive = move_edges::positive(&flows);
-    let frame = Frame {
-        vertices: net.vertices,
-        edges: net.edges,
-        terminals: net.terminals,
-        source: net.source,
-        marks: board.marks,
-        positive,
-        resume: 0,
-    };
+    let leaving = move_edges::at_vertices(net.tails);
+    let entering = move_edges::at_vertices(net.heads);
+    let positive = move_edges::positive(&board.flows);
+    let frame = Frame::of(&net, board.marks, positive, 0);
     let next = next_move(
-        frame, &tails, &heads, &demands, &leaving, &entering, &flows, &places,
+        frame,
+        &net.tails,
+        &net.heads,
+        &net.demands,
+        &leaving,
+        &entering,
+        &board.flows,
+        &board.places,
     );
     let Some(advice) = next else {
         return Ok(None);
     };
     match judge_in(
-        frame, &tails, &heads, &demands, &leaving, &flows, &places, advice,
+        frame,
+        &net.tails,
+        &net.heads,
+        &net.demands,
+        &leaving,
+        &board.flows,
+        &board.places,
+        advice,
     ) {
         Ok(()) => Ok(next),
         Err(_) => Err(Refusal::NotInPlay),

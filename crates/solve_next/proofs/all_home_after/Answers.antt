@@ -5,8 +5,8 @@ use mathlib.Core.List.{List}
 use mathlib.Core.Logic.{◌≢◌}
 use Prim.Native.Nat.{ℕ, ◌<◌}
 use lib.ListN.{get_or}
-use borrow.Author.Tests.{ltb-true, eqb-true, eqb-false, not-true}
-use Rattle.lists.proofs.Laws.{Known, was_true, was_false, known, both_left, both_right, all_from}
+use borrow.Author.Tests.{eqb-true}
+use Rattle.lists.proofs.Laws.{Known, was_true, was_false, known, all_from}
 use Rattle.move_carry.specs.Opens.{is_home_in}
 use Rattle.solve_next.specs.Choosing.{all_home_in}
 use Rattle.solve_next.proofs.all_home_after.Goals as goal
@@ -19,10 +19,6 @@ one_away terminals source places i low out = go (known (all_home_in terminals so
     go (was_true t) = absurd (out (eqb-true _ _ (all_from (is_home_in source places) terminals i t low)))
     go (was_false t) = sym t
 
-pub returns-then-and : goal.returns-then-and
-returns-then-and c =
-    let both = sym c.and.ensures ∙ c.if-and.true in
-    one_away _ _ _ _ (ltb-true _ _ (both_left _ _ both)) (λ q. eqb-false _ _ (not-true _ (both_right _ _ both)) (c.at_or-place.ensures ∙ q))
-
-pub returns : goal.returns
-returns c = c.all_home.ensures
+pub returns-then-place-source : goal.returns-then-place-source
+returns-then-place-source c =
+    one_away _ _ _ _ c.if-first-terminals.true (λ q. c.if-place-source.true (c.at_or-place.ensures ∙ q))

@@ -10,7 +10,7 @@ use Rattle.move_guard.specs.Bounds.{InBounds}
 use Rattle.move_guard.proofs.Bounds.{playing_bounds}
 use Rattle.refusals.proofs.Laws.{refused}
 use Rattle.solve_next.specs.Views.{advice_told}
-use Rattle.solve_next.proofs.Advised.{board_movable, advice_bare, number_bare, advice_short}
+use Rattle.solve_next.proofs.Advised.{board_movable, advice_framed, number_framed, advice_short}
 use Rattle.solve_next.proofs.Ways.{hint_closed, hint_none, hint_stuck, hint_move}
 use borrow.Author.Rules.{rules}
 use Rattle.solve_next.proofs.hint.Goals as goal
@@ -27,22 +27,22 @@ pub next_move-next-requires : goal.next_move-next-requires
 next_move-next-requires c =
     let b = whole_of c.args.board c.args.journal.now in
     let all = in_bounds b (sym c.playing.ensures ∙ c.if-not-playing.false) (search rules) (search rules) (search rules) (search rules) in
-    board_movable b _ _ _ all c.at_vertices-leaving.ensures c.at_vertices-entering.ensures c.positive-positive.ensures
+    rw c.of-frame.ensures (board_movable b _ _ _ all c.at_vertices-leaving.ensures c.at_vertices-entering.ensures c.positive-positive.ensures)
 
 pub returns-in_default : goal.returns-in_default
 returns-in_default c =
     let b = whole_of c.args.board c.args.journal.now in
     let play = sym c.playing.ensures ∙ c.if-not-playing.false in
     let all = in_bounds b play (search rules) (search rules) (search rules) (search rules) in
-    hint_none b play all (c.in_default.ensures ∙ advice_bare b.network b.flows b.marks b.places)
+    hint_none b play all (c.in_default.ensures ∙ advice_framed b.network b.flows b.marks b.places _ _ c.of-frame.ensures)
 
 pub judge_in-requires : goal.judge_in-requires
 judge_in-requires c =
     let b = whole_of c.args.board c.args.journal.now in
     let all = in_bounds b (sym c.playing.ensures ∙ c.if-not-playing.false) (search rules) (search rules) (search rules) (search rules) in record {
-      edges_le_max_edges = all.edges;
-      charted_out = record { leave = c.at_vertices-leaving.ensures; is_positive = c.positive-positive.ensures; all = all.all; headed = all.headed };
-      count_le_max_edges = rw (c.in-Some.ensures ∙ advice_bare b.network b.flows b.marks b.places) (advice_short b.network b.flows b.marks b.places all);
+      edges_le_max_edges = rw c.of-frame.ensures all.edges;
+      charted_out = rw c.of-frame.ensures (record { leave = c.at_vertices-leaving.ensures; is_positive = c.positive-positive.ensures; all = all.all; headed = all.headed });
+      count_le_max_edges = rw (c.in-Some.ensures ∙ advice_framed b.network b.flows b.marks b.places _ _ c.of-frame.ensures) (advice_short b.network b.flows b.marks b.places all);
     }
 
 pub returns-in-Ok : goal.returns-in-Ok
@@ -50,13 +50,13 @@ returns-in-Ok c =
     let b = whole_of c.args.board c.args.journal.now in
     let play = sym c.playing.ensures ∙ c.if-not-playing.false in
     let all = in_bounds b play (search rules) (search rules) (search rules) (search rules) in
-    hint_move b play all _ (c.in-Some.ensures ∙ advice_bare b.network b.flows b.marks b.places) _
-    (c.in-Ok.ensures ∙ number_bare b.network b.flows b.marks b.places (advice_told c.in-Some.advice)) refl
+    hint_move b play all _ (c.in-Some.ensures ∙ advice_framed b.network b.flows b.marks b.places _ _ c.of-frame.ensures) _
+    (c.in-Ok.ensures ∙ number_framed b.network b.flows b.marks b.places _ _ c.of-frame.ensures (advice_told c.in-Some.advice)) refl
 
 pub returns-in-Err : goal.returns-in-Err
 returns-in-Err c =
     let b = whole_of c.args.board c.args.journal.now in
     let play = sym c.playing.ensures ∙ c.if-not-playing.false in
     let all = in_bounds b play (search rules) (search rules) (search rules) (search rules) in
-    hint_stuck b play all _ (c.in-Some.ensures ∙ advice_bare b.network b.flows b.marks b.places) _
-    (c.in-Err.ensures ∙ number_bare b.network b.flows b.marks b.places (advice_told c.in-Some.advice)) (refused _)
+    hint_stuck b play all _ (c.in-Some.ensures ∙ advice_framed b.network b.flows b.marks b.places _ _ c.of-frame.ensures) _
+    (c.in-Err.ensures ∙ number_framed b.network b.flows b.marks b.places _ _ c.of-frame.ensures (advice_told c.in-Some.advice)) (refused _)
