@@ -18,6 +18,7 @@ ghost use Rattle.report.specs.Rows.{set_load_row, table_route_row, table_load_ro
 use board::{Board, Network};
 use journal::WORDS;
 use refusals::Refusal;
+use report_routes::Routes;
 use std::convert::AsSlice;
 
 // How many numbers the line of a route has at most: the terminal, how many edges, and the edges.
@@ -44,6 +45,7 @@ fn unreported_in(stage: u32, fit: bool) -> Result<(), Refusal>
 }
 
 // The line of a route: its numbers are the first of these, used of them.
+// No heap: the places are fixed, so the count stands beside them.
 #[derive(Clone, Copy)]
 struct RouteRow {
     numbers: [u32; ROUTE_NUMBERS],
@@ -73,21 +75,18 @@ fn route_row(terminal: u32, count: u32, edges: [u32; Board::MAX_VERTICES]) -> Ro
 }
 
 // Writes the lines of the routes.
-fn put_routes(
-    buf: &mut [u8],
-    at: usize,
-    counts: &[u32; Board::MAX_TERMINALS],
-    rows: &[[u32; Board::MAX_VERTICES]; Board::MAX_TERMINALS],
-    terminals: u32,
-) -> usize
+fn put_routes(buf: &mut [u8], at: usize, routes: &Routes, terminals: u32) -> usize
     requires { (at ≤ start_most + line_bytes 2)
-        × ((terminals ≤ max_terminals) × ((i : ℕ) → i < terminals → get_or counts.now i 0 ≤ max_vertices)) }
+        × ((terminals ≤ max_terminals) × ((i : ℕ) → i < terminals → get_or routes.now.counts i 0 ≤ max_vertices)) }
     ensures value { result ≡ at
-        + length (lines_text 77 (table_route_row counts.now rows.now) 0 terminals) }
+        + length (lines_text 77 (table_route_row routes.now.counts routes.now.rows) 0 terminals) }
     ensures upper_bound { result ≤ at + routes_bytes }
     ensures buf_after { buf.new ≡ sets buf.old at
-        (lines_text 77 (table_route_row counts.now rows.now) 0 terminals) }
+        (lines_text 77 (table_route_row routes.now.counts routes.now.rows) 0 terminals) }
 {
+    // Tried: a closure over `routes` itself. Its proof did not close, so it holds the two tables.
+    let counts = &routes.counts;
+    let rows = &routes.rows;
     let row = move |i: usize|
         requires few { i < max_terminals }
         requires fits { get_or counts.now i 0 ≤ max_vertices }
@@ -102,26 +101,25 @@ fn put_loads(
     at: usize,
     net: Network,
     acyclic: &[u32; Board::MAX_EDGES],
-    counts: &[u32; Board::MAX_TERMINALS],
-    rows: &[[u32; Board::MAX_VERTICES]; Board::MAX_TERMINALS],
+    routes: &Routes,
 ) -> usize
     requires { (at ≤ start_most + (line_bytes 2 + routes_bytes))
         × ((net.edges ≤ max_edges) × ((net.terminals ≤ max_terminals) × Moderate net.demands)) }
     ensures value { result ≡ at + length (lines_text 76
-        (table_load_row net acyclic.now counts.now rows.now) 0 net.edges) }
+        (table_load_row net acyclic.now routes.now.counts routes.now.rows) 0 net.edges) }
     ensures upper_bound { result ≤ at + loads_bytes }
     ensures buf_after { buf.new ≡ sets buf.old at (lines_text 76
-        (table_load_row net acyclic.now counts.now rows.now) 0 net.edges) }
+        (table_load_row net acyclic.now routes.now.counts routes.now.rows) 0 net.edges) }
 {
     let terminals = net.terminals;
     let demands = net.demands;
-    let routes = report_routes::edge_sets(counts, rows, terminals);
+    let edges = report_routes::edge_sets(routes, terminals);
     let row = move |e: usize|
         requires edge { e < max_edges }
         requires few { (terminals ≤ max_terminals) × Moderate demands }
-        ensures { result ≡ set_load_row acyclic.entry.now demands (sets_of routes) terminals e }
+        ensures { result ≡ set_load_row acyclic.entry.now demands (sets_of edges) terminals e }
     {
-        let load = report_routes::load(&routes, &demands, terminals, e as u32);
+        let load = report_routes::load(&edges, &demands, terminals, e as u32);
         [e as u32, acyclic[e], load]
     };
     text_writer::put_rows(buf, at, b'L', net.edges as usize, row)
@@ -134,43 +132,36 @@ fn put_tables(
     at: usize,
     net: Network,
     acyclic: &[u32; Board::MAX_EDGES],
-    counts: &[u32; Board::MAX_TERMINALS],
-    rows: &[[u32; Board::MAX_VERTICES]; Board::MAX_TERMINALS],
+    routes: &Routes,
 ) -> usize
-    requires { (at ≤ start_most) × Printable net counts.now }
+    requires { (at ≤ start_most) × Printable net routes.now.counts }
     ensures value { result ≡ at
-        + length (table_text net acyclic.now counts.now rows.now) }
+        + length (table_text net acyclic.now routes.now.counts routes.now.rows) }
     ensures upper_bound { result ≤ at + report_bytes }
     ensures buf_after { buf.new ≡ sets buf.old at
-        (table_text net acyclic.now counts.now rows.now) }
+        (table_text net acyclic.now routes.now.counts routes.now.rows) }
 {
     let sizes = [net.terminals, net.edges];
     let head = text_writer::put_line(buf, at, b'R', &sizes);
-    let routes = put_routes(buf, head, counts, rows, net.terminals);
-    put_loads(buf, routes, net, acyclic, counts, rows)
+    let to = put_routes(buf, head, routes, net.terminals);
+    put_loads(buf, to, net, acyclic, routes)
 }
 
 // Whether the report has room in so many bytes: it is measured by writing it into a buffer that drops it.
-fn has_room(
-    room: usize,
-    net: Network,
-    acyclic: &[u32; Board::MAX_EDGES],
-    counts: &[u32; Board::MAX_TERMINALS],
-    rows: &[[u32; Board::MAX_VERTICES]; Board::MAX_TERMINALS],
-) -> bool
-    requires { Printable net counts.now }
+fn has_room(room: usize, net: Network, acyclic: &[u32; Board::MAX_EDGES], routes: &Routes) -> bool
+    requires { Printable net routes.now.counts }
     ensures { result ≡
-        leb (length (table_text net acyclic.now counts.now rows.now)) room }
+        leb (length (table_text net acyclic.now routes.now.counts routes.now.rows)) room }
 {
     let mut none = [0u8; 1];
-    let length = put_tables(&mut none, 0, net, acyclic, counts, rows);
+    let length = put_tables(&mut none, 0, net, acyclic, routes);
     length <= room
 }
 
-// Writes the report of a board at a place of the buffer, and answers its length, or the number that it is refused with.
-// A byte past the end of the buffer is dropped. Where the report is to be whole, a buffer that is shorter than it is
-// refused: the whole buffer is measured and not what is left of it behind the place, so that is asked for at place 0
-// alone. The routes are looked at where the board was loaded, and its counts are within the limits.
+// Writes the report of a board at a place of the buffer, and answers its length, or why it is refused. A byte past the
+// end of the buffer is dropped. Where the report is to be whole, a buffer that is shorter than it is refused: the whole
+// buffer is measured and not what is left of it behind the place, so that is asked for at place 0 alone. The routes are
+// looked at where the board was loaded, and its counts are within the limits.
 pub fn put_sheet(
     buf: &mut [u8],
     at: usize,
@@ -188,15 +179,14 @@ pub fn put_sheet(
     }
     let net = board.network;
     let acyclic = board.acyclic;
-    let mut counts = [0u32; Board::MAX_TERMINALS];
-    let rows = report_routes::fill(journal, board.moves, &mut counts);
-    let fit = report_routes::routes_fit(&counts, net.terminals);
+    let routes = report_routes::fill(journal, board.moves);
+    let fit = report_routes::routes_fit(&routes, net.terminals);
     unreported_in(board.stage, fit)?;
     let room = buf.len();
-    if whole && room < REPORT_BYTES && !has_room(room, net, &acyclic, &counts, &rows) {
+    if whole && room < REPORT_BYTES && !has_room(room, net, &acyclic, &routes) {
         return Err(Refusal::ShortBuffer);
     }
-    let end = put_tables(buf, at, net, &acyclic, &counts, &rows);
+    let end = put_tables(buf, at, net, &acyclic, &routes);
     Ok(end - at)
 }
 

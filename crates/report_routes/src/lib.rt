@@ -13,36 +13,38 @@ use board::{Board, Move};
 use journal::WORDS;
 use sets::EdgeSet;
 
-// The routes by the first moves of a journal, from the last of them to the first: a row of edges for each terminal, 0
-// behind them. `counts` gets how many edges each route has; a row holds as many of them as there is room for.
-pub fn fill(
-    journal: &[[u64; WORDS]; Board::JOURNAL],
-    moves: u32,
-    counts: &mut [u32; Board::MAX_TERMINALS],
-) -> [[u32; Board::MAX_VERTICES]; Board::MAX_TERMINALS]
-    ensures value { result ≡ rows_of (take moves (journal_of moves journal.now)) }
-    ensures counts_after { counts.new ≡ counts_of (take moves (journal_of moves journal.now)) }
+// The routes of a board: how many edges each has, and a row of them for each terminal, 0 behind them. A row holds as
+// many as there is room for.
+#[derive(Clone, Copy)]
+pub struct Routes {
+    pub counts: [u32; Board::MAX_TERMINALS],
+    pub rows: [[u32; Board::MAX_VERTICES]; Board::MAX_TERMINALS],
+}
+
+// The routes by the first moves of a journal, from the last of them to the first.
+pub fn fill(journal: &[[u64; WORDS]; Board::JOURNAL], moves: u32) -> Routes
+    ensures rows_filled { result.rows ≡ rows_of (take moves (journal_of moves journal.now)) }
+    ensures counts_filled { result.counts ≡ counts_of (take moves (journal_of moves journal.now)) }
 {
     let words: &[[u64; WORDS]] = journal;
     let blank = [0; Board::MAX_VERTICES];
     let mut rows = [blank; Board::MAX_TERMINALS];
-    let mut lengths = [0; Board::MAX_TERMINALS];
+    let mut counts = [0; Board::MAX_TERMINALS];
     let standing = (moves as usize).min(Board::JOURNAL);
     for at in (0..standing).rev() {
         let entry = journal::entry_at(words, at);
         if let Move::Carry(r) = entry.step {
             let i = r.terminal as usize;
             if i < Board::MAX_TERMINALS {
-                let n = lengths[i];
+                let n = counts[i];
                 if n < Board::MAX_VERTICES as u32 {
                     rows[i][n as usize] = r.edge;
                 }
-                lengths[i] = n + 1;
+                counts[i] = n + 1;
             }
         }
     }
-    *counts = lengths;
-    rows
+    Routes { counts, rows }
 }
 
 // The edges as a set. A number that is no edge's is left out.
@@ -67,33 +69,24 @@ fn row_set(edges: [u32; Board::MAX_VERTICES], count: usize) -> EdgeSet
 }
 
 // Whether every route has room in its row.
-pub fn routes_fit(counts: &[u32; Board::MAX_TERMINALS], terminals: u32) -> bool
-    ensures { result ≡ all (λ i. leb (get_or counts.now i 0) max_vertices) 0 terminals }
+pub fn routes_fit(routes: &Routes, terminals: u32) -> bool
+    ensures { result ≡ all (λ i. leb (get_or routes.now.counts i 0) max_vertices) 0 terminals }
 {
-    for i in 0..terminals {
-        let count = lists::at_or(counts, i as usize, 0);
-        if (Board::MAX_VERTICES as u32) < count {
-            return false;
-        }
-    }
-    true
+    (0..terminals).all(|i| lists::at_or(&routes.counts, i as usize, 0)
+        <= Board::MAX_VERTICES as u32)
 }
 
 // The route of each terminal as a set, so that whether it holds an edge is one test.
-pub fn edge_sets(
-    counts: &[u32; Board::MAX_TERMINALS],
-    rows: &[[u32; Board::MAX_VERTICES]; Board::MAX_TERMINALS],
-    terminals: u32,
-) -> [EdgeSet; Board::MAX_TERMINALS]
+pub fn edge_sets(routes: &Routes, terminals: u32) -> [EdgeSet; Board::MAX_TERMINALS]
     requires { terminals ≤ max_terminals }
-    ensures { RouteSets (sets_of result) counts.now rows.now terminals }
+    ensures { RouteSets (sets_of result) routes.now.counts routes.now.rows terminals }
 {
-    let mut routes = [sets::none(); Board::MAX_TERMINALS];
+    let mut edges = [sets::none(); Board::MAX_TERMINALS];
     for i in 0..terminals as usize {
-        let count = lists::at_or(counts, i, 0);
-        routes[i] = row_set(rows[i], count as usize);
+        let count = lists::at_or(&routes.counts, i, 0);
+        edges[i] = row_set(routes.rows[i], count as usize);
     }
-    routes
+    edges
 }
 
 // The sum of the demands of the terminals whose routes hold e.

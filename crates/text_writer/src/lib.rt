@@ -60,6 +60,7 @@ pub fn put_rows<R: AsSlice<u32> + Copy, F: Fn(usize) -> R>(
     to
 }
 
+// The three numbers of an edge. It and `terminal_row` stay two: other lists and another length, so one is no plainer.
 fn edge_row(net: Network, i: usize) -> [u32; 3]
     ensures { result ≡ edge_row net i }
 {
@@ -70,6 +71,7 @@ fn edge_row(net: Network, i: usize) -> [u32; 3]
     ]
 }
 
+// The two numbers of a terminal.
 fn terminal_row(net: Network, j: usize) -> [u32; 2]
     ensures { result ≡ terminal_row net j }
 {

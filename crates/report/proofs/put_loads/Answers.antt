@@ -6,7 +6,7 @@ use Rattle.report.proofs.put_loads.Goals as goal
 pub returns : goal.returns
 returns c =
     let put = c.put_rows.ensures in
-    let same = set_lines c.args.net c.args.acyclic.now c.args.counts.now c.args.rows.now _ c.requires.1.0 c.edge_sets-routes.ensures.are in record {
+    let same = set_lines c.args.net c.args.acyclic.now c.args.routes.now.counts c.args.routes.now.rows _ c.requires.1.0 c.edge_sets-edges.ensures.are in record {
       value = rw (← same) put.value;
       upper_bound = omega arith;
       buf_after = rw (← same) put.buf_after;

@@ -16,7 +16,7 @@ put_rows-requires c κs within = (
         omega arith,
         (
           (λ i less. (omega arith, c.requires.1.1 i less)),
-          λ i given less same. (same, omega (arith, c.requires.1.1 i less, length-take (get_or c.args.counts.now i 0) (get_or c.args.rows.now i []))),
+          λ i given less same. (same, omega (arith, c.requires.1.1 i less, length-take (get_or c.args.routes.now.counts i 0) (get_or c.args.routes.now.rows i []))),
         ),
       ),
     ),

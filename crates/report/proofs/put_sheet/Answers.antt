@@ -26,16 +26,16 @@ board_in c = whole_of c.args.board c.args.journal.now
 
 reported : (c : In_ok-unreported_in) → unreported (board_in c) ≡ 0
 reported c =
-    sym (number_made (board_in c) _ 0 (sym c.loaded.ensures ∙ c.if-not-loaded.false) (rw c.fill-rows.ensures.counts_after at c.routes_fit-fit.ensures)
+    sym (number_made (board_in c) _ 0 (sym c.loaded.ensures ∙ c.if-not-loaded.false) (rw c.fill-routes.ensures.counts_filled at c.routes_fit-fit.ensures)
     c.in_ok-unreported_in.ensures)
 
-printable : (c : In_ok-unreported_in) → Printable c.args.board.network c.fill-rows.new.counts
+printable : (c : In_ok-unreported_in) → Printable c.args.board.network c.fill-routes.result.counts
 printable c =
     let long : length c.args.board.network.demands ≡ max_terminals = search rules in
-    report_printable (board_in c) (reported c) _ c.fill-rows.ensures.counts_after long
+    report_printable (board_in c) (reported c) _ c.fill-routes.ensures.counts_filled long
 
-text : (c : In_ok-unreported_in) → table_text c.args.board.network c.args.board.acyclic c.fill-rows.new.counts c.fill-rows.result ≡ report_text (board_in c)
-text c = report_text_lem (board_in c) (reported c) _ _ c.fill-rows.ensures.counts_after c.fill-rows.ensures.value
+text : (c : In_ok-unreported_in) → table_text c.args.board.network c.args.board.acyclic c.fill-routes.result.counts c.fill-routes.result.rows ≡ report_text (board_in c)
+text c = report_text_lem (board_in c) (reported c) _ _ c.fill-routes.ensures.counts_filled c.fill-routes.ensures.rows_filled
 
 pub returns-then-not-loaded : goal.returns-then-not-loaded
 returns-then-not-loaded c =
@@ -49,7 +49,7 @@ returns-then-not-loaded c =
 pub returns-in_err-unreported_in : goal.returns-in_err-unreported_in
 returns-in_err-unreported_in c =
     let board = whole_of c.args.board c.args.journal.now in
-    let number = number_made board _ _ (sym c.loaded.ensures ∙ c.if-not-loaded.false) (rw c.fill-rows.ensures.counts_after at c.routes_fit-fit.ensures)
+    let number = number_made board _ _ (sym c.loaded.ensures ∙ c.if-not-loaded.false) (rw c.fill-routes.ensures.counts_filled at c.routes_fit-fit.ensures)
     c.in_err-unreported_in.ensures in
     let all = put_refused board c.args.whole c.args.buf.now c.args.at _ number (refused c.in_err-unreported_in.field-0.0) in
     rw (passed_on _ _ c.from_residual.ensures.1) (record {

@@ -6,4 +6,4 @@ use Rattle.report_routes.specs.Inner.{RouteSets}
 use Rattle.report_routes.proofs.edge_sets.Given as goal
 
 abbrev pub invariant-loop-i : goal.invariant-loop-i
-invariant-loop-i l = (length l.routes ≡ max_terminals) × RouteSets l.routes l.counts l.rows l.i
+invariant-loop-i l = (length l.edges ≡ max_terminals) × RouteSets l.edges l.routes.counts l.routes.rows l.i

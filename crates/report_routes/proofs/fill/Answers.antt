@@ -19,11 +19,11 @@ loop-at-init c =
     let long = words_long words max_moves c.told-journal in
     fill_start c.args.moves (entries_of words) c.min-standing.result (omega (arith, length-take c.args.moves (entries_of words)))
 
-pub overflow_add-lengths : goal.overflow_add-lengths
-overflow_add-lengths c =
+pub overflow_add-counts : goal.overflow_add-counts
+overflow_add-counts c =
     let words = c.args.journal.now in
     let long = words_long words max_moves c.told-journal in
-    let small = fill_short c.args.moves (entries_of words) c.loop-at.at c.loop-at.rows c.loop-at.lengths c.loop-at.invariant _ c.if-i-lt-MAX_TERMINALS.true in
+    let small = fill_short c.args.moves (entries_of words) c.loop-at.at c.loop-at.rows c.loop-at.counts c.loop-at.invariant _ c.if-i-lt-MAX_TERMINALS.true in
     omega (arith, small)
 
 pub loop-at-preserved-then-i-lt-MAX_TERMINALS : goal.loop-at-preserved-then-i-lt-MAX_TERMINALS
@@ -36,7 +36,7 @@ loop-at-preserved-then-i-lt-MAX_TERMINALS c =
     (entries_of words)
     c.loop-at.at
     c.loop-at.rows
-    c.loop-at.lengths
+    c.loop-at.counts
     c.loop-at.invariant
     _
     c.loop-at-test.true
@@ -57,7 +57,7 @@ loop-at-preserved-else-i-lt-MAX_TERMINALS c =
     (entries_of words)
     c.loop-at.at
     c.loop-at.rows
-    c.loop-at.lengths
+    c.loop-at.counts
     c.loop-at.invariant
     _
     c.loop-at-test.true
@@ -76,7 +76,7 @@ loop-at-preserved c =
     (entries_of words)
     c.loop-at.at
     c.loop-at.rows
-    c.loop-at.lengths
+    c.loop-at.counts
     c.loop-at.invariant
     _
     c.loop-at-test.true
@@ -87,8 +87,8 @@ loop-at-preserved c =
 pub returns : goal.returns
 returns c =
     let words = c.args.journal.now in
-    let all = filled_standing c.args.moves words c.loop-at.rows c.loop-at.lengths
-    (fill_end c.args.moves (entries_of words) c.loop-at.at c.loop-at.rows c.loop-at.lengths c.loop-at.invariant c.loop-at-test.false) in record {
-      value = all.0;
-      counts_after = all.1;
+    let all = filled_standing c.args.moves words c.loop-at.rows c.loop-at.counts
+    (fill_end c.args.moves (entries_of words) c.loop-at.at c.loop-at.rows c.loop-at.counts c.loop-at.invariant c.loop-at-test.false) in record {
+      rows_filled = all.0;
+      counts_filled = all.1;
     }

@@ -5,4 +5,4 @@ use Rattle.report_routes.proofs.Filling.{Filled}
 use Rattle.report_routes.proofs.fill.Given as goal
 
 abbrev pub invariant-loop-at : goal.invariant-loop-at
-invariant-loop-at l = Filled l.moves (entries_of l.journal) l.at l.rows l.lengths
+invariant-loop-at l = Filled l.moves (entries_of l.journal) l.at l.rows l.counts
