@@ -38,6 +38,7 @@ pub struct Entry {
 }
 
 // What a board text says. Places past the counts hold 0.
+// The lists of edges and of terminals are columns: C's rows are copied whole, and the definitions name the columns.
 #[derive(Clone, Copy)]
 pub struct Network {
     pub vertices: u32,
@@ -53,9 +54,10 @@ pub struct Network {
 
 // A board in play: the network, the flow without its cycles, the flow now, the marked edges, where each terminal is,
 // and how many moves stand. The moves are in the journal, which is lent beside it (crates/journal).
+// The lists are columns here too: C's rows are copied whole, and the definitions name the columns.
 #[derive(Clone, Copy)]
 pub struct Board {
-    // A number and no enum: the memory that a C caller lends, and the inputs of replay, may hold any number here.
+    // A number and no enum: the memory that a C caller lends may hold any number here.
     pub stage: u32,
     pub network: Network,
     pub acyclic: [u32; Board::MAX_EDGES],
@@ -91,10 +93,11 @@ impl Board {
     pub const FINISHED: u32 = 2;
 
     // Whether a stage is that of a board that a load gave: in play or finished.
+    #[tactic(auto, unfolding(lists::specs::Choice::both))]
     pub fn staged(stage: u32) -> bool
         ensures { result ≡ staged stage }
     {
-        lists::and(Board::PLAY <= stage, stage <= Board::FINISHED)
+        (Board::PLAY..=Board::FINISHED).contains(&stage)
     }
 
     // The closed board: no vertices, and no call but load takes it.

@@ -111,10 +111,6 @@ pub column-made : (bitsets : List ℕ) (v : ℕ) (seen : List Bool) → length s
 column-made bitsets v seen size same =
     ext_get_or false seen (column bitsets v) (size ∙ sym (column-length bitsets v)) (λ u h. same u (omega arith))
 
--- a bitset that is stored anew stays the same
-pub stored_same : (bitsets : List ℕ) (u x : ℕ) → x ≡ get_or bitsets u 0 → set bitsets u x ≡ bitsets
-stored_same bitsets u x e = ap (λ (r : ℕ). set bitsets u r) e ∙ set-get_or bitsets u 0
-
 -- an edge that is crossed: only a positive one
 module _ {A : Type 0} (x : ℕ) (a b : A) where
   pub crossed : (x ≡ 0 → ⊥) → a ≡ pick (ltb 0 x) a b

@@ -5,7 +5,7 @@ use mathlib.Core.Bool.{Bool, true, false, true≢false}
 use mathlib.Core.List.{List}
 use mathlib.Core.Logic.{◌⊎◌, inl, inr, ◌≢◌}
 use Prim.Native.Nat.{ℕ, ◌+◌, ◌-◌, ◌<◌, ◌≤◌, min}
-use native.Mathlib.Nat.{zero-add, sub-zero}
+use native.Mathlib.Nat.{zero-add}
 use native.Mathlib.Omega.{arith}
 use lib.Dec.{ltb, eqb}
 use lib.ListN.{length, get_or, set, get_or-eq_default}
@@ -65,10 +65,7 @@ module _ (from to flows : List ℕ) (s : List Bool) (e : ℕ) where
         go (inl t) = sym (pick_yes _ _ _ (leads_here v some inside t) ∙ sym (rw t (get_or-set_same bitsets v (with_bit (get_or bitsets v 0) e) 0 h)))
         go (inr n) = get_or-set_other bitsets (get_or from e 0) v _ 0 (λ t. n (sym t)) ∙ stayed v (leads_other v n)
 
--- collecting into a bitset that is empty, and one edge of it
-pub collect-none : (p : ℕ → Bool) (m n : ℕ) → m ≡ 0 → collect p m 0 (n - 0) ≡ collect p 0 0 n
-collect-none p m n e = rw (e, sub-zero)
-
+-- collecting one edge into a bitset
 pub collect_left : (p : ℕ → Bool) (m r i n total : ℕ) → i < n → r ≡ pick (p i) (with_bit m i) m → collect p m i (n - i) ≡ total
     → collect p r (i + 1) (n - (i + 1)) ≡ total
 collect_left p m r i n total h q inv = rw q (collect_turn p m i n total h inv)

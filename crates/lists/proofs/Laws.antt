@@ -13,7 +13,7 @@ use lib.ListN.{length, get_or, take, drop, replicate, length-drop, drop_of_lengt
 use lib.Seq.{drop-cons, take_all}
 use borrow.Author.Tests.{ltb-true, ltb-false, eqb-true, eqb-false, eq-eqb, ne_eqb}
 use Rattle.lists.specs.Choice.{pick, both, either}
-use Rattle.lists.specs.Lists.{index_of, all, lowest, keyed, sum_at}
+use Rattle.lists.specs.Lists.{index_of, all, lowest}
 
 -- a test with its equation: what a helper by clauses takes
 pub data Known (b : Bool) : Type 0 where
@@ -177,20 +177,6 @@ all_from p n j e h = rw zero-add at (all_at p 0 n j e h)
 
 pub all_zero : (p : ℕ → Bool) (n : ℕ) → ((j : ℕ) → j < n → p j ≡ true) → all p 0 n ≡ true
 all_zero p n f = all_of p 0 n (λ j h. rw zero-add (f j h))
-
--- a sum that has passed i entries
-pub sum_turn : (ks xs : List ℕ) (v i sum total x : ℕ) → i < length ks → length ks ≡ length xs → x ≡ keyed (get_or ks i 0) v (get_or xs i 0)
-    → sum + sum_at (drop i ks) (drop i xs) v ≡ total → sum + x + sum_at (drop (i + 1) ks) (drop (i + 1) xs) v ≡ total
-unfolding sum_at
-sum_turn ks xs v i sum total x h e ex inv =
-    let hx : i < length xs = omega arith in
-    let s : sum + (keyed (get_or ks i 0) v (get_or xs i 0) + sum_at (drop (suc i) ks) (drop (suc i) xs) v) ≡ total =
-    rw (drop-cons ks i 0 h, drop-cons xs i 0 hx) at inv in
-    rw (add-one i) (omega arith)
-
-pub sum_end : (ks xs : List ℕ) (v i sum total : ℕ) → length ks ≤ i → sum + sum_at (drop i ks) (drop i xs) v ≡ total → sum ≡ total
-unfolding sum_at
-sum_end ks xs v i sum total h inv = sym (add-zero sum) ∙ rw (drop_of_length-le ks h) at inv
 
 -- the rest of a slice, as it arrives from `&s[a..]`
 pub rest_part : {A : Type 0} (s : List A) (a : ℕ) → take (length s - a) (drop a s) ≡ drop a s

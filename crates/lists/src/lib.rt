@@ -5,9 +5,9 @@ ghost use Rattle.std.specs.Prelude.{◌≡◌, ◌-◌, get_or, set};
 ghost use Rattle.lists.specs.Choice.{both, either};
 ghost use Rattle.lists.specs.Lists.{index_of};
 
-// Both tests, as one value: it stands where `&&` would, and `or` where `||` would. Those are compiled to a branch, and
-// where its arms meet a proof knows only by which of them it came, and has that to take apart. A call keeps the proof
-// one straight line, and gives the value as the definitions have it, by `both` or `either`. Both tests are always made.
+// Both tests, as one value: it stands where the tests are parts of a value that a definition has by `both`, and `or`
+// where it has them by `either`; a call keeps such a proof one straight line. In an `if`, `&&` and `||` are fine. Both
+// tests are always made.
 pub fn and(a: bool, b: bool) -> bool
     ensures { result ≡ both a b }
 {

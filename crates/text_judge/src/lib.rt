@@ -1,8 +1,7 @@
 // Which rules a network breaks first, and whether it is one that an accepted text gives.
 #![tactic(auto)]
 
-ghost use Rattle.std.specs.Prelude.{◌≡◌, true, ℕ, ◌+◌, ◌*◌, ◌≤◌, ◌<◌, leb, length, get_or, set};
-ghost use Rattle.lists.specs.Choice.{both};
+ghost use Rattle.std.specs.Prelude.{◌≡◌, true, ℕ, ◌+◌, ◌*◌, ◌≤◌, ◌<◌, length, get_or, set};
 ghost use Rattle.lists.specs.Lists.{all, sum_at};
 ghost use Rattle.refusals.specs.Refusals.{answer_of};
 ghost use Rattle.board.specs.Limits.{max_vertices};
@@ -91,25 +90,16 @@ pub fn judged(net: Network) -> Result<(), Refusal>
     Ok(())
 }
 
-#[tactic(auto, unfolding(lists::specs::Choice::both))]
-fn between(low: u32, n: u32, high: u32) -> bool
-    ensures { result ≡ both (leb low n) (leb n high) }
-{
-    (low..=high).contains(&n)
-}
-
 // Whether the counts and the source are in their ranges.
+#[tactic(auto, unfolding(lists::specs::Choice::both))]
 pub fn counts_fit_in(vertices: u32, edges: u32, terminals: u32, source: u32) -> bool
     ensures { result ≡ counts_fit_in vertices edges terminals source }
 {
-    let vertices_fit = between(2, vertices, Board::MAX_VERTICES as u32);
-    let edges_fit = between(1, edges, Board::MAX_EDGES as u32);
-    let terminals_fit = between(1, terminals, Board::MAX_TERMINALS as u32);
+    let vertices_fit = (2..=Board::MAX_VERTICES as u32).contains(&vertices);
+    let edges_fit = (1..=Board::MAX_EDGES as u32).contains(&edges);
+    let terminals_fit = (1..=Board::MAX_TERMINALS as u32).contains(&terminals);
     let source_fits = source < vertices;
-    lists::and(
-        vertices_fit,
-        lists::and(edges_fit, lists::and(terminals_fit, source_fits)),
-    )
+    vertices_fit && edges_fit && terminals_fit && source_fits
 }
 
 // The same of a network.

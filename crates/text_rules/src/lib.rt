@@ -37,15 +37,12 @@ pub fn edge_fits(net: Network, i: u32) -> bool
 }
 
 // Whether the numbers of a place are those of a terminal, or both 0 where the place is past the terminals.
-#[tactic(auto, unfolding(lists::specs::Choice::pick))]
+#[tactic(auto, unfolding(lists::specs::Choice::pick, lists::specs::Choice::both))]
 pub fn terminal_numbers_fit(is_terminal: bool, home: u32, demand: u32, vertices: u32) -> bool
     ensures { result ≡ terminal_numbers_fit is_terminal home demand vertices }
 {
     if is_terminal {
-        lists::and(
-            home < vertices,
-            lists::and(1 <= demand, demand <= Board::MAX_FLOW),
-        )
+        lists::and(home < vertices, (1..=Board::MAX_FLOW).contains(&demand))
     } else {
         lists::and(home == 0, demand == 0)
     }
