@@ -23,7 +23,6 @@ ghost use Rattle.move_list.specs.Inner.{last_place};
 ghost use Rattle.move_list.specs.Codes.{part, call_of, calls_of};
 ghost use Rattle.move_list.specs.Told.{told, stated, Tells};
 ghost use Rattle.solve_next.specs.Views.{advice_given};
-ghost use Rattle.refusals.specs.Refusals.{answer_of};
 ghost use Rattle.solve_next.specs.Advices.{Suggestion};
 ghost use Rattle.std.proofs.lemmas.List.Edits.{sets};
 
@@ -46,8 +45,8 @@ pub enum Call {
 }
 
 impl Call {
-    // The kinds in numbers. The first of the two numbers more is a carry's terminal or where a turn's steps begin, the
-    // second a carry's edge or where the steps end.
+    // The kinds in numbers, since callers of `run` hand the calls in as numbers. The first of the two numbers more is a
+    // carry's terminal or where a turn's steps begin, the second a carry's edge or where the steps end.
     pub const CARRY: u32 = 0;
 
     pub const TURN: u32 = 1;
@@ -82,7 +81,7 @@ impl Call {
 }
 
 // The move of a hint in numbers, as lists of calls and C (`vulprow_parts_hint`) have it: its kind, terminal, edge and
-// how many steps it has; and the codes of the steps, zeros behind them. No move has the kind NONE.
+// how many steps it has; and the codes of the steps, zeros behind them. NONE is the kind where there is no move.
 #[derive(Clone, Copy)]
 pub struct AdviceNumbers {
     pub kind: u32,
@@ -225,16 +224,6 @@ fn make(
     }
 }
 
-// 0, or the number that a call is refused with.
-fn answer(given: Result<Board, Refusal>) -> u32
-    ensures { result ≡ answer_of given }
-{
-    match given {
-        Ok(_) => 0,
-        Err(refusal) => u32::from(refusal),
-    }
-}
-
 // Makes the calls, one after the other, and leaves out what is none; writes their answers into one buffer, and the
 // moves of the hints into the other.
 pub fn run(
@@ -268,8 +257,9 @@ pub fn run(
         };
         let given = make(b, journal, steps, call, hints, &mut j);
         let next = given.unwrap_or(b);
-        lists::put(buf, k, answer(given));
+        lists::put(buf, k, refusals::number_of(given));
         b = next;
+        // Counted here, since an element of the list that is no call is left out.
         k += 1;
     }
     b

@@ -1,7 +1,8 @@
 // What a call is refused with.
 #![tactic(auto)]
 
-ghost use Rattle.refusals.specs.Refusals.{Numbers};
+ghost use Rattle.std.specs.Prelude.{◌≡◌};
+ghost use Rattle.refusals.specs.Refusals.{Numbers, answer_of};
 
 // Why a call is refused, in the order of document 01's numbers.
 #[derive(Clone, Copy, Debug, PartialEq, Eq)]
@@ -75,5 +76,15 @@ impl From<Refusal> for u32 {
             Refusal::NoLetter => 30,
             Refusal::NothingKept => 31,
         }
+    }
+}
+
+// 0 where the call was accepted, or the number that it is refused with.
+pub fn number_of<T: Copy>(given: Result<T, Refusal>) -> u32
+    ensures { result ≡ answer_of given }
+{
+    match given {
+        Ok(_) => 0,
+        Err(refusal) => u32::from(refusal),
     }
 }

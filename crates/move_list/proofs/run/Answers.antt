@@ -25,7 +25,7 @@ loop-code-preserved c =
     let loop = c.loop-code in
     let gave = c.make-given.ensures in
     let one = sym (c.in-Some.ensures c.args.steps.now) in
-    let says = replied loop.b c.make-given.result c.make-given.new.journal _ _ c.answer.ensures c.unwrap_or-next.ensures ∙ gave.value in
+    let says = replied loop.b c.make-given.result c.make-given.new.journal _ _ c.number_of.ensures c.unwrap_or-next.ensures ∙ gave.value in
     round_made _ _ _ _ _ _ _ _ _ _ _ _ _ _ c.loop-code-test.true loop.invariant _ _ _ one says _ _ _ _ c.put.ensures gave.hints_after gave.journal_after
 
 pub returns : goal.returns
