@@ -130,7 +130,7 @@ pub fn carry(
     let flow = lists::at_or(&board.flows, edge, 0);
     let demand = lists::at_or(&board.network.demands, terminal, 0);
     let tail = lists::at_or(&board.network.tails, edge, 0);
-    let rest = lists::minus(flow, demand);
+    let rest = flow.saturating_sub(demand);
     let m = board.moves;
     board.flows[edge] = rest;
     board.places[terminal] = tail;

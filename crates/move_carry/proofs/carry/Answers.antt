@@ -16,7 +16,7 @@ use Rattle.move_carry.specs.Frames.{net_of}
 use Rattle.move_carry.specs.Carries.{carry_refusal_in, carry_refusal}
 use Rattle.move_carry.proofs.Makes.{makes_carried}
 use Rattle.move_carry.proofs.Lent.{carry_refusal_bare, room_edge, room_terminal, room_move, lent_accepted, lent_refused}
-use Rattle.move_carry.proofs.carry.Goals.{After-judge_in, In_ok-judge_in, After-minus-rest}
+use Rattle.move_carry.proofs.carry.Goals.{After-judge_in, In_ok-judge_in, After-saturating_sub-rest}
 use Rattle.move_carry.proofs.carry.Goals as goal
 
 -- where the carry is judged: the test before it, the table and the words
@@ -39,7 +39,7 @@ judged c =
 
 -- where it is accepted
 abbrev Stored : Type 0
-Stored = After-minus-rest
+Stored = After-saturating_sub-rest
 
 abbrev accepted : Stored → In_ok-judge_in
 accepted c = c.before.before.before.before.before.before.before.before.before.before
@@ -88,7 +88,7 @@ returns c =
     let judge = (accepted stored).before.before in
     let t = table judge in
     let change = makes_carried t.network t.flows t.marks t.places judge.args.i judge.args.e _ _ _ _ _ _ c.at_or-flow.ensures
-    c.at_or-demand.ensures c.at_or-tail.ensures c.minus-rest.ensures refl refl in
+    c.at_or-demand.ensures c.at_or-tail.ensures c.saturating_sub-rest.ensures refl refl in
     let all = lent_accepted t (words judge) judge.args.i judge.args.e _ _ (none stored) change
     (c.put_entry.ensures.journal_after ∙ ap (λ (x : Entry). set (words judge) t.moves (packed x)) c.entry_of.ensures)
     (c.put_entry.ensures.journal_after_2 ∙ ap (λ (x : Entry). set (entries_of (words judge)) t.moves x) c.entry_of.ensures) in record {
