@@ -61,8 +61,3 @@ module _ (net : Network) (flows : List ℕ) (marks : ℕ) (places : List ℕ) (b
   -- in the code's shape: the move made, and the terminal that it tells
   pub resumes_made : (c : Change) (i : ℕ) → c ≡ step_change net flows marks places → c.answer ≡ 0 → i ≡ resumption c.entry.step → Resumes net c.flows c.marks c.places i
   resumes_made c i e z q = rw q (subst Goes (sym e) step_resumes z)
-
--- where flows and places are the same
-pub resumes_same : (net : Network) (flows flows' : List ℕ) (marks : ℕ) (places places' : List ℕ) (i : ℕ) → flows' ≡ flows → places' ≡ places
-    → Resumes net flows marks places i → Resumes net flows' marks places' i
-resumes_same net flows flows' marks places places' i e p r = rw (e, p) r

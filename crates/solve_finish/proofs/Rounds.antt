@@ -5,6 +5,7 @@ use mathlib.Core.Logic.{◌≢◌}
 use mathlib.Core.List.{List}
 use Prim.Native.Nat.{ℕ, ◌+◌, ◌-◌, ◌<◌, ◌≤◌}
 use native.Mathlib.Omega.{arith}
+use borrow.Author.Tests.{le-leb, lt-leb}
 use lib.Dec.{leb}
 use lib.ListN.{length}
 use Rattle.lists.specs.Choice.{both}
@@ -13,7 +14,8 @@ use Rattle.board.specs.Limits.{max_terminals, max_moves}
 use Rattle.board.specs.Whole.{Table}
 use Rattle.move_guard.specs.Moved.{Change}
 use Rattle.move_guard.proofs.Facts.{playing_moves}
-use Rattle.move_carry.specs.Frames.{bare_of}
+use Rattle.move_carry.specs.Frames.{frame_of, net_of}
+use Rattle.move_carry.specs.declared.Frame.{Frame}
 use Rattle.solve_carry.specs.Inner.{Resumes}
 use Rattle.solve_finish.specs.Run.{Made, InPlay, step_change, Makes, left_after, resumption, Stores}
 use Rattle.solve_finish.proofs.Ready.{ready_bounds}
@@ -25,6 +27,15 @@ use Rattle.solve_finish.proofs.Storing.{RunStored, kept_refused, kept_made}
 -- the moves that are left after so many rounds, by whether the run goes on behind one more
 pub left_some : (k : ℕ) → k < max_moves → max_moves - k ≢ 0
 left_some k h z = omega (arith, h, z)
+
+-- the test of the code, by whether its first half holds
+pub few_small : (moves : ℕ) (value small : Bool) → moves ≤ max_moves → value ≡ small → value ≡ both (leb moves max_moves) small
+unfolding both
+few_small moves value small few is = rw (le-leb moves max_moves few) is
+
+pub many_small : (moves : ℕ) (value small : Bool) → max_moves < moves → value ≡ leb moves max_moves → value ≡ both (leb moves max_moves) small
+unfolding both
+many_small moves value small many is = rw (lt-leb moves max_moves many) (is ∙ lt-leb moves max_moves many)
 
 pub left_goes : (k moves : ℕ) (small : Bool) → both (leb moves max_moves) small ≡ true → max_moves - (k + 1) ≡ left_after (max_moves - k) moves small
 unfolding left_after
@@ -44,9 +55,12 @@ module _ (t : Table) (old words : List (List ℕ)) (flows : List ℕ) (marks : �
   pub round_few : moves ≤ max_moves
   round_few = playing_moves _ (k.run.play n)
 
-  module _ (made : Made) (a : Makes (step_change (bare_of t.network) flows marks places) made) where
+  module _ (made : Made) (frame : Frame) (positive resume : ℕ) (is : frame ≡ frame_of t.network marks positive resume)
+      (a : Makes (step_change (net_of frame t.network.tails t.network.heads t.network.demands) flows frame.marks places) made) where
     its : Makes (step_change t.network flows marks places) made
-    its = subst (λ (c : Change). Makes c made) (step_of_bare t.network flows marks places) a
+    its =
+        subst (λ (c : Change). Makes c made) (step_of_bare t.network flows marks places)
+        (subst (λ (f : Frame). Makes (step_change (net_of f t.network.tails t.network.heads t.network.demands) flows f.marks places) made) is a)
 
     -- a move that is refused keeps flows and places
     pub round_refused : made.change.answer ≢ 0 → RunStored t old words made.change.flows marks made.change.places moves filled 0

@@ -49,6 +49,7 @@ pub struct Finished {
 
 // A move of the solver on lists that are lent: its entry, the marks and the positive edges after it, and whether the
 // flows are small then.
+// No Option on `small`: the marks and the positive edges hold where the flows are not small, too, and the move is made.
 #[derive(Clone, Copy)]
 pub struct Progress {
     pub entry: Entry,
@@ -153,7 +154,7 @@ fn carry_on<'a>(
     let demand = lists::at_or(demands, terminal, 0);
     let flow = lists::at_or(flows, edge, 0);
     let tail = lists::at_or(tails, edge, 0);
-    let rest = lists::minus(flow, demand);
+    let rest = flow.saturating_sub(demand);
     lists::put(flows, edge, rest);
     lists::put(places, terminal, tail);
     let after = positive_after(frame.positive, rest, carry.edge);
@@ -272,28 +273,24 @@ fn play_out(
         places.new result }
 {
     let net = board.network;
-    let tails = net.tails;
-    let heads = net.heads;
-    let demands = net.demands;
-    let leaving = move_edges::at_vertices(tails);
-    let entering = move_edges::at_vertices(heads);
+    let leaving = move_edges::at_vertices(net.tails);
+    let entering = move_edges::at_vertices(net.heads);
     let mut marks = board.marks;
     let mut positive = move_edges::positive(flows);
     let mut moves = board.moves;
     let mut filled = board.moves;
     let mut resume: u32 = 0;
     for _ in 0..Board::JOURNAL {
-        let frame = Frame {
-            vertices: net.vertices,
-            edges: net.edges,
-            terminals: net.terminals,
-            source: net.source,
-            marks,
-            positive,
-            resume,
-        };
+        let frame = Frame::of(&net, marks, positive, resume);
         let Ok(made) = advance(
-            frame, &tails, &heads, &demands, &leaving, &entering, flows, places,
+            frame,
+            &net.tails,
+            &net.heads,
+            &net.demands,
+            &leaving,
+            &entering,
+            flows,
+            places,
         ) else {
             break;
         };
@@ -302,7 +299,7 @@ fn play_out(
         marks = made.marks;
         positive = made.positive;
         moves += 1;
-        if !lists::and(moves <= Board::JOURNAL as u32, made.small) {
+        if !(moves <= Board::JOURNAL as u32 && made.small) {
             break;
         }
     }
@@ -332,7 +329,7 @@ fn play_again(
         return ran;
     }
     let from = board.moves;
-    let count = lists::minus(ran.moves, from);
+    let count = ran.moves.saturating_sub(from);
     journal::wipe(journal, from as usize, count as usize);
     // By two variables: an array of a field that is stored straight has no generated proof.
     let first_flows = board.flows;
@@ -361,12 +358,12 @@ pub fn finish(
     let mut places = board.places;
     let ran = play_out(board, journal, &mut flows, &mut places);
     if !solve_next::all_home(&places, net.terminals, net.source) {
-        let filled = lists::minus(ran.filled, from);
+        let filled = ran.filled.saturating_sub(from);
         journal::wipe(journal, from as usize, filled as usize);
         return Err(Refusal::NotInPlay);
     }
     let whole = play_again(ran, board, journal, &mut flows, &mut places);
-    let count = lists::minus(whole.moves, from);
+    let count = whole.moves.saturating_sub(from);
     Ok(Finished {
         count,
         board: Board {

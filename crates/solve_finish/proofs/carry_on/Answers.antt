@@ -11,5 +11,5 @@ returns-then-place-frame c =
 pub returns : goal.returns
 returns c =
     carry_made _ _ _ _ _ _ _ _ c.at_or-place.ensures _ _ _ _ _ _ _ c.if-place-frame.false c.at_or-flow.ensures c.at_or-demand.ensures
-    c.at_or-tail.ensures c.minus-rest.ensures c.put.ensures c.put-2.ensures c.positive_after-after.ensures
+    c.at_or-tail.ensures c.saturating_sub-rest.ensures c.put.ensures c.put-2.ensures c.positive_after-after.ensures
     c.requires.flows_len c.requires.positive_set c.requires.flows_value

@@ -34,14 +34,14 @@ pub wipe-requires : goal.wipe-requires
 wipe-requires c =
     let from = playing_moves (whole_of c.args.board c.args.journal.now) (sym c.playing.ensures ∙ c.if-not-playing.false) in
     let made = c.play_out-ran.ensures in
-    (omega (arith, from), omega (arith, c.minus-filled.ensures, made.within, made.few))
+    (omega (arith, from), omega (arith, c.saturating_sub-filled.ensures, made.within, made.few))
 
 pub returns-then-not-all_home : goal.returns-then-not-all_home
 returns-then-not-all_home c =
     let t = c.args.board in
     let w = c.args.journal.now in
     let filled = c.play_out-ran.new.journal in
-    let wiped = c.wipe.ensures ∙ ap (λ (k : ℕ). packed_on k t.moves [] filled) c.minus-filled.ensures in
+    let wiped = c.wipe.ensures ∙ ap (λ (k : ℕ). packed_on k t.moves [] filled) c.saturating_sub-filled.ensures in
     let back = filled_back _ _ _ _ c.play_out-ran.ensures.fills _ wiped in
     let e = ran_refused t w _ _ _ _ c.play_out-ran.ensures (sym c.playing.ensures ∙ c.if-not-playing.false) _ c.all_home.ensures c.if-not-all_home.true in
     rw back (record {
@@ -60,7 +60,7 @@ pub returns : goal.returns
 returns c =
     let made = c.play_out-ran.ensures in
     let all = ran_made c.args.board c.args.journal.now _ _ _ _ made (sym c.playing.ensures ∙ c.if-not-playing.false) _ c.all_home.ensures _ _ _ _ _
-    (c.play_again-whole.ensures c.args.journal.now made) c.if-not-all_home.false c.minus-count.ensures in record {
+    (c.play_again-whole.ensures c.args.journal.now made) c.if-not-all_home.false c.saturating_sub-count.ensures in record {
       journal_after = all.0;
       journal_after_2 = all.1;
     }

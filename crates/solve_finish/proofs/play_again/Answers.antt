@@ -16,7 +16,7 @@ wiped : (c : lts.After-wipe tie.the-claims reads.Pre reads.Post tie.handed_claus
     c.wipe.new.journal ≡ packed_on (args.ran.moves - args.board.moves) args.board.moves [] args.journal.now
 wiped c =
     let args = c.args in
-    c.wipe.ensures ∙ ap (λ (k : ℕ). packed_on k args.board.moves [] args.journal.now) c.minus-count.ensures
+    c.wipe.ensures ∙ ap (λ (k : ℕ). packed_on k args.board.moves [] args.journal.now) c.saturating_sub-count.ensures
 
 pub returns-then-ran : goal.returns-then-ran
 returns-then-ran c = λ old ran. full_at_once _ _ _ _ _ _ ran c.if-ran.true
@@ -24,7 +24,7 @@ returns-then-ran c = λ old ran. full_at_once _ _ _ _ _ _ ran c.if-ran.true
 pub wipe-requires : goal.wipe-requires
 wipe-requires c =
     let from = playing_moves _ c.requires.journal_value in
-    (omega (arith, from), omega (arith, c.minus-count.ensures, c.requires.moves_bound))
+    (omega (arith, from), omega (arith, c.saturating_sub-count.ensures, c.requires.moves_bound))
 
 pub play_out-requires : goal.play_out-requires
 play_out-requires c = record {

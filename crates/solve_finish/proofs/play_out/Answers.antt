@@ -2,17 +2,21 @@
 -- any more, and after as many moves as the journal has places.
 use mathlib.Core.Path.{◌≡◌, refl, sym, ◌∙◌}
 use native.Mathlib.Omega.{arith}
+use Prim.Native.Nat.{◌+◌}
+use lib.Dec.{leb}
 use lib.ListN.{length}
 use borrow.Author.Rules.{rules}
-use Rattle.board.specs.Limits.{max_edges, max_terminals}
+use Rattle.lists.specs.Choice.{both}
+use Rattle.board.specs.Limits.{max_edges, max_terminals, max_moves}
 use Rattle.journal.specs.Words.{whole_of}
 use Rattle.refusals.proofs.Laws.{refused}
 use Rattle.solve_carry.proofs.Resumed.{resumes_first}
 use Rattle.solve_finish.specs.Run.{PartsSized}
 use Rattle.solve_finish.proofs.Running.{run_starts}
 use Rattle.solve_finish.proofs.Storing.{kept_starts, kept_over}
-use Rattle.solve_finish.proofs.Rounds.{left_some, left_goes, left_ends, round_plays, round_few, round_refused, round_made, round_resumes}
+use Rattle.solve_finish.proofs.Rounds.{few_small, many_small, left_some, left_goes, left_ends, round_plays, round_few, round_refused, round_made, round_resumes}
 use Rattle.solve_finish.proofs.play_out.Goals as goal
+use Rattle.solve_finish.proofs.play_out.Goals.{then-moves, else-moves}
 
 pub loop-init : goal.loop-init
 loop-init c =
@@ -30,15 +34,17 @@ loop-init c =
     }
 
 pub advance-requires : goal.advance-requires
-advance-requires c = record {
-  net = c.args.board.network;
-  bare = refl;
-  in_play = round_plays _ _ _ _ _ _ _ _ _ c.loop.invariant.stored (left_some _ c.loop-test.true);
-  leave = c.at_vertices-leaving.ensures;
-  enter = c.at_vertices-entering.ensures;
-  is_positive = c.loop.invariant.is_positive;
-  resumes = c.loop.invariant.resumes;
-}
+advance-requires c =
+    rw c.of-frame.ensures
+    (record {
+      net = c.args.board.network;
+      bare = refl;
+      in_play = round_plays _ _ _ _ _ _ _ _ _ c.loop.invariant.stored (left_some _ c.loop-test.true);
+      leave = c.at_vertices-leaving.ensures;
+      enter = c.at_vertices-entering.ensures;
+      is_positive = c.loop.invariant.is_positive;
+      resumes = c.loop.invariant.resumes;
+    })
 
 pub store-filled-requires : goal.store-filled-requires
 store-filled-requires c = round_few _ _ _ _ _ _ _ _ _ c.loop.invariant.stored (left_some _ c.loop-test.true)
@@ -49,11 +55,12 @@ overflow_add-moves c =
 
 pub loop-preserved : goal.loop-preserved
 loop-preserved c =
-    let on = sym c.and.ensures ∙ c.if-not-and.false in
+    let test : c.if-moves.value ≡ both (leb (c.loop.moves + 1) max_moves) c.in-Ok.made.small =
+    elim c.if-moves.branch [ then-moves w ↦ few_small _ _ _ w.if-moves.true w.value-is | else-moves w ↦ many_small _ _ _ w.if-moves.false w.value-is ] in
     let some = left_some _ c.loop-test.true in record {
-      stored = round_made _ _ _ _ _ _ _ _ _ c.loop.invariant.stored some _ c.in-Ok.ensures _ _ _ refl (left_goes _ _ _ on) c.store-filled.ensures;
+      stored = round_made _ _ _ _ _ _ _ _ _ c.loop.invariant.stored some _ _ _ _ c.of-frame.ensures c.in-Ok.ensures _ _ _ refl (left_goes _ _ _ (sym test ∙ c.if-not-made.false)) c.store-filled.ensures;
       is_positive = c.in-Ok.ensures.is_positive;
-      resumes = round_resumes _ _ _ _ _ _ _ _ _ c.loop.invariant.stored some _ c.in-Ok.ensures _ refl c.resumption-resume.ensures;
+      resumes = round_resumes _ _ _ _ _ _ _ _ _ c.loop.invariant.stored some _ _ _ _ c.of-frame.ensures c.in-Ok.ensures _ refl c.resumption-resume.ensures;
     }
 
 pub returns-after-loop : goal.returns-after-loop
@@ -62,10 +69,11 @@ returns-after-loop c = kept_over _ _ _ _ _ _ _ c.loop.invariant.stored (omega (a
 pub returns-in_default : goal.returns-in_default
 returns-in_default c =
     kept_over _ _ _ _ _ _ 0
-    (round_refused _ _ _ _ _ _ _ _ _ c.loop.invariant.stored (left_some _ c.loop-test.true) _ c.in_default.ensures (refused _)) refl
+    (round_refused _ _ _ _ _ _ _ _ _ c.loop.invariant.stored (left_some _ c.loop-test.true) _ _ _ _ c.of-frame.ensures c.in_default.ensures (refused _)) refl
 
-pub returns-then-not-and : goal.returns-then-not-and
-returns-then-not-and c =
-    let off = sym c.and.ensures ∙ c.if-not-and.true in
+pub returns-then-not-made : goal.returns-then-not-made
+returns-then-not-made c =
+    let test : c.if-moves.value ≡ both (leb (c.loop.moves + 1) max_moves) c.in-Ok.made.small =
+    elim c.if-moves.branch [ then-moves w ↦ few_small _ _ _ w.if-moves.true w.value-is | else-moves w ↦ many_small _ _ _ w.if-moves.false w.value-is ] in
     kept_over _ _ _ _ _ _ 0
-    (round_made _ _ _ _ _ _ _ _ _ c.loop.invariant.stored (left_some _ c.loop-test.true) _ c.in-Ok.ensures _ _ _ refl (left_ends _ _ _ off) c.store-filled.ensures) refl
+    (round_made _ _ _ _ _ _ _ _ _ c.loop.invariant.stored (left_some _ c.loop-test.true) _ _ _ _ c.of-frame.ensures c.in-Ok.ensures _ _ _ refl (left_ends _ _ _ (sym test ∙ c.if-not-made.true)) c.store-filled.ensures) refl
