@@ -138,9 +138,6 @@ abbrev pub ServedOn : Session → List ℕ → Session → ℕ → Type 0
 ServedOn s bytes current from = (j : ℕ) → served_over current (take j (drop from bytes)) ≡ served_over s (take (from + j) bytes)
 
 module _ (s : Session) (bytes : List ℕ) where
-  pub served_start : ServedOn s bytes s 0
-  served_start j = let same : j ≡ 0 + j = omega arith in ap (λ (k : ℕ). served_over s (take k bytes)) same
-
   module _ (current : Session) (from : ℕ) (on : ServedOn s bytes current from) where
     served_fed : from < length bytes → ServedOn s bytes (fed_session current (drop from bytes)) (from + taken_of (drop from bytes))
     served_fed h j =

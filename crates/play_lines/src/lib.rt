@@ -36,7 +36,7 @@ use move_cycle::StepCode;
 use solve_next::Advice;
 
 // A field as far as it was read: how many bytes, with 8 for more than 7, the first of them, whether all are digits, and
-// their number.
+// their number. `piece_taken` and `piece_number` of `Scans` name these fields.
 #[derive(Clone, Copy)]
 pub struct Piece {
     pub size: u32,
@@ -65,8 +65,9 @@ pub enum Kind {
 }
 
 // What the fields before it make: the kind of line; the numbers of a carry, or the edge of a step whose way is to come;
-// and the steps of a turn: how many, one more than there may be edges standing for all
-// above, their greatest edge, and the first of them.
+// and the steps of a turn: how many, one more than there may be edges standing for all above, their greatest edge, and
+// the first of them.
+// The definitions in `Scans` name these fields; no heap: the places of steps are fixed, so the count stands beside.
 #[derive(Clone, Copy)]
 pub struct Form {
     pub kind: Kind,
@@ -185,7 +186,7 @@ fn piece_is(letter: u8, piece: Piece) -> bool
     piece.size == 1 && piece.initial == letter
 }
 
-// The code of a step over e, 0 where e is too large for one.
+// The code of a step over e; 0 where e is too large for one, as `kept_code` of `Scans` has it.
 #[tactic(auto, unfolding(crate::specs::Scans::kept_code, lists::specs::Choice::pick))]
 fn kept_code(goes_up: bool, e: u32) -> StepCode
     ensures { result ≡ kept_code goes_up e }

@@ -54,6 +54,7 @@ pub enum Stage {
 
 // Its stage; how many lines of the board are still to come, 0 before the first has ended; the text of the board as far
 // as it is kept; the line as far as it was read; and the board.
+// `session_of` names these fields; no heap: the text's places are fixed, so how many are used stands beside them.
 #[derive(Clone, Copy)]
 pub struct Session {
     pub stage: Stage,
@@ -189,11 +190,8 @@ fn put_reply(
         out.new ≡ sets out.old 0 (played_text form (given_of old given journal.now)) }
 {
     let number = put_answer(out, given);
-    match form.kind {
-        Kind::Finish => match given {
-            Ok(board) => sheet_output::put_report(out, number, board, journal),
-            Err(_) => number,
-        },
+    match (form.kind, given) {
+        (Kind::Finish, Ok(board)) => sheet_output::put_report(out, number, board, journal),
         _ => number,
     }
 }
@@ -203,12 +201,9 @@ fn put_bytes(text: [u8; Session::TEXT], at: usize, bytes: &[u8]) -> [u8; Session
     ensures { result ≡ sets text at bytes.now }
 {
     let mut next = text;
-    let room = Session::TEXT.saturating_sub(at);
-    for (i, byte) in bytes.iter().enumerate() {
-        if i < room {
-            next[at + i] = *byte;
-        }
-    }
+    let from = at.min(Session::TEXT);
+    let kept = bytes.len().min(Session::TEXT - from);
+    next[from..from + kept].copy_from_slice(&bytes[..kept]);
     next
 }
 

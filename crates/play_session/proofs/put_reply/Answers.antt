@@ -6,14 +6,14 @@ use Rattle.text_writer.proofs.Writing.{sets_append}
 use Rattle.play_session.specs.Machine.{played_text}
 use Rattle.play_session.proofs.put_reply.Goals as goal
 
-pub returns-in-Ok : goal.returns-in-Ok
+pub returns-in-Finish-Ok : goal.returns-in-Finish-Ok
 unfolding played_text both pick
-returns-in-Ok c = grind (arith, common_steps, sets_append)
-
-pub returns-in-Err : goal.returns-in-Err
-unfolding played_text both pick
-returns-in-Err c = grind (arith, common_steps, sets_append)
+returns-in-Finish-Ok c = grind (arith, common_steps, sets_append)
 
 pub returns-in_default : goal.returns-in_default
 unfolding played_text both pick
 returns-in_default c = grind (arith, common_steps, sets_append)
+
+pub returns-in_default-2 : goal.returns-in_default-2
+unfolding played_text both pick
+returns-in_default-2 c = grind (arith, common_steps, sets_append)
