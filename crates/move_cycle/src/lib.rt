@@ -26,7 +26,8 @@ use board::Board;
 use sets::EdgeSet;
 
 // A step as one number: its edge, and with UP added for a step up, from the edge's head to its tail. It stays a number,
-// and no struct of an edge and a way, since lent memory and the bytes of the C interface hold codes (`code_steps`).
+// and no struct of an edge and a way: `code_steps` stands in the contracts of move_turn, solve_finish and play_lines,
+// and in `walked` of solve_walk. UP is far above each limit, so that the codes do not change with the limits.
 pub type StepCode = u16;
 
 // The code of a step up over edge 0.

@@ -33,6 +33,9 @@ fn small_flow(acyclic: u32, flow: u32) -> bool
     }
 }
 
+// Edges have five lists and terminals three, so each of these tests is two functions, one of an edge and one of a
+// terminal.
+
 // Whether the numbers of edge i are intact.
 fn edge_intact<'a>(
     net: &'a Network,

@@ -18,7 +18,7 @@ fn back_one(mut board: Board, journal: &[[u64; WORDS]; Board::JOURNAL]) -> Board
 {
     let last = journal::last_entry(journal, board.moves);
     let step = last.step;
-    board.moves = lists::minus(board.moves, 1);
+    board.moves = board.moves.saturating_sub(1);
     match step {
         Move::Carry(r) => {
             let flow = lists::at_or(&board.flows, r.edge as usize, 0);

@@ -27,6 +27,7 @@ fn lowest_fit(flows: &[u32], marks: EdgeSet, demand: u32, set: EdgeSet) -> Optio
     ensures { result ≡ fit_of (lowest_fit_by flows.now (set_of marks) demand (set_of set)) }
 {
     let mut rest = set;
+    // No index is counted here: each round takes the lowest edge off the set.
     while !sets::is_empty(rest) {
         let e = sets::lowest(rest);
         if fits(flows, marks, demand, e) {

@@ -15,6 +15,7 @@ use move_cycle::StepCode;
 use sets::{EdgeSet, VertexSet};
 
 // The steps of a walk, from the first on; 0 in the places past them.
+// No heap: the places are fixed, so the count of steps stands beside them.
 #[derive(Clone, Copy)]
 pub struct Walk {
     pub count: u32,
@@ -23,6 +24,7 @@ pub struct Walk {
 
 // A walk so far: its steps, from the first on, no more than there are vertices; the vertices where they start; the edge
 // of the last one; and the vertex that it has come to.
+// No heap: the places are fixed, so the count of steps stands beside them.
 #[derive(Clone, Copy)]
 pub struct Way {
     pub count: u32,
@@ -44,6 +46,7 @@ struct Lent<'a> {
 }
 
 // The lowest positive edge with this end at v other than x, or a number that no edge has.
+// The definition `another_by` answers such a number for none, so no Option stands here.
 fn another(edges: &[EdgeSet], positive: EdgeSet, v: u32, x: u32) -> u32
     ensures { result ≡ another_by (sets_of edges.now) (set_of positive) v x }
 {

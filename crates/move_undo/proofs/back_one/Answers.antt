@@ -39,7 +39,7 @@ small_demand s = intact-demand (whole_of (table s) (words s)) s.requires (search
 
 -- where one move less is counted: the start, and the move that is read
 abbrev Counted : Type 0
-Counted = lts.After-minus tie.the-claims reads.Pre reads.Post tie.handed_clauses
+Counted = lts.After-saturating_sub tie.the-claims reads.Pre reads.Post tie.handed_clauses
 
 abbrev start : Counted → Start
 start c = c.before.before.before
@@ -69,7 +69,7 @@ returns-in-Carry c =
     let sum = ap₂ (λ (a b : ℕ). a + b) c.at_or-flow.ensures c.at_or-demand.ensures in
     back_stored t (words (start c.before.before.before.before.before.before.before.before.before.before.before.before.before.before.before.before.before.before.before)) _ (read_last c.before.before.before.before.before.before.before.before.before.before.before.before.before.before.before.before.before.before.before ∙ ap move_of c.in-Carry.is) _ _ _ _
     (c.put.ensures ∙ ap (set t.flows c.in-Carry.r.edge) sum) refl
-    (c.put-in-Carry.ensures ∙ ap (set t.places c.in-Carry.r.terminal) c.at_or-head.ensures) c.minus.ensures
+    (c.put-in-Carry.ensures ∙ ap (set t.places c.in-Carry.r.terminal) c.at_or-head.ensures) c.saturating_sub.ensures
 
 pub returns-in-Turn : goal.returns-in-Turn
 returns-in-Turn c =
@@ -77,4 +77,4 @@ returns-in-Turn c =
     let ways = ap₂ (λ (up down : ℕ). shifted c.in-Turn.a.amount up down t.flows) c.rose-rose.ensures c.fell-fell.ensures in
     back_stored t (words (start c.before.before.before.before.before.before.before)) _ (read_last c.before.before.before.before.before.before.before ∙ ap move_of c.in-Turn.is) _ _ _ _
     (c.shifted-shifted.ensures ∙ ways) (c.without.ensures ∙ ap (without (set_of t.marks)) c.newly_marked-marked.ensures) refl
-    c.minus.ensures
+    c.saturating_sub.ensures
