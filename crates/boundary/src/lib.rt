@@ -39,8 +39,8 @@ use refusals::Refusal;
 use sets::EdgeSet;
 use solve_next::Advice;
 
-// Stores the board that a call gave in the memory, which a refused call leaves as it was. Answers 0 or the number of
-// the refusal.
+// Stores the board that a call gave in the memory, which a refused call leaves as it was. Answers 0 or the number of the
+// refusal.
 fn store_given(
     given: Result<Board, Refusal>,
     numbers: &mut [u32; NUMBERS],
@@ -52,10 +52,13 @@ fn store_given(
     ensures marks_after { (words : List (List ℕ)) → memory numbers.new edges.new terminals.new marks.new words ≡
         memory_given given (memory numbers.old edges.old terminals.old marks.old words) }
 {
-    if let Ok(next) = given {
-        boundary_parts::store(next, numbers, edges, terminals, marks);
+    match given {
+        Ok(next) => {
+            boundary_parts::store(next, numbers, edges, terminals, marks);
+            0
+        }
+        Err(refusal) => u32::from(refusal),
     }
-    refusals::number_of(given)
 }
 
 // Stores the length of what was written, 0 where nothing was. Answers 0 or the number of the refusal.
@@ -63,8 +66,16 @@ fn store_used(written: Result<usize, Refusal>, used: &mut usize) -> u32
     ensures value { result ≡ (as_written written).answer }
     ensures used_after { used.new ≡ (as_written written).used }
 {
-    *used = written.unwrap_or(0);
-    refusals::number_of(written)
+    match written {
+        Ok(length) => {
+            *used = length;
+            0
+        }
+        Err(refusal) => {
+            *used = 0;
+            u32::from(refusal)
+        }
+    }
 }
 
 // Reads a board text and opens it for play. Answers what the load answered; the memory is then that of the board that
@@ -81,10 +92,16 @@ pub fn vulprow_parts_load(
     ensures journal_after { memory numbers.new edges.new terminals.new marks.new
         journal.new ≡ memory_loaded (load_text text.now).board }
 {
-    let loaded = load::load(text, journal);
-    let board = loaded.unwrap_or(Board::closed());
-    boundary_parts::store(board, numbers, edges, terminals, marks);
-    refusals::number_of(loaded)
+    match load::load(text, journal) {
+        Ok(board) => {
+            boundary_parts::store(board, numbers, edges, terminals, marks);
+            0
+        }
+        Err(refusal) => {
+            boundary_parts::store(Board::closed(), numbers, edges, terminals, marks);
+            u32::from(refusal)
+        }
+    }
 }
 
 // Relocates a terminal over an edge.
@@ -214,9 +231,16 @@ pub fn vulprow_parts_hint<'a>(
         edges.now terminals.now marks.now journal.now))).advice }
 {
     let board = boundary_parts::board_in(numbers, edges, terminals, marks);
-    let hint = solve_next::hint(board, journal);
-    show_hint(hint.unwrap_or(None), parts, steps);
-    refusals::number_of(hint)
+    match solve_next::hint(board, journal) {
+        Ok(advice) => {
+            show_hint(advice, parts, steps);
+            0
+        }
+        Err(refusal) => {
+            show_hint(None, parts, steps);
+            u32::from(refusal)
+        }
+    }
 }
 
 // Writes the route report of a finished board; `used` gets its length.
