@@ -1,18 +1,15 @@
 -- A round of a list of calls over a lent journal: the calls that are left, from the board and the words as they are now, end in the same board and the same words
 -- as all of them, and their answers and hints fill the buffers in the same way.
 use mathlib.Core.Path.{◌≡◌, refl, sym, ap, ◌∙◌}
-use Rattle.std.specs.Prelude.{Option, None, Some, Result, Ok, Err}
-use Rattle.std.specs.Result.{result_unwrap_or}
+use Rattle.std.specs.Prelude.{Option, None, Some}
 use mathlib.Core.List.{List, [], ◌∷◌, ◌++◌}
 use Prim.Native.Nat.{ℕ, ◌+◌, ◌/◌, ◌<◌, ◌≤◌}
 use native.Mathlib.Omega.{arith}
 use lib.ListN.{length, set}
 use lib.Seq.{sets}
 use Rattle.std.specs.Simd.{first_chunks}
-use Rattle.refusals.specs.declared.Refusal.{Refusal}
-use Rattle.refusals.specs.Refusals.{answer_of}
 use Rattle.board.specs.Whole.{Table, Board}
-use Rattle.journal.specs.Words.{whole_of, given_of, words_after}
+use Rattle.journal.specs.Words.{whole_of, words_after}
 use Rattle.journal.proofs.After.{after_none}
 use Rattle.solve_next.specs.Advices.{Suggestion}
 use Rattle.solve_next.specs.Hints.{hint_call}
@@ -52,12 +49,6 @@ hint_made t w steps call h buf buf' k k' is eh e ek = rw is (
 pub no_call : (steps : List ℕ) (o : Option Coded) → ((x : Coded) → o ≡ Some x → ⊥) → stated steps o ≡ []
 no_call steps None h = refl
 no_call steps (Some x) h = absurd (h x refl)
-
--- the number of what was given and the board of it, or the board as it was
-pub replied : (old : Table) (given : Result Table Refusal) (w : List (List ℕ)) (n : ℕ) (next : Table) → n ≡ answer_of given → next ≡ result_unwrap_or given old
-    → reply_of (record { answer = n; board = whole_of next w }) ≡ reply_of (given_of old given w)
-replied old (Ok b) w n next en eb = λ i. record { answer = en i; game = game_of (whole_of (eb i) w) }
-replied old (Err r) w n next en eb = λ i. record { answer = en i; game = game_of (whole_of (eb i) w) }
 
 -- the words after the calls that are left
 module _ (steps : List ℕ) (whole : List (List ℕ)) (n : ℕ) (g : Game) where

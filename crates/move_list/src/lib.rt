@@ -8,7 +8,6 @@ ghost use Rattle.journal.specs.Words.{whole_of, given_of, words_after};
 ghost use Rattle.move_list.specs.Words.{words_played};
 ghost use Rattle.move_list.specs.Calls.{
   game_of,
-  reply_of,
   made,
   played,
   answers,
@@ -21,7 +20,9 @@ ghost use Rattle.move_list.specs.Calls.{
 };
 ghost use Rattle.move_list.specs.Inner.{last_place};
 ghost use Rattle.move_list.specs.Codes.{part, call_of, calls_of};
-ghost use Rattle.move_list.specs.Told.{told, stated, Tells};
+ghost use Rattle.move_list.specs.Told.{told, stated, replied_by, Tells};
+ghost use Rattle.refusals.specs.Refusals.{answer_of};
+ghost use Rattle.std.specs.Result.{result_unwrap_or};
 ghost use Rattle.solve_next.specs.Views.{advice_given};
 ghost use Rattle.solve_next.specs.Advices.{Suggestion};
 ghost use Rattle.std.proofs.lemmas.List.Edits.{sets};
@@ -187,30 +188,49 @@ fn note(buf: &mut [u32], k: usize, advice: Option<Advice>) -> usize
     k + ADVICE_WIDTH
 }
 
-// Makes a call. The move of a hint goes into the buffer, which is then filled up to the place that is left.
+// The board that a call gave takes the place of the one before it, which a refused call leaves.
+fn store_given(board: &mut Board, given: Result<Board, Refusal>) -> Result<(), Refusal>
+    ensures value { answer_of result ≡ answer_of given }
+    ensures board_after { board.new ≡ result_unwrap_or given board.old }
+{
+    *board = given?;
+    Ok(())
+}
+
+// Makes a call on the board. It is lent, so that a hint and a refused call cost no copy of it. The move of a hint goes
+// into the buffer, which is then filled up to the place that is left.
 fn make(
-    board: Board,
+    board: &mut Board,
     journal: &mut [[u64; WORDS]; Board::JOURNAL],
     steps: &[u8],
     call: Call,
     hints: &mut [u32],
     place: &mut usize,
-) -> Result<Board, Refusal>
-    ensures value { reply_of (given_of board result journal.new) ≡
-        made (game_of (whole_of board journal.old)) (told steps.now call) }
-    ensures journal_after { journal.new ≡ words_after board.moves
-        (made (game_of (whole_of board journal.old)) (told steps.now call)).game.board journal.old }
+) -> Result<(), Refusal>
+    ensures value { replied_by result board.new journal.new ≡
+        made (game_of (whole_of board.old journal.old)) (told steps.now call) }
+    ensures journal_after { journal.new ≡ words_after board.old.moves
+        (made (game_of (whole_of board.old journal.old)) (told steps.now call)).game.board journal.old }
     ensures hints_after { (rest : List Suggestion) → noted hints.new place.new rest ≡
-        noted hints.old place.old (hint_given (whole_of board journal.old) (told steps.now call) ++ rest) }
+        noted hints.old place.old (hint_given (whole_of board.old journal.old) (told steps.now call) ++ rest) }
 {
     match call {
-        Call::Carry { terminal, edge } => move_carry::carry(board, journal, terminal, edge),
-        Call::Turn { from, to } => turn_part(board, journal, steps, from, to),
-        Call::Undo => move_undo::undo(board, journal),
-        Call::Hint => match solve_next::hint(board, journal) {
+        Call::Carry { terminal, edge } => {
+            let given = move_carry::carry(*board, journal, terminal, edge);
+            store_given(board, given)
+        }
+        Call::Turn { from, to } => {
+            let given = turn_part(*board, journal, steps, from, to);
+            store_given(board, given)
+        }
+        Call::Undo => {
+            let given = move_undo::undo(*board, journal);
+            store_given(board, given)
+        }
+        Call::Hint => match solve_next::hint(*board, journal) {
             Ok(advice) => {
                 *place = note(hints, *place, advice);
-                Ok(board)
+                Ok(())
             }
             Err(refusal) => {
                 *place = note(hints, *place, None);
@@ -218,8 +238,9 @@ fn make(
             }
         },
         Call::Finish => {
-            let finished = solve_finish::finish(board, journal)?;
-            Ok(finished.board)
+            let finished = solve_finish::finish(*board, journal)?;
+            *board = finished.board;
+            Ok(())
         }
     }
 }
@@ -255,10 +276,8 @@ pub fn run(
         let Some(call) = Call::from_numbers(*code) else {
             continue;
         };
-        let given = make(b, journal, steps, call, hints, &mut j);
-        let next = given.unwrap_or(b);
+        let given = make(&mut b, journal, steps, call, hints, &mut j);
         lists::put(buf, k, refusals::number_of(given));
-        b = next;
         // Counted here, since an element of the list that is no call is left out.
         k += 1;
     }

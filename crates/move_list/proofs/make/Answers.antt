@@ -4,7 +4,7 @@ use Rattle.move_list.proofs.make.Goals as goal
 
 pub returns-in-Ok : goal.returns-in-Ok
 returns-in-Ok c =
-    let all = hint_made c.args.board c.args.journal.now c.args.steps.now _ _ _ _ _ _ c.in-Hint.is c.in-Ok.ensures c.note.ensures.buf_after c.note.ensures.value in record {
+    let all = hint_made c.args.board.now c.args.journal.now c.args.steps.now _ _ _ _ _ _ c.in-Hint.is c.in-Ok.ensures c.note.ensures.buf_after c.note.ensures.value in record {
       value = all.0;
       journal_after = all.1.0;
       hints_after = all.1.1;
@@ -12,7 +12,7 @@ returns-in-Ok c =
 
 pub returns-in-Err : goal.returns-in-Err
 returns-in-Err c =
-    let all = hint_made c.args.board c.args.journal.now c.args.steps.now _ _ _ _ _ _ c.in-Hint.is c.in-Err.ensures c.note-in-Err.ensures.buf_after c.note-in-Err.ensures.value in record {
+    let all = hint_made c.args.board.now c.args.journal.now c.args.steps.now _ _ _ _ _ _ c.in-Hint.is c.in-Err.ensures c.note-in-Err.ensures.buf_after c.note-in-Err.ensures.value in record {
       value = all.0;
       journal_after = all.1.0;
       hints_after = all.1.1;

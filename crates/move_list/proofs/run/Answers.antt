@@ -5,7 +5,7 @@ use borrow.Author.Rules.{rules}
 use Rattle.journal.specs.Words.{whole_of}
 use Rattle.move_list.specs.Calls.{Game, game_of}
 use Rattle.move_list.proofs.Coded.{played_end, answers_end, hints_end}
-use Rattle.move_list.proofs.Going.{no_call, replied, round_first, round_made, round_skipped, words_end}
+use Rattle.move_list.proofs.Going.{no_call, round_first, round_made, round_skipped, words_end}
 use Rattle.move_list.proofs.run.Goals as goal
 
 pub loop-code-init : goal.loop-code-init
@@ -25,7 +25,7 @@ loop-code-preserved c =
     let loop = c.loop-code in
     let gave = c.make-given.ensures in
     let one = sym (c.in-Some.ensures c.args.steps.now) in
-    let says = replied loop.b c.make-given.result c.make-given.new.journal _ _ c.number_of.ensures c.unwrap_or-next.ensures ∙ gave.value in
+    let says = ap (λ n. record { answer = n; game = game_of (whole_of c.make-given.new.board c.make-given.new.journal) }) c.number_of.ensures ∙ gave.value in
     round_made _ _ _ _ _ _ _ _ _ _ _ _ _ _ c.loop-code-test.true loop.invariant _ _ _ one says _ _ _ _ c.put.ensures gave.hints_after gave.journal_after
 
 pub returns : goal.returns
