@@ -1,11 +1,11 @@
 // What the programs do with their streams: bytes are handed on, and what the library answers is printed.
 #![tactic(auto)]
 
-ghost use Rattle.std.specs.Prelude.{◌≡◌, true, ◌≤◌, length};
+ghost use Rattle.std.specs.Prelude.{◌≡◌, true, ◌≤◌, eqb, length};
 ghost use Rattle.std.proofs.lemmas.List.Edits.{sets};
 ghost use Rattle.sheet_output.specs.Outputs.{sheet_output};
-ghost use Rattle.play_session.specs.Machine.{end_told, taken_of, fed_session, fed_told};
-ghost use Rattle.play_session.specs.Lent.{session_of};
+ghost use Rattle.play_session.specs.Machine.{over_stage, end_told, taken_of, fed_session, fed_told};
+ghost use Rattle.play_session.specs.Lent.{stage_number, session_of};
 ghost use Rattle.descriptors.specs.Serving.{ServedPart};
 
 use board::Board;
@@ -67,6 +67,13 @@ fn hand_on<W: Write>(
     }
 }
 
+// Whether the board of a session was refused, by its stage.
+fn is_over(stage: Stage) -> bool
+    ensures { result ≡ eqb (stage_number stage) over_stage }
+{
+    matches!(stage, Stage::Over)
+}
+
 // Hands all of the bytes to the session, and prints its answers, by way of the buffer. Where one cannot be printed, the
 // bytes behind it are left.
 fn hand_all<W: Write>(
@@ -95,7 +102,7 @@ fn hand_all<W: Write>(
     }
     Served {
         session: current,
-        going: current.stage != Stage::Over,
+        going: !is_over(current.stage),
     }
 }
 

@@ -1,4 +1,4 @@
--- For inner contracts only: which orders the record that a line is read into stands for.
+-- For inner contracts only: the numbers of kinds, and which orders the record that a line is read into stands for.
 use Rattle.std.specs.Prelude.{◌≡◌, List, ℕ, ◌+◌, ◌*◌, ◌<◌, ◌≤◌, length, take}
 use Rattle.board.specs.Limits.{max_edges}
 use Rattle.text.specs.Sizes.{number_bytes}
@@ -7,7 +7,7 @@ use Rattle.move_cycle.specs.Steps.{code_up, code_steps}
 use Rattle.move_cycle.specs.Inner.{greatest_edge}
 use Rattle.move_list.specs.Calls.{carry, turn, undo, hint, finish}
 use Rattle.play_lines.specs.declared.Kind.{Kind}
-use Rattle.play_lines.specs.declared.Kind.TheVariants.{Hint, Undo, Finish, CarryWhole, Turn}
+use Rattle.play_lines.specs.declared.Kind.TheVariants.{Nothing, Other, Hint, Undo, Finish, Carry, CarryFrom, CarryWhole, Turn, TurnEdge, Unknown}
 use Rattle.play_lines.specs.declared.Form.{Form}
 use Rattle.play_lines.specs.Orders.{Order, call, other}
 
@@ -19,6 +19,26 @@ step_bytes = number_bytes + 2
 
 abbrev pub turn_bytes : ℕ → ℕ
 turn_bytes n = 2 + step_bytes * n
+
+-- ---- kinds as numbers
+
+-- the number of a kind
+abbrev pub kind_number : Kind → ℕ
+kind_number Nothing = 0
+kind_number Other = 1
+kind_number Hint = 2
+kind_number Undo = 3
+kind_number Finish = 4
+kind_number Carry = 5
+kind_number CarryFrom = 6
+kind_number CarryWhole = 7
+kind_number Turn = 8
+kind_number TurnEdge = 9
+kind_number (Unknown n) = 10 + n
+
+-- what the conversion from a number gives: every number has its kind
+abbrev pub OfNumber : ℕ → Kind → Type 0
+OfNumber n k = kind_number k ≡ n
 
 -- ---- what a form stands for
 

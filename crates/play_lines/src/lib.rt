@@ -7,10 +7,10 @@ ghost use Rattle.lists.specs.Choice.{pick, both};
 ghost use Rattle.board.specs.Limits.{max_edges};
 ghost use Rattle.move_cycle.specs.Steps.{code_step, code_steps};
 ghost use Rattle.solve_next.specs.Choosing.{relocate, augment};
-ghost use Rattle.solve_next.specs.Views.{advice_given};
+ghost use Rattle.move_list.specs.Told.{numbered};
 ghost use Rattle.text.specs.Sizes.{line_bytes};
 ghost use Rattle.text.specs.Room.{start_most};
-ghost use Rattle.play_lines.specs.Inner.{step_bytes, turn_bytes};
+ghost use Rattle.play_lines.specs.Inner.{OfNumber, step_bytes, turn_bytes};
 ghost use Rattle.play_lines.specs.MoveLines.{way_letter, step_text, steps_text, move_line, hint_line};
 ghost use Rattle.play_lines.specs.Scans.{
   no_piece,
@@ -31,8 +31,9 @@ ghost use Rattle.play_lines.specs.Scans.{
   is_blank,
 };
 
-use board::{Board, Relocation};
+use board::Board;
 use move_cycle::StepCode;
+use move_list::AdviceNumbers;
 use solve_next::Advice;
 
 // A field as far as it was read: how many bytes, with 8 for more than 7, the first of them, whether all are digits, and
@@ -62,6 +63,29 @@ pub enum Kind {
     // A turn, and one with an edge whose way is to come.
     Turn,
     TurnEdge,
+    // A kind that there is not, by how far its number is past these; it goes on as a line of another form.
+    Unknown(u32),
+}
+
+impl From<u32> for Kind {
+    ghost from_gives = { OfNumber };
+
+    // The kind of a number, in the order above.
+    fn from(number: u32) -> Kind {
+        match number {
+            0 => Kind::Nothing,
+            1 => Kind::Other,
+            2 => Kind::Hint,
+            3 => Kind::Undo,
+            4 => Kind::Finish,
+            5 => Kind::Carry,
+            6 => Kind::CarryFrom,
+            7 => Kind::CarryWhole,
+            8 => Kind::Turn,
+            9 => Kind::TurnEdge,
+            _ => Kind::Unknown(number - 10),
+        }
+    }
 }
 
 // What the fields before it make: the kind of line; the numbers of a carry, or the edge of a step whose way is to come;
@@ -279,19 +303,14 @@ fn form_taken(form: Form, piece: Piece) -> Form
 
 // One byte more; a comma ends a field.
 #[tactic(auto, unfolding(crate::specs::Scans::scan_taken, lists::specs::Choice::pick))]
-fn scan_taken(scan: Scan, c: u8) -> Scan
-    ensures { result ≡ scan_taken scan c }
+fn scan_taken(scan: &mut Scan, c: u8)
+    ensures { scan.new ≡ scan_taken scan.old c }
 {
     if c == b',' {
-        Scan {
-            form: form_taken(scan.form, scan.piece),
-            piece: Piece::none(),
-        }
+        scan.form = form_taken(scan.form, scan.piece);
+        scan.piece = Piece::none();
     } else {
-        Scan {
-            form: scan.form,
-            piece: piece_taken(scan.piece, c),
-        }
+        scan.piece = piece_taken(scan.piece, c);
     }
 }
 
@@ -302,7 +321,7 @@ pub fn read_on(scan: Scan, bytes: &[u8]) -> Scan
 {
     let mut state = scan;
     for c in bytes {
-        state = scan_taken(state, *c);
+        scan_taken(&mut state, *c);
     }
     state
 }
@@ -320,7 +339,7 @@ pub fn whole(scan: Scan) -> Form
 pub fn is_blank(scan: Scan) -> bool
     ensures { result ≡ is_blank scan }
 {
-    scan.form.kind == Kind::Nothing && scan.piece.size == 0
+    matches!(scan.form.kind, Kind::Nothing) && scan.piece.size == 0
 }
 
 // ---- A move as a line.
@@ -380,34 +399,34 @@ fn put_turn(buf: &mut [u8], at: usize, steps: &[StepCode]) -> usize
 
 // Writes the line of a carry: `K`, the terminal, the edge, and a line feed.
 #[tactic(auto, using(crate::proofs::MovesWritten::carry_line))]
-fn put_carry(buf: &mut [u8], at: usize, carry: Relocation) -> usize
+fn put_carry(buf: &mut [u8], at: usize, terminal: u32, edge: u32) -> usize
     requires { at ≤ start_most }
-    ensures value { result ≡ at + length (move_line (relocate carry.terminal carry.edge)) }
+    ensures value { result ≡ at + length (move_line (relocate terminal edge)) }
     ensures upper_bound { result ≤ at + line_bytes 2 }
-    ensures buf_after { buf.new ≡ sets buf.old at (move_line (relocate carry.terminal carry.edge)) }
+    ensures buf_after { buf.new ≡ sets buf.old at (move_line (relocate terminal edge)) }
 {
-    let row = [carry.terminal, carry.edge];
+    let row = [terminal, edge];
     text_writer::put_line(buf, at, b'K', &row)
 }
 
 // Writes the move of a hint as a line, or `N` where there is none, at a place of the buffer, and answers the place
 // behind it. A byte past the end of the buffer is dropped.
-pub fn put_move(buf: &mut [u8], at: usize, advice: Option<Advice>) -> usize
+pub fn put_move(buf: &mut [u8], at: usize, advice: AdviceNumbers) -> usize
     requires { at ≤ start_most }
-    ensures value { result ≡ at + length (hint_line (advice_given advice)) }
+    ensures value { result ≡ at + length (hint_line (numbered advice)) }
     ensures upper_bound { result ≤ at + turn_bytes max_edges }
-    ensures buf_after { buf.new ≡ sets buf.old at (hint_line (advice_given advice)) }
+    ensures buf_after { buf.new ≡ sets buf.old at (hint_line (numbered advice)) }
 {
-    match advice {
-        None => {
+    match advice.kind {
+        Advice::NONE => {
             lists::put(buf, at, b'N');
             lists::put(buf, at + 1, b'\n');
             at + 2
         }
-        Some(Advice::Carry(carry)) => put_carry(buf, at, carry),
-        Some(Advice::Turn(walk)) => {
-            let count = (walk.count as usize).min(Board::MAX_EDGES);
-            put_turn(buf, at, &walk.steps[..count])
+        Advice::CARRY => put_carry(buf, at, advice.terminal, advice.edge),
+        _ => {
+            let count = (advice.count as usize).min(Board::MAX_EDGES);
+            put_turn(buf, at, &advice.steps[..count])
         }
     }
 }

@@ -1,7 +1,13 @@
--- For inner contracts only: what a session prints for a whole input, byte by byte.
-use Rattle.std.specs.Prelude.{true, false, List, [], ◌∷◌, ◌++◌, ℕ, eqb}
+-- For inner contracts only: the stage of a number, and what a session prints for a whole input, byte by byte.
+use Rattle.std.specs.Prelude.{◌≡◌, true, false, List, [], ◌∷◌, ◌++◌, ℕ, eqb}
 use Rattle.play_session.specs.Machine.{Session}
 use Rattle.play_session.specs.Machine.{grown, line_ended, line_told, end_told}
+use Rattle.play_session.specs.declared.Stage.{Stage}
+use Rattle.play_session.specs.Lent.{stage_number}
+
+-- what the conversion from a number gives: every number has its stage
+abbrev pub StageOf : ℕ → Stage → Type 0
+StageOf n s = stage_number s ≡ n
 
 -- what a session prints for the bytes, and at the end of them
 unfoldable pub runs : Session → List ℕ → List ℕ

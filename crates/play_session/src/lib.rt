@@ -36,10 +36,12 @@ ghost use Rattle.play_session.specs.Machine.{
   fed_session,
   fed_told,
 };
+ghost use Rattle.play_session.specs.Inner.{StageOf};
 ghost use Rattle.play_session.specs.Lent.{session_of};
 
 use board::Board;
 use journal::WORDS;
+use move_list::AdviceNumbers;
 use play_lines::{Form, Kind, Scan};
 use refusals::Refusal;
 use solve_next::Advice;
@@ -50,6 +52,22 @@ pub enum Stage {
     Reading,
     Playing,
     Over,
+    // A stage that there is not, by how far its number is past these; it takes bytes as where the board was refused.
+    Unknown(u32),
+}
+
+impl From<u32> for Stage {
+    ghost from_gives = { StageOf };
+
+    // The stage of a number, in the order above.
+    fn from(number: u32) -> Stage {
+        match number {
+            0 => Stage::Reading,
+            1 => Stage::Playing,
+            2 => Stage::Over,
+            _ => Stage::Unknown(number - 3),
+        }
+    }
 }
 
 // Its stage; how many lines of the board are still to come, 0 before the first has ended; the text of the board as far
@@ -171,7 +189,7 @@ fn put_hint(out: &mut [u8], given: Result<Option<Advice>, Refusal>) -> usize
 {
     let behind = put_answer(out, given);
     match given {
-        Ok(advice) => play_lines::put_move(out, behind, advice),
+        Ok(advice) => play_lines::put_move(out, behind, AdviceNumbers::from(advice)),
         Err(_) => behind,
     }
 }
@@ -237,7 +255,7 @@ fn grown(session: Session, bytes: &[u8]) -> Session
     match session.stage {
         Stage::Reading => text_grown(session, bytes),
         Stage::Playing => scan_grown(session, bytes),
-        Stage::Over => session,
+        Stage::Over | Stage::Unknown(_) => session,
     }
 }
 
@@ -388,7 +406,7 @@ fn line_ended(
     match session.stage {
         Stage::Reading => board_line(text_grown(session, &[b'\n']), journal, out),
         Stage::Playing => played_line(session, journal, out),
-        Stage::Over => AfterLine { session, used: 0 },
+        Stage::Over | Stage::Unknown(_) => AfterLine { session, used: 0 },
     }
 }
 
@@ -452,6 +470,6 @@ pub fn close(
                 sheet_output::put_number(out, 0, u32::from(Refusal::Malformed))
             }
         }
-        Stage::Over => 0,
+        Stage::Over | Stage::Unknown(_) => 0,
     }
 }

@@ -2,23 +2,18 @@
 -- run out.
 use mathlib.Core.Path.{◌≡◌, sym, ap, ◌∙◌}
 use mathlib.Core.Bool.{true, not, true≢false}
-use denote.Enum.Bare.{sameb}
+use Prim.Native.Nat.{ℕ}
 use native.Mathlib.Omega.{arith}
+use lib.Dec.{eqb}
 use lib.ListN.{length}
 use lib.Seq.{length-sets}
-use Rattle.play_session.specs.contracts.Stage.{the_type}
-use Rattle.play_session.specs.declared.Stage.{Stage}
-use Rattle.play_session.specs.declared.Stage.TheVariants.{Reading, Playing, Over}
 use Rattle.play_session.specs.Machine.{over_stage}
-use Rattle.play_session.specs.Lent.{stage_number}
 use Rattle.descriptors.proofs.Taking.{served_handed, served_here, served_end}
 use Rattle.descriptors.proofs.hand_all.Goals as goal
 
--- a stage that is told apart from the last one has another number
-goes_on : (s : Stage) → not (sameb the_type s Over) ≡ true → stage_number s ≡ over_stage → ⊥
-goes_on Reading e n = absurd (omega arith)
-goes_on Playing e n = absurd (omega arith)
-goes_on Over e n = absurd (true≢false (sym e))
+-- a stage that is not over has another number
+goes_on : (n : ℕ) → not (eqb n over_stage) ≡ true → n ≡ over_stage → ⊥
+goes_on n e is = true≢false (sym e ∙ ap (λ m. not (eqb m over_stage)) is)
 
 pub overflow_add-from : goal.overflow_add-from
 overflow_add-from g c =
@@ -62,5 +57,5 @@ returns g c =
       within = at_loop.invariant.0;
       session = served_here _ _ _ _ at_loop.invariant.2;
       whole = λ e. served_end _ _ _ _ at_loop.invariant.2 c.loop-from-test.false;
-      unrefused = λ e. goes_on at_loop.current.stage (sym c.ne.ensures ∙ e);
+      unrefused = λ e. goes_on _ (ap not (sym c.is_over.ensures) ∙ e);
     }

@@ -6,14 +6,14 @@ use Rattle.solve_next.specs.Choosing.{act_of}
 use Rattle.play_lines.specs.MoveLines.{hint_line}
 use Rattle.play_lines.proofs.put_move.Goals as goal
 
-pub returns-in-None : goal.returns-in-None
+pub returns-in-0 : goal.returns-in-0
 unfolding hint_line act_of pick
-returns-in-None c = grind (arith, common_steps)
+returns-in-0 c = grind (arith, common_steps)
 
-pub returns-in-Some-Carry : goal.returns-in-Some-Carry
+pub returns-in-1 : goal.returns-in-1
 unfolding hint_line act_of pick
-returns-in-Some-Carry c = grind (arith, common_steps)
+returns-in-1 c = grind (arith, common_steps)
 
-pub returns-in-Some-Turn : goal.returns-in-Some-Turn
+pub returns-in_default : goal.returns-in_default
 unfolding hint_line act_of pick
-returns-in-Some-Turn c = grind (arith, common_steps)
+returns-in_default c = grind (arith, common_steps)
