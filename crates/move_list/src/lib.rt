@@ -197,8 +197,8 @@ fn store_given(board: &mut Board, given: Result<Board, Refusal>) -> Result<(), R
     Ok(())
 }
 
-// Makes a call on the board. It is lent, so that a hint and a refused call cost no copy of it. The move of a hint goes
-// into the buffer, which is then filled up to the place that is left.
+// Makes a call on the board. It is lent, so that a hint and a refused call leave it where it is and hand no copy back.
+// The move of a hint goes into the buffer, which is then filled up to the place that is left.
 fn make(
     board: &mut Board,
     journal: &mut [[u64; WORDS]; Board::JOURNAL],

@@ -32,6 +32,7 @@ fn field(s: &[u8], range: Range, end: u8) -> Result<Taken<u32>, Refusal>
 }
 
 // A line at the start of s: its letter, then a number for each of the ranges.
+#[tactic(auto, using(crate::proofs::Reading::line_comma))]
 pub fn line<const N: usize>(
     s: &[u8],
     letter: u8,

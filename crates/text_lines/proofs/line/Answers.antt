@@ -14,10 +14,6 @@ use Rattle.text_lines.proofs.line.Goals as goal
 pub returns-then-at_or-letter-clause-s_value : goal.returns-then-at_or-letter-clause-s_value
 returns-then-at_or-letter-clause-s_value g c = sym (line-letter _ _ _ (λ e. c.if-at_or-letter.true (c.at_or.ensures ∙ e)))
 
-pub returns-then-at_or-ne44-clause-s_value : goal.returns-then-at_or-ne44-clause-s_value
-returns-then-at_or-ne44-clause-s_value g c =
-    sym (line_comma _ _ _ (sym c.at_or.ensures ∙ c.if-at_or-letter.false) (λ e. c.if-at_or-ne44.true (c.at_or-2.ensures ∙ e)))
-
 pub loop-i-init : goal.loop-i-init
 loop-i-init g c =
     let comma = sym c.at_or-2.ensures ∙ c.if-at_or-ne44.false in
