@@ -1,3 +1,4 @@
 pub mod Taking
 pub mod Printing
 pub mod PrintedPieces
+pub mod Staying

@@ -6,3 +6,4 @@ pub mod Exact
 pub mod MovesRead
 pub mod MovesShort
 pub mod MovesWritten
+pub mod KindsRead

@@ -40,6 +40,11 @@ kind_number (Unknown n) = 10 + n
 abbrev pub OfNumber : ℕ → Kind → Type 0
 OfNumber n k = kind_number k ≡ n
 
+-- a kind that there is, one of the ten
+abbrev pub IsKind : Kind → Type 0
+IsKind (Unknown n) = ⊥
+IsKind _ = Unit {0}
+
 -- ---- what a form stands for
 
 -- the steps of a turn: all of them, where they are few and their edges small

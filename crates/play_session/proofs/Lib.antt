@@ -6,3 +6,4 @@ pub mod PlayedLines
 pub mod BoardParts
 pub mod Prints
 pub mod Feeding
+pub mod Staying
