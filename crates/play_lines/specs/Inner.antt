@@ -1,4 +1,5 @@
--- For inner contracts only: the numbers of kinds, and which orders the record that a line is read into stands for.
+-- For inner contracts only: the numbers of kinds, which kinds there are, and which orders the record that a line is read
+-- into stands for.
 use Rattle.std.specs.Prelude.{◌≡◌, List, ℕ, ◌+◌, ◌*◌, ◌<◌, ◌≤◌, length, take}
 use Rattle.board.specs.Limits.{max_edges}
 use Rattle.text.specs.Sizes.{number_bytes}
