@@ -52,6 +52,12 @@ pub pick_no : {A : Type 0} (t : Bool) (a b : A) → t ≡ false → pick t a b �
 unfolding pick
 pick_no t a b e = rw e
 
+-- what holds of both holds of the one that is taken
+pub pick_keeps : {A : Type 0} (P : A → Type 0) (t : Bool) (a b : A) → P a → P b → P (pick t a b)
+unfolding pick
+pick_keeps P true a b p q = p
+pick_keeps P false a b p q = q
+
 -- a choice of numbers that gives 0 did not give the other one
 pub pick_passed : (t : Bool) (x k : ℕ) → pick t x (suc k) ≡ 0 → (t ≡ true) × (x ≡ 0)
 unfolding pick

@@ -1,24 +1,23 @@
 -- Reading makes no kind that there is not. A field taken leaves one of the ten, whatever the kind was, so a whole line
 -- has one; and other bytes leave the kind, so by induction over the bytes a line that has one of the ten keeps one.
-use mathlib.Core.Bool.{Bool, true, false}
+use mathlib.Core.Bool.{Bool}
 use mathlib.Core.List.{List, [], ◌∷◌}
 use Prim.Native.Nat.{ℕ}
 use lib.Dec.{eqb}
 use Rattle.lists.specs.Choice.{pick}
+use Rattle.lists.proofs.Laws.{pick_keeps}
 use Rattle.std.specs.Prelude.{Option, Some, None}
 use Rattle.play_lines.specs.declared.Kind.{Kind}
 use Rattle.play_lines.specs.declared.Kind.TheVariants.{Nothing, Carry, CarryFrom, CarryWhole, Turn, TurnEdge}
 use Rattle.play_lines.specs.declared.Piece.{Piece}
 use Rattle.play_lines.specs.declared.Form.{Form}
 use Rattle.play_lines.specs.declared.Scan.{Scan}
-use Rattle.play_lines.specs.Scans.{no_piece, piece_taken, piece_number, piece_is, with_first, with_second, numbered, with_step, begun, way_taken, taken_by, form_taken, scan_taken, scan_all, scanned}
+use Rattle.play_lines.specs.Scans.{piece_number, piece_is, with_first, with_second, numbered, with_step, begun, way_taken, taken_by, form_taken, scan_taken, scan_all, scanned}
 use Rattle.play_lines.specs.Inner.{IsKind}
 
 -- of two forms one is taken
 kind_picked : (t : Bool) (f g : Form) → IsKind f.kind → IsKind g.kind → IsKind (pick t f g).kind
-unfolding pick
-kind_picked true f g a b = a
-kind_picked false f g a b = b
+kind_picked = pick_keeps (λ (f : Form). IsKind f.kind)
 
 -- the first field, a number, and a way
 module _ (f : Form) (p : Piece) where
@@ -57,18 +56,8 @@ kind_whole s = kind_taken s.form s.piece
 
 -- a byte, and bytes
 kind_byte : (s : Scan) (c : ℕ) → IsKind s.form.kind → IsKind (scan_taken s c).form.kind
-unfolding scan_taken pick
-kind_byte s c h = split (eqb c 44)
-  where
-    ended : Scan
-    ended = record { form = form_taken s.form s.piece; piece = no_piece }
-
-    joined : Scan
-    joined = record { form = s.form; piece = piece_taken s.piece c }
-
-    split : (t : Bool) → IsKind (pick t ended joined).form.kind
-    split true = kind_taken s.form s.piece
-    split false = h
+unfolding scan_taken
+kind_byte s c h = pick_keeps (λ (r : Scan). IsKind r.form.kind) (eqb c 44) _ _ (kind_taken s.form s.piece) h
 
 pub kind_read : (s : Scan) (l : List ℕ) → IsKind s.form.kind → IsKind (scan_all s l).form.kind
 unfolding scan_all

@@ -1,12 +1,13 @@
 -- A session of a stage and a kind that there are gets no other: a board that was read makes it play or ends it, each
 -- line begins with nothing read, and what is read of a line makes no other kind.
-use mathlib.Core.Bool.{Bool, true, false}
+use mathlib.Core.Bool.{Bool}
 use mathlib.Core.List.{List, [], ◌∷◌}
 use Prim.Native.Nat.{ℕ, ◌≤◌}
 use native.Mathlib.Omega.{arith}
 use lib.Dec.{eqb}
 use lib.ListN.{take}
 use Rattle.lists.specs.Choice.{pick}
+use Rattle.lists.proofs.Laws.{pick_keeps}
 use Rattle.lists.specs.Lists.{index_of}
 use Rattle.load.specs.Load.{Loaded, load_text}
 use Rattle.play_lines.proofs.KindsRead.{kind_read}
@@ -19,9 +20,7 @@ session_new = (omega arith, tt)
 
 -- of two sessions one is taken
 session_picked : (t : Bool) (s r : Session) → IsSession s → IsSession r → IsSession (pick t s r)
-unfolding pick
-session_picked true s r a b = a
-session_picked false s r a b = b
+session_picked = pick_keeps IsSession
 
 -- bytes of a line
 session_grown : (s : Session) (l : List ℕ) → IsSession s → IsSession (grown s l)
@@ -30,12 +29,8 @@ session_grown s l h = session_picked _ _ _ h (session_picked _ _ _ (h.0, kind_re
 
 -- a board's line, and any line
 session_ready : (l : Loaded) (s : Session) → IsSession (ready l s)
-unfolding pick
-session_ready l s = (split (eqb l.answer 0), tt)
-  where
-    split : (t : Bool) → pick t playing_stage over_stage ≤ over_stage
-    split true = omega arith
-    split false = omega arith
+session_ready l s =
+    (pick_keeps (λ (n : ℕ). n ≤ over_stage) (eqb l.answer 0) playing_stage over_stage (omega arith) (omega arith), tt)
 
 session_board : (s : Session) → IsSession s → IsSession (board_line s)
 unfolding board_line
